@@ -1,0 +1,4 @@
+pub mod Laws
+pub mod Cases
+pub mod Loops
+pub mod Compared

@@ -1,0 +1,52 @@
+-- `kit::put` meets its contract: the list that it writes is src itself. Assumes nothing.
+use Prim.Native.Nat.{_-_}
+use native.Mathlib.Omega.{arith}
+use mathlib.Core.Path.{refl, sym}
+use borrow.Author.Needs.{needs}
+use lib.ListN.{length}
+use Rattle.buffer.proofs.Loops.{Up, up-start, up-turn, up-end}
+use Rattle.buffer.proofs.put.Statement.{statement}
+use Rattle.buffer.proofs.put.Tie as tie
+use Rattle.buffer.proofs.put.Reads as reads
+use Rattle.buffer.proofs.put.Lts as lts
+
+abbrev Inv-loop : tie.InvT-loop
+Inv-loop src out₀ at i₀ out i = Up at (length src) src out₀ out i
+
+abbrev μ-loop : tie.MeasureT-loop
+μ-loop src out₀ at i₀ out i = length src - i
+
+loop-holds : tie.Need-loop-holds Inv-loop μ-loop
+loop-holds c = up-start refl (c .pre)
+
+shared-slice-read-out : tie.Need-shared-slice-read-out Inv-loop μ-loop
+shared-slice-read-out c = search needs
+
+add-out : tie.Need-add-out Inv-loop μ-loop
+add-out c = search needs
+
+slice-write-out : tie.Need-slice-write-out Inv-loop μ-loop
+slice-write-out c = search needs
+
+add-i : tie.Need-add-i Inv-loop μ-loop
+add-i c = search needs
+
+loop-less : tie.Need-loop-less Inv-loop μ-loop
+loop-less c = search needs
+
+loop-again : tie.Need-loop-again Inv-loop μ-loop
+loop-again c = up-turn (c .before .before .loop .inv) (c .before .loop-test .taken) refl refl
+
+add-result : tie.Need-add-result Inv-loop μ-loop
+add-result c = search needs
+
+same-length : tie.Need-same-length Inv-loop μ-loop
+same-length c = search needs
+
+returns : tie.Need-returns Inv-loop μ-loop
+returns c = (search needs, up-end (c .before .loop .inv) (c .loop-test .left))
+
+pub put-spec : {M : Type 1} → statement M
+put-spec =
+    tie.close
+    (tie.spec Inv-loop μ-loop loop-holds shared-slice-read-out add-out slice-write-out add-i loop-less loop-again add-result same-length returns)

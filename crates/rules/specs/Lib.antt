@@ -1,0 +1,11 @@
+pub mod Outcome
+pub mod Limits
+pub mod Characters
+pub mod Lists
+pub mod Values
+pub mod Table
+pub mod Record
+pub mod Format
+pub mod Use
+pub mod Update
+pub mod Services
