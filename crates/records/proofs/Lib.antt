@@ -1,0 +1,3 @@
+pub mod EmptyBody
+pub mod Walks
+pub mod Checking
