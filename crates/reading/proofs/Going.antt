@@ -1,0 +1,168 @@
+-- A loop over items: what is left of them, from where it stands, ends and writes as the whole does from its start. A turn takes some
+-- items off the front, a stop is their refusal, and the end is that none is left.
+use mathlib.Core.Path.{_≡_, refl, sym, _∙_, ap}
+use mathlib.Core.Bool.{Bool, true, false}
+use mathlib.Core.List.{List, [], _∷_, _++_, append-assoc}
+use Prim.Native.Nat.{ℕ, zero, suc, _+_, _-_, _≤_, _<_}
+use native.Mathlib.Nat.{sub-zero, add-zero}
+use native.Mathlib.Omega.{arith}
+use lib.Dec.{T, leb, leb→le}
+use lib.ListN.{length, length-append}
+use Rattle.rules.specs.Outcome.{Outcome, done, refused, _>>=_, need, is-done}
+use Rattle.rules.specs.Lists.{Bytes, bytes-of}
+use Rattle.rules.specs.Table.{Part}
+use Rattle.rules.specs.Record.{Record}
+use Rattle.rules.specs.Use.{Item}
+use Rattle.rules.specs.Services.{item-bytes, filled}
+use Rattle.rules.proofs.Steps.{from-bind, from-need, need-true, done-inj, not-done, by-test}
+use Rattle.buffer.specs.Splice.{splice}
+use Rattle.buffer.proofs.Laws.{splice-nil, splice-then, length-splice}
+use Rattle.reading.specs.Filling.{placed, left-as, Filling}
+use Rattle.reading.specs.declared.Next.{Next}
+use Rattle.reading.specs.declared.Next.the-variants.{At, Refused}
+
+by-outcome : {A C : Type 0} (o : Outcome A) → ((a : A) → o ≡ done a → C) → ((n : ℕ) → o ≡ refused n → C) → C
+by-outcome (done a) y n = y a refl
+by-outcome (refused k) y n = n k refl
+
+-- Bytes put before an outcome's bytes.
+abbrev before : Bytes → Outcome Bytes → Outcome Bytes
+before a o = o >>= λ b. done (a ++ b)
+
+before-none : (o : Outcome Bytes) → before [] o ≡ o
+before-none (done b) = refl
+before-none (refused k) = refl
+
+before-both : (a b : Bytes) (o : Outcome Bytes) → before a (before b o) ≡ before (a ++ b) o
+before-both a b (done c) = ap done (sym (append-assoc a b c))
+before-both a b (refused k) = refl
+
+-- Items in two runs.
+module _ (ps : List Part) (r : Record) where
+  pub filled-length : (room : ℕ) (xs : List Item) (bs : Bytes) → filled ps r room xs ≡ done bs → length bs ≤ room
+  unfolding filled
+  filled-length room [] bs p = let e = done-inj p in rw (← e) (omega arith)
+  filled-length room (x ∷ xs) bs p =
+      from-bind (item-bytes ps r x) _ p λ b h k.
+      from-need (leb (length b) room) 7 _ k λ t k₂.
+      from-bind (filled ps r (room - length b) xs) _ k₂ λ cs h₃ k₃.
+      let l = filled-length (room - length b) xs cs h₃ in
+      let m = leb→le (length b) room t in
+      let e = done-inj k₃ in
+      rw (← e, length-append) (omega arith)
+
+  append-on : (room : ℕ) (xs ys : List Item) (a : Bytes) → filled ps r room xs ≡ done a
+      → filled ps r room (xs ++ ys) ≡ before a (filled ps r (room - length a) ys)
+  unfolding filled
+  append-on room [] ys a p = rw (← done-inj p, sub-zero) (sym (before-none (filled ps r room ys)))
+  append-on room (x ∷ xs) ys a p =
+      from-bind (item-bytes ps r x) _ p λ b h k.
+      from-need (leb (length b) room) 7 _ k λ t k₂.
+      from-bind (filled ps r (room - length b) xs) _ k₂ λ cs h₃ k₃.
+      let e = done-inj k₃ in
+      let m : room - length (b ++ cs) ≡ room - length b - length cs = rw length-append (omega arith) in
+      rw (h, need-true (leb (length b) room) 7 t, append-on (room - length b) xs ys cs h₃, ← e, m) (before-both b cs (filled ps r (room - length b - length cs) ys))
+
+  append-off : (room : ℕ) (xs ys : List Item) (k : ℕ) → filled ps r room xs ≡ refused k → filled ps r room (xs ++ ys) ≡ refused k
+  unfolding filled
+  append-off room [] ys k p = absurd (not-done (sym p))
+  append-off room (x ∷ xs) ys k p = by-outcome (item-bytes ps r x)
+      (λ b h. by-test (leb (length b) room)
+      (λ t. by-outcome (filled ps r (room - length b) xs)
+      (λ cs h₃. absurd (not-done (sym (rw (h, t, h₃) at p))))
+      (λ n h₃. rw (h, t, append-off (room - length b) xs ys n h₃) (rw (h, t, h₃) at p)))
+      (λ t. rw (h, t) (rw (h, t) at p)))
+      (λ n h. rw h (rw h at p))
+
+-- A loop over items: it began at `start` and stands at `at`, with `rest` still to come of the `whole`. It writes only what is all done.
+pub record Going (whole rest : Outcome Bytes) (start at : ℕ) (write : Bool) (out₀ out : Bytes) : Type 0 where
+  pub answer : placed at rest ≡ placed start whole
+  pub bytes : left-as write at rest out ≡ left-as write start whole out₀
+  pub same : length out ≡ length out₀
+  pub sound : write ≡ true → is-done rest ≡ true
+
+pub going-start : (whole : Outcome Bytes) (at : ℕ) (write : Bool) (out : Bytes) → (write ≡ true → is-done whole ≡ true) → Going whole whole at at write out out
+going-start whole at write out h = record { answer = refl; bytes = refl; same = refl; sound = h }
+
+placed-before : (at : ℕ) (a : Bytes) (o : Outcome Bytes) → placed at (before a o) ≡ placed (at + length a) o
+placed-before at a (done b) = ap At (rw length-append (omega arith))
+placed-before at a (refused k) = refl
+
+done-before : (a : Bytes) (o : Outcome Bytes) → is-done (before a o) ≡ is-done o
+done-before a (done b) = refl
+done-before a (refused k) = refl
+
+not-true-false : _≡_ {A = Bool} false true → ⊥
+not-true-false p = let z : _≡_ {A = ℕ} 0 1 = cc in omega arith
+
+left-before : (write : Bool) (at : ℕ) (a : Bytes) (o : Outcome Bytes) (out : Bytes) → at + length a ≤ length out → (write ≡ true → is-done o ≡ true)
+    → left-as write (at + length a) o (left-as write at (done a) out) ≡ left-as write at (before a o) out
+unfolding bytes-of
+left-before false at a o out h s = refl
+left-before true at a (done b) out h s = splice-then at a b out (at + length a) refl h
+left-before true at a (refused k) out h s = absurd (not-true-false (s refl))
+
+left-length : (write : Bool) (at : ℕ) (a out : Bytes) → at + length a ≤ length out → length (left-as write at (done a) out) ≡ length out
+unfolding bytes-of
+left-length false at a out h = refl
+left-length true at a out h = length-splice at a out h
+
+at-inj : {m n : ℕ} → At m ≡ At n → m ≡ n
+at-inj p = cc
+
+no-at : {m k : ℕ} → _≡_ {A = Next} (At m) (Refused k) → ⊥
+no-at p = let z : _≡_ {A = ℕ} 0 1 = cc in omega arith
+
+-- A turn that takes the items xs, of which a callee says where they end and what it left in the buffer.
+module _ (ps : List Part) (r : Record) (end : ℕ) (xs ys : List Item) {whole : Outcome Bytes} {start at : ℕ} {write : Bool} {out₀ out out′ : Bytes} {n : Next}
+    (g : Going whole (filled ps r (end - at) (xs ++ ys)) start at write out₀ out) (f : Filling (filled ps r (end - at) xs) at write out out′ n) (fits : at ≤ end) (room : end ≤ length out) where
+  pub turn-within : (at′ : ℕ) → n ≡ At at′ → (at ≤ at′) × (at′ ≤ end)
+  turn-within at′ q = by-outcome (filled ps r (end - at) xs)
+      (λ a h. let l = filled-length ps r (end - at) xs a h in let e : at + length a ≡ at′ = at-inj (sym (f .answer ∙ ap (placed at) h) ∙ q) in omega arith)
+      (λ k h. absurd (no-at (sym q ∙ f .answer ∙ ap (placed at) h)))
+
+  pub turn : (at′ : ℕ) → n ≡ At at′ → Going whole (filled ps r (end - at′) ys) start at′ write out₀ out′
+  turn at′ q = by-outcome (filled ps r (end - at) xs)
+      (λ a h. on a h (filled-length ps r (end - at) xs a h) (at-inj (sym (f .answer ∙ ap (placed at) h) ∙ q)))
+      (λ k h. absurd (no-at (sym q ∙ f .answer ∙ ap (placed at) h)))
+    where
+      on : (a : Bytes) → filled ps r (end - at) xs ≡ done a → length a ≤ end - at → at + length a ≡ at′ → Going whole (filled ps r (end - at′) ys) start at′ write out₀ out′
+      on a h l e =
+          let m : end - at - length a ≡ end - at′ = omega arith in
+          let o : filled ps r (end - at) (xs ++ ys) ≡ before a (filled ps r (end - at′) ys) = append-on ps r (end - at) xs ys a h ∙ rw m refl in
+          let d : write ≡ true → is-done (filled ps r (end - at′) ys) ≡ true = λ w. sym (done-before a (filled ps r (end - at′) ys)) ∙ rw o at (g .sound w) in
+          let b : out′ ≡ left-as write at (done a) out = f .bytes ∙ ap (λ x. left-as write at x out) h in
+          record {
+            answer = rw (← e) (sym (placed-before at a (filled ps r (end - (at + length a)) ys))) ∙ rw (o, ← e) at (g .answer);
+            bytes = rw (b, ← e) (left-before write at a (filled ps r (end - (at + length a)) ys) out (omega arith) (rw (← e) at d)) ∙ rw (o, ← e) at (g .bytes);
+            same = rw b (left-length write at a out (omega arith) ∙ g .same);
+            sound = d;
+          }
+
+  -- A stop: the items xs are refused, which happens only where nothing is written.
+  pub stop : (k : ℕ) → n ≡ Refused k → Filling whole start write out₀ out′ (Refused k)
+  stop k q = by-outcome (filled ps r (end - at) xs)
+      (λ a h. absurd (no-at (sym (f .answer ∙ ap (placed at) h) ∙ q)))
+      (λ j h. off j h (append-off ps r (end - at) xs ys j h) (sym (f .answer ∙ ap (placed at) h) ∙ q))
+    where
+      off : (j : ℕ) → filled ps r (end - at) xs ≡ refused j → filled ps r (end - at) (xs ++ ys) ≡ refused j → Refused j ≡ Refused k → Filling whole start write out₀ out′ (Refused k)
+      off j h o e = unwritten write (g .answer) (g .bytes) (g .sound) (f .bytes)
+        where
+          unwritten : (w : Bool) → placed at (filled ps r (end - at) (xs ++ ys)) ≡ placed start whole
+              → left-as w at (filled ps r (end - at) (xs ++ ys)) out ≡ left-as w start whole out₀ → (w ≡ true → is-done (filled ps r (end - at) (xs ++ ys)) ≡ true)
+              → out′ ≡ left-as w at (filled ps r (end - at) xs) out → Filling whole start w out₀ out′ (Refused k)
+          unwritten false p b s c = record { answer = sym e ∙ rw o at p; bytes = c ∙ b }
+          unwritten true p b s c = absurd (not-true-false (rw o at (s refl)))
+
+-- The end: no item is left.
+pub going-end : (ps : List Part) (r : Record) (room : ℕ) {whole : Outcome Bytes} {start at : ℕ} {write : Bool} {out₀ out : Bytes}
+    → Going whole (filled ps r room []) start at write out₀ out → Filling whole start write out₀ out (At at)
+unfolding filled bytes-of
+going-end ps r room {whole} {start} {at} {write} {out₀} {out} g = record {
+  answer = ap At (sym (add-zero at)) ∙ g .answer;
+  bytes = sym (nothing-written write) ∙ g .bytes;
+}
+  where
+    nothing-written : (w : Bool) → left-as w at (done []) out ≡ out
+    nothing-written false = refl
+    nothing-written true = splice-nil at out

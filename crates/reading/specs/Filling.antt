@@ -1,0 +1,24 @@
+-- Filling a record buffer: where a run of items ends, and what the buffer then holds. The same walk tests, and writes if it is asked to.
+use mathlib.Core.Path.{_≡_}
+use mathlib.Core.Bool.{Bool, true, false}
+use Prim.Native.Nat.{ℕ, _+_}
+use lib.ListN.{length}
+use Rattle.rules.specs.Outcome.{Outcome, done, refused}
+use Rattle.rules.specs.Lists.{Bytes, bytes-of}
+use Rattle.buffer.specs.Splice.{splice}
+use Rattle.reading.specs.declared.Next.{Next}
+use Rattle.reading.specs.declared.Next.the-variants.{At, Refused}
+
+-- Where bytes that begin at a place end.
+abbrev pub placed : ℕ → Outcome Bytes → Next
+placed at (done bs) = At (at + length bs)
+placed at (refused k) = Refused k
+
+-- A buffer with bytes written at a place, or as it was where nothing is to be written.
+abbrev pub left-as : Bool → ℕ → Outcome Bytes → Bytes → Bytes
+left-as true at o out = splice at (bytes-of o) out
+left-as false at o out = out
+
+pub record Filling (o : Outcome Bytes) (at : ℕ) (write : Bool) (entry exit : Bytes) (r : Next) : Type 0 where
+  pub answer : r ≡ placed at o
+  pub bytes : exit ≡ left-as write at o entry
