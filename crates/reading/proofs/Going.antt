@@ -14,16 +14,12 @@ use Rattle.rules.specs.Table.{Part}
 use Rattle.rules.specs.Record.{Record}
 use Rattle.rules.specs.Use.{Item}
 use Rattle.rules.specs.Services.{item-bytes, filled}
-use Rattle.rules.proofs.Steps.{from-bind, from-need, need-true, done-inj, not-done, by-test}
+use Rattle.rules.proofs.Steps.{from-bind, from-need, need-true, done-inj, not-done, by-test, by-outcome, not-both}
 use Rattle.buffer.specs.Splice.{splice}
 use Rattle.buffer.proofs.Laws.{splice-nil, splice-then, length-splice}
 use Rattle.reading.specs.Filling.{placed, left-as, Filling}
 use Rattle.reading.specs.declared.Next.{Next}
 use Rattle.reading.specs.declared.Next.the-variants.{At, Refused}
-
-by-outcome : {A C : Type 0} (o : Outcome A) → ((a : A) → o ≡ done a → C) → ((n : ℕ) → o ≡ refused n → C) → C
-by-outcome (done a) y n = y a refl
-by-outcome (refused k) y n = n k refl
 
 -- Bytes put before an outcome's bytes.
 abbrev before : Bytes → Outcome Bytes → Outcome Bytes
@@ -92,15 +88,12 @@ done-before : (a : Bytes) (o : Outcome Bytes) → is-done (before a o) ≡ is-do
 done-before a (done b) = refl
 done-before a (refused k) = refl
 
-not-true-false : _≡_ {A = Bool} false true → ⊥
-not-true-false p = let z : _≡_ {A = ℕ} 0 1 = cc in omega arith
-
 left-before : (write : Bool) (at : ℕ) (a : Bytes) (o : Outcome Bytes) (out : Bytes) → at + length a ≤ length out → (write ≡ true → is-done o ≡ true)
     → left-as write (at + length a) o (left-as write at (done a) out) ≡ left-as write at (before a o) out
 unfolding bytes-of
 left-before false at a o out h s = refl
 left-before true at a (done b) out h s = splice-then at a b out (at + length a) refl h
-left-before true at a (refused k) out h s = absurd (not-true-false (s refl))
+left-before true at a (refused k) out h s = absurd (not-both (s refl))
 
 left-length : (write : Bool) (at : ℕ) (a out : Bytes) → at + length a ≤ length out → length (left-as write at (done a) out) ≡ length out
 unfolding bytes-of
@@ -152,7 +145,7 @@ module _ (ps : List Part) (r : Record) (end : ℕ) (xs ys : List Item) {whole : 
               → left-as w at (filled ps r (end - at) (xs ++ ys)) out ≡ left-as w start whole out₀ → (w ≡ true → is-done (filled ps r (end - at) (xs ++ ys)) ≡ true)
               → out′ ≡ left-as w at (filled ps r (end - at) xs) out → Filling whole start w out₀ out′ (Refused k)
           unwritten false p b s c = record { answer = sym e ∙ rw o at p; bytes = c ∙ b }
-          unwritten true p b s c = absurd (not-true-false (rw o at (s refl)))
+          unwritten true p b s c = absurd (not-both (rw o at (s refl)))
 
 -- The end: no item is left.
 pub going-end : (ps : List Part) (r : Record) (room : ℕ) {whole : Outcome Bytes} {start at : ℕ} {write : Bool} {out₀ out : Bytes}

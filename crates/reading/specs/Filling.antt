@@ -2,8 +2,9 @@
 use mathlib.Core.Path.{_≡_}
 use mathlib.Core.Bool.{Bool, true, false}
 use Prim.Native.Nat.{ℕ, _+_}
+use lib.Dec.{leb}
 use lib.ListN.{length}
-use Rattle.rules.specs.Outcome.{Outcome, done, refused}
+use Rattle.rules.specs.Outcome.{Outcome, done, refused, _>>=_, need}
 use Rattle.rules.specs.Lists.{Bytes, bytes-of}
 use Rattle.buffer.specs.Splice.{splice}
 use Rattle.reading.specs.declared.Next.{Next}
@@ -18,6 +19,13 @@ placed at (refused k) = Refused k
 abbrev pub left-as : Bool → ℕ → Outcome Bytes → Bytes → Bytes
 left-as true at o out = splice at (bytes-of o) out
 left-as false at o out = out
+
+-- An item in so much room: "an item ends beyond the record buffer" is 7.
+unfoldable pub within : ℕ → Outcome Bytes → Outcome Bytes
+within room o = do
+  b ← o
+  _ ← need (leb (length b) room) 7
+  done b
 
 pub record Filling (o : Outcome Bytes) (at : ℕ) (write : Bool) (entry exit : Bytes) (r : Next) : Type 0 where
   pub answer : r ≡ placed at o

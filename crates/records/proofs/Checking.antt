@@ -14,7 +14,7 @@ use Rattle.rules.specs.Lists.{Bytes}
 use Rattle.rules.specs.Table.{What, field, group, Entry, Part, is-inside, parts-from, part-of, parts}
 use Rattle.rules.specs.Record.{Reader, each, stored-part}
 use Rattle.records.specs.Walk.{rest-of, bytes-left, behind, start-of}
-use Rattle.rules.proofs.Steps.{done-inj, not-done}
+use Rattle.rules.proofs.Steps.{done-inj, not-done, by-outcome}
 use Rattle.buffer.proofs.Cases.{by-order}
 use Rattle.records.proofs.Walks.{each-turn, each-stop}
 
@@ -25,10 +25,6 @@ part-first inside n (group true) es ps = refl
 part-first inside n (group false) es ps = refl
 part-first true n (field f s mu) es ps = refl
 part-first false n (field f s mu) es ps = refl
-
-by-outcome : {A C : Type 0} (o : Outcome A) → ((a : A) → o ≡ done a → C) → ((n : ℕ) → o ≡ refused n → C) → C
-by-outcome (done a) y n = y a refl
-by-outcome (refused k) y n = n k refl
 
 -- Readers one behind the other, in two runs.
 module _ {X Y : Type 0} (one : Y → Reader X) (zs : List Y) where

@@ -72,6 +72,10 @@ pub by-test : {C : Type 0} (b : Bool) → (b ≡ true → C) → (b ≡ false �
 by-test true y n = y refl
 by-test false y n = n refl
 
+pub by-outcome : {A C : Type 0} (o : Outcome A) → ((a : A) → o ≡ done a → C) → ((n : ℕ) → o ≡ refused n → C) → C
+by-outcome (done a) y n = y a refl
+by-outcome (refused k) y n = n k refl
+
 pub by-option : {A C : Type 0} (o : Option A) → ((a : A) → o ≡ some a → C) → (o ≡ none → C) → C
 by-option none y n = n refl
 by-option (some a) y n = y a refl
@@ -84,6 +88,9 @@ some-inj p = cc
 
 pub from-some-pair : {A B C : Type 0} {a a′ : A} {b b′ : B} → _≡_ {A = Option (A × B)} (some (a, b)) (some (a′, b′)) → (a ≡ a′ → b ≡ b′ → C) → C
 from-some-pair p k = let q = some-inj p in k (ap (λ r. r .0) q) (ap (λ r. r .1) q)
+
+pub not-both : _≡_ {A = Bool} false true → ⊥
+not-both p = let z : _≡_ {A = ℕ} 0 1 = cc in omega arith
 
 pub true-T : {b : Bool} → b ≡ true → T b
 true-T e = rw e tt
