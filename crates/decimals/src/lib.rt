@@ -2,12 +2,18 @@
 // `packed` selects the format: P where it is true, else U.
 ghost use mathlib.Core.Path.{_≡_};
 ghost use mathlib.Core.Bool.{_&&_, true};
-ghost use Prim.Native.Nat.{_+_, _≤_, _<_};
-ghost use lib.Dec.{leb};
-ghost use lib.ListN.{length};
+ghost use Prim.Native.Nat.{_+_, _≤_, _<_, _^_};
+ghost use lib.Dec.{leb, ltb};
+ghost use lib.ListN.{length, getD};
 ghost use Rattle.rules.specs.Outcome.{is-done};
-ghost use Rattle.rules.specs.Values.{meaning};
-ghost use Rattle.decimals.specs.Decimals.{decimal-format, is-sign, inner-byte, last-byte};
+ghost use Rattle.rules.specs.Values.{meaning, normal, carried, in-normal-form, sign-written};
+ghost use Rattle.words.specs.Words.{signed-value, word-of, value-of};
+ghost use Rattle.decimals.specs.Decimals.{decimal-format, digits-of, sign-of, magnitude-of, is-minus, all-digits, places, is-sign, inner-byte, last-byte};
+use words::Signed;
+use words::Word;
+
+// 2,147,483,648: no magnitude in a conversion range is greater.
+const GREATEST_MAGNITUDE: u64 = 2147483648;
 
 fn is_sign(h: u8) -> bool
     ensures { λ r. ⌜ r ≡ is-sign h ⌝ }
@@ -64,4 +70,113 @@ pub fn is_value(s: &[u8], packed: bool) -> bool
     } else {
         false
     }
+}
+
+// How many digits n bytes hold.
+fn digit_count(packed: bool, n: usize) -> usize
+    requires { ⌜ (0 < n) × (n ≤ 253) ⌝ }
+    ensures { λ r. ⌜ r ≡ places packed n ⌝ }
+{
+    if packed { 2 * n - 1 } else { n }
+}
+
+// The digit at i, from the left.
+fn digit(s: &[u8], packed: bool, i: usize) -> u8
+    requires { ⌜ (0 < length (now s)) × (i < places packed (length (now s))) ⌝ }
+    ensures { λ r. ⌜ r ≡ getD (digits-of packed (now (s .entry))) i 0 ⌝ }
+{
+    if packed {
+        if i % 2 == 0 {
+            s[i / 2] / 16
+        } else {
+            s[i / 2] % 16
+        }
+    } else {
+        s[i] % 16
+    }
+}
+
+fn sign(s: &[u8], packed: bool) -> u8
+    requires { ⌜ 0 < length (now s) ⌝ }
+    ensures { λ r. ⌜ r ≡ sign-of packed (now (s .entry)) ⌝ }
+{
+    let b = s[s.len() - 1];
+    if packed { b % 16 } else { b / 16 }
+}
+
+// Whether the magnitude has at most m digits.
+fn within(s: &[u8], packed: bool, m: usize) -> bool
+    requires { ⌜ (0 < length (now s)) × (length (now s) ≤ 253) × (all-digits packed (now s) ≡ true) ⌝ }
+    ensures { λ r. ⌜ r ≡ ltb (magnitude-of packed (now (s .entry))) (10 ^ m) ⌝ }
+{
+    let n = digit_count(packed, s.len());
+    let mut i = 0;
+    while m < n - i {
+        if digit(s, packed, i) != 0 {
+            return false;
+        }
+        i += 1;
+    }
+    true
+}
+
+// Whether it is below zero: zero is not, whatever its sign.
+fn negative(s: &[u8], packed: bool) -> bool
+    requires { ⌜ (0 < length (now s)) × (length (now s) ≤ 253) × (all-digits packed (now s) ≡ true) ⌝ }
+    ensures { λ r. ⌜ r ≡ is-minus packed (now (s .entry)) ⌝ }
+{
+    if sign(s, packed) == 0xD {
+        !within(s, packed, 0)
+    } else {
+        false
+    }
+}
+
+// The sign of the normal form.
+fn written_sign(negative: bool) -> u8
+    ensures { λ r. ⌜ r ≡ sign-written negative ⌝ }
+{
+    if negative { 0xD } else { 0xF }
+}
+
+// Whether s is in normal form.
+pub fn is_normal(s: &[u8], packed: bool) -> bool
+    requires { ⌜ (0 < length (now s)) × (length (now s) ≤ 253) ⌝ }
+    ensures { λ r. ⌜ r ≡ in-normal-form (decimal-format packed) (length (now (s .entry))) (now (s .entry)) ⌝ }
+{
+    if is_value(s, packed) {
+        written_sign(negative(s, packed)) == sign(s, packed)
+    } else {
+        false
+    }
+}
+
+// Whether the value s fits n bytes of P (to_packed) or U.
+pub fn fits(s: &[u8], packed: bool, to_packed: bool, n: usize) -> bool
+    requires { ⌜ (is-done (meaning (decimal-format packed) (now s)) ≡ true) × (length (now s) ≤ 253) × (0 < n) × (n ≤ 29) ⌝ }
+    ensures { λ r. ⌜ r ≡ is-done (carried (decimal-format packed) (decimal-format «to_packed») n (now (s .entry))) ⌝ }
+{
+    within(s, packed, digit_count(to_packed, n))
+}
+
+// The number that s means.
+pub fn to_word(s: &[u8], packed: bool) -> Word
+    requires { ⌜ (is-done (meaning (decimal-format packed) (now s)) ≡ true) × (length (now s) ≤ 253) ⌝ }
+    ensures { λ r. ⌜ r ≡ word-of (value-of (meaning (decimal-format packed) (now (s .entry)))) ⌝ }
+{
+    let n = digit_count(packed, s.len());
+    let mut x: u64 = 0;
+    let mut i = 0;
+    while i < n {
+        let d = digit(s, packed, i);
+        x = x * 10 + d as u64;
+        if GREATEST_MAGNITUDE < x {
+            return Word::Outside;
+        }
+        i += 1;
+    }
+    Word::Number(Signed {
+        negative: negative(s, packed),
+        magnitude: x as u32,
+    })
 }
