@@ -11,7 +11,7 @@ use Rattle.rules.specs.Outcome.{Outcome, done, refused, _>>=_, need, is-done}
 use Rattle.rules.specs.Lists.{Bytes, bytes-of, same, spelled, digits}
 use Rattle.rules.specs.Values.{Format, packed, unpacked, Value, number, pairs, zoned, meaning, sign-written, normal, with-length-byte, in-normal-form, conversion, in-range, converted, carried}
 use Rattle.rules.proofs.Steps.{by-test, eqb-same}
-use Rattle.decimals.specs.Decimals.{decimal-format, digits-of, sign-of, magnitude-of, is-minus, places, encoded}
+use Rattle.decimals.specs.Decimals.{decimal-format, digits-of, sign-of, magnitude-of, is-minus, places, encoded, written}
 use Rattle.decimals.proofs.Digits.{spelled-below, digits-spelled}
 use Rattle.decimals.proofs.Halves.{length-digits-of}
 use Rattle.decimals.proofs.Sound.{Sound, sound, below-ten}
@@ -20,8 +20,8 @@ use Rattle.decimals.proofs.Sound.{Sound, sound, below-ten}
 
 module _ (p : Bool) (n : ℕ) (below : Bool) (x : ℕ) where
   normal-is : normal (decimal-format p) n (number below x)
-      ≡ (need (ltb x (10 ^ places p n)) 9 >>= λ _. done (encoded p (digits 10 (places p n) x) (sign-written below)))
-  unfolding normal decimal-format places encoded
+      ≡ (need (ltb x (10 ^ places p n)) 9 >>= λ _. done (written p n below x))
+  unfolding normal decimal-format places encoded written
   normal-is = elim p [ true ↦ refl | false ↦ refl ]
 
   pub normal-fits : is-done (normal (decimal-format p) n (number below x)) ≡ ltb x (10 ^ places p n)
@@ -32,11 +32,11 @@ module _ (p : Bool) (n : ℕ) (below : Bool) (x : ℕ) where
       go false bs = refl
 
   pub normal-done : ltb x (10 ^ places p n) ≡ true
-      → normal (decimal-format p) n (number below x) ≡ done (encoded p (digits 10 (places p n) x) (sign-written below))
+      → normal (decimal-format p) n (number below x) ≡ done (written p n below x)
   normal-done e = normal-is ∙ rw e
 
   pub normal-bytes : is-done (normal (decimal-format p) n (number below x)) ≡ true
-      → bytes-of (normal (decimal-format p) n (number below x)) ≡ encoded p (digits 10 (places p n) x) (sign-written below)
+      → bytes-of (normal (decimal-format p) n (number below x)) ≡ written p n below x
   unfolding bytes-of
   normal-bytes e = ap bytes-of (normal-done (sym normal-fits ∙ e))
 
@@ -93,13 +93,13 @@ every-value false false w = refl
 module _ {p : Bool} {bs : Bytes} (v : Sound p bs) where
   -- a value is in normal form where its sign is the one that is written
   pub form-sign : in-normal-form (decimal-format p) (length bs) bs ≡ eqb (sign-written (is-minus p bs)) (sign-of p bs)
-  unfolding magnitude-of
+  unfolding magnitude-of written
   form-sign =
       let ten = below-ten p bs (v .nines) in
       let l = length-digits-of p bs in
       let h = rw l at (spelled-below 10 (digits-of p bs) ten) in
       let d = rw l at (digits-spelled 10 (digits-of p bs) ten) in
-      let b = encoded p (digits 10 (places p (length bs)) (magnitude-of p bs)) (sign-written (is-minus p bs)) in
+      let b = written p (length bs) (is-minus p bs) (magnitude-of p bs) in
       form-at (decimal-format p) (length bs) bs (done b) (rw (v .means) (normal-done p (length bs) (is-minus p bs) (magnitude-of p bs) (lt-ltb _ _ h)))
       ∙ rw (no-length-byte (length bs) bs (v .some), d)
       (ap (λ b. same (encoded p (digits-of p bs) (sign-written (is-minus p bs))) b) (sym (v .whole))

@@ -11,7 +11,7 @@ use Rattle.rules.specs.Outcome.{Outcome, done, refused, _>>=_, need, is-done}
 use Rattle.rules.specs.Lists.{Bytes, all, spelled, but-last, last}
 use Rattle.rules.specs.Values.{Format, packed, unpacked, Value, number, signed, halves, pairs, zoned, accepted-plus, accepted-minus, sign-means, decimal, meaning}
 use Rattle.rules.proofs.Steps.{by-test, true-T, T-true, and-left, and-right, not-done, from-bind, from-need, done-inj}
-use Rattle.decimals.specs.Decimals.{decimal-format, digits-of, sign-of, magnitude-of, is-minus, all-digits, encoded, value-bytes}
+use Rattle.decimals.specs.Decimals.{decimal-format, digits-of, sign-of, magnitude-of, is-minus, all-digits, Readable, encoded, value-bytes}
 use Rattle.decimals.proofs.Digits.{all-weaker}
 use Rattle.decimals.proofs.Meanings.{value-scan}
 
@@ -109,3 +109,6 @@ pub sound : (p : Bool) (bs : Bytes) → is-done (meaning (decimal-format p) bs) 
 sound p bs e =
     let r = done-some (meaning (decimal-format p) bs) e in
     sound-as p bs (r .0) (some-bytes p bs (sym (value-scan p bs) ∙ e)) (r .1)
+
+pub readable : {p : Bool} {bs : Bytes} → Sound p bs → length bs ≤ 253 → Readable p bs
+readable v h = record { some = v .some; short = h; nines = v .nines }

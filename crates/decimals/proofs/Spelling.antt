@@ -19,8 +19,8 @@ use Rattle.words.specs.Words.{word-of, value-of, pick}
 use Rattle.words.specs.declared.Word.{Word}
 use Rattle.words.specs.declared.Word.the-variants.{Number, Outside}
 use Rattle.buffer.proofs.Cases.{by-order}
-use Rattle.decimals.specs.Decimals.{decimal-format, digits-of, magnitude-of, is-minus, all-digits, places}
-use Rattle.decimals.proofs.Digits.{all-drop, spelled-below, spelled-full, spelled-grows}
+use Rattle.decimals.specs.Decimals.{decimal-format, digits-of, magnitude-of, is-minus, all-digits, Readable, places, place}
+use Rattle.decimals.proofs.Digits.{all-drop, spelled-below, spelled-full, spelled-grows, place-spelled, place-spelled-past}
 use Rattle.decimals.proofs.Halves.{length-digits-of}
 use Rattle.decimals.proofs.Sound.{Sound, below-ten}
 
@@ -96,3 +96,14 @@ module _ {p : Bool} {s : Bytes} (v : Sound p s) where
   pub word-number : (below : Bool) (x : ℕ) → below ≡ is-minus p s → x ≡ magnitude-of p s → x ≤ suc greatest-word
       → Number (record { negative = below; magnitude = x }) ≡ word-of (value-of (meaning (decimal-format p) s))
   word-number below x e f h = sym (word-is ∙ rw (← e, ← f, le-leb _ _ h))
+
+-- ---- the magnitude's digits by their places
+
+module _ {p : Bool} {s : Bytes} (v : Readable p s) where
+  pub digit-place : (i k : ℕ) → i + (k + 1) ≡ places p (length s) → getD (digits-of p s) i 0 ≡ place 10 (magnitude-of p s) k
+  unfolding magnitude-of
+  digit-place i k e = sym (place-spelled 10 (digits-of p s) (below-ten p s (v .nines)) i k (e ∙ sym (length-digits-of p s)))
+
+  pub no-place : (k : ℕ) → places p (length s) ≤ k → 0 ≡ place 10 (magnitude-of p s) k
+  unfolding magnitude-of
+  no-place k h = sym (place-spelled-past 10 (digits-of p s) (below-ten p s (v .nines)) k (lit< tt) (rw (length-digits-of p s) h))

@@ -2,10 +2,12 @@
 -- A Bool selects the format: true is P (packed), false is U (unpacked).
 use mathlib.Core.Bool.{Bool, true, false, _&&_, _||_}
 use mathlib.Core.List.{List, [], _∷_, _++_, map}
-use Prim.Native.Nat.{ℕ, zero, suc, _+_, _-_, _*_, _/_, _%_}
+use mathlib.Core.Path.{_≡_}
+use Prim.Native.Nat.{ℕ, zero, suc, _+_, _-_, _*_, _/_, _%_, _≤_, _<_}
 use lib.Dec.{eqb, leb, ltb}
-use Rattle.rules.specs.Lists.{Bytes, all, spelled, but-last, last}
-use Rattle.rules.specs.Values.{Format, packed, unpacked, halves, pairs, zoned, accepted-plus, accepted-minus}
+use lib.ListN.{length}
+use Rattle.rules.specs.Lists.{Bytes, all, spelled, digits, but-last, last}
+use Rattle.rules.specs.Values.{Format, packed, unpacked, halves, pairs, zoned, accepted-plus, accepted-minus, sign-written}
 
 unfoldable pub decimal-format : Bool → Format
 decimal-format true = packed
@@ -31,6 +33,12 @@ is-minus p bs = accepted-minus (sign-of p bs) && ltb 0 (magnitude-of p bs)
 unfoldable pub all-digits : Bool → Bytes → Bool
 all-digits p bs = all (λ d. leb d 9) (digits-of p bs)
 
+-- Bytes whose digits can be read; so few that their digits can be counted.
+pub record Readable (p : Bool) (bs : Bytes) : Type 0 where
+  pub some : 0 < length bs
+  pub short : length bs ≤ 253
+  pub nines : all-digits p bs ≡ true
+
 -- How many digits n bytes hold.
 unfoldable pub places : Bool → ℕ → ℕ
 places true n = 2 * n - 1
@@ -40,6 +48,10 @@ places false n = n
 unfoldable pub encoded : Bool → List ℕ → ℕ → Bytes
 encoded true ds s = pairs (ds ++ (s ∷ []))
 encoded false ds s = zoned ds s
+
+-- The n bytes of a number in normal form.
+unfoldable pub written : Bool → ℕ → Bool → ℕ → Bytes
+written p n below x = encoded p (digits 10 (places p n) x) (sign-written below)
 
 -- The digit of a number in a base with k digits after it.
 unfoldable pub place : ℕ → ℕ → ℕ → ℕ

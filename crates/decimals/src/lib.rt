@@ -1,14 +1,14 @@
 // Formats P and U: is it a value, is it in normal form, does it fit, and its bytes, between P and U and to and from numbers.
 // `packed` selects the format: P where it is true, else U.
 ghost use mathlib.Core.Path.{_≡_};
-ghost use mathlib.Core.Bool.{_&&_, true};
+ghost use mathlib.Core.Bool.{_&&_, true, false};
 ghost use Prim.Native.Nat.{_+_, _≤_, _<_, _^_};
 ghost use lib.Dec.{leb, ltb};
 ghost use lib.ListN.{length, getD};
 ghost use Rattle.rules.specs.Outcome.{is-done};
 ghost use Rattle.rules.specs.Values.{meaning, normal, carried, in-normal-form, sign-written};
 ghost use Rattle.words.specs.Words.{signed-value, word-of, value-of};
-ghost use Rattle.decimals.specs.Decimals.{decimal-format, digits-of, sign-of, magnitude-of, is-minus, all-digits, places, is-sign, inner-byte, last-byte};
+ghost use Rattle.decimals.specs.Decimals.{decimal-format, digits-of, sign-of, magnitude-of, is-minus, Readable, places, written, place, is-sign, inner-byte, last-byte};
 use words::Signed;
 use words::Word;
 
@@ -106,7 +106,7 @@ fn sign(s: &[u8], packed: bool) -> u8
 
 // Whether the magnitude has at most m digits.
 fn within(s: &[u8], packed: bool, m: usize) -> bool
-    requires { ⌜ (0 < length (now s)) × (length (now s) ≤ 253) × (all-digits packed (now s) ≡ true) ⌝ }
+    requires { ⌜ Readable packed (now s) ⌝ }
     ensures { λ r. ⌜ r ≡ ltb (magnitude-of packed (now (s .entry))) (10 ^ m) ⌝ }
 {
     let n = digit_count(packed, s.len());
@@ -122,7 +122,7 @@ fn within(s: &[u8], packed: bool, m: usize) -> bool
 
 // Whether it is below zero: zero is not, whatever its sign.
 fn negative(s: &[u8], packed: bool) -> bool
-    requires { ⌜ (0 < length (now s)) × (length (now s) ≤ 253) × (all-digits packed (now s) ≡ true) ⌝ }
+    requires { ⌜ Readable packed (now s) ⌝ }
     ensures { λ r. ⌜ r ≡ is-minus packed (now (s .entry)) ⌝ }
 {
     if sign(s, packed) == 0xD {
@@ -151,12 +151,12 @@ pub fn is_normal(s: &[u8], packed: bool) -> bool
     }
 }
 
-// Whether the value s fits n bytes of P (to_packed) or U.
-pub fn fits(s: &[u8], packed: bool, to_packed: bool, n: usize) -> bool
+// Whether the value s fits n bytes of P (target) or U.
+pub fn fits(s: &[u8], packed: bool, target: bool, n: usize) -> bool
     requires { ⌜ (is-done (meaning (decimal-format packed) (now s)) ≡ true) × (length (now s) ≤ 253) × (0 < n) × (n ≤ 29) ⌝ }
-    ensures { λ r. ⌜ r ≡ is-done (carried (decimal-format packed) (decimal-format «to_packed») n (now (s .entry))) ⌝ }
+    ensures { λ r. ⌜ r ≡ is-done (carried (decimal-format packed) (decimal-format target) n (now (s .entry))) ⌝ }
 {
-    within(s, packed, digit_count(to_packed, n))
+    within(s, packed, digit_count(target, n))
 }
 
 // The number that s means.
@@ -179,4 +179,56 @@ pub fn to_word(s: &[u8], packed: bool) -> Word
         negative: negative(s, packed),
         magnitude: x as u32,
     })
+}
+
+// The digit of the magnitude with k digits after it: 0 past its first.
+fn digit_before(s: &[u8], packed: bool, k: usize) -> u8
+    requires { ⌜ Readable packed (now s) ⌝ }
+    ensures { λ r. ⌜ (r ≡ place 10 (magnitude-of packed (now (s .entry))) k) × (r < 10) ⌝ }
+{
+    let n = digit_count(packed, s.len());
+    if k < n {
+        digit(s, packed, n - 1 - k)
+    } else {
+        0
+    }
+}
+
+// Byte i of the n bytes of P with the digits of s.
+fn packed_byte(s: &[u8], packed: bool, negative: bool, n: usize, i: usize) -> u8
+    requires { ⌜ Readable packed (now s) × (i < n) × (n ≤ 29) ⌝ }
+    ensures { λ r. ⌜ r ≡ getD (written true n negative (magnitude-of packed (now (s .entry)))) i 0 ⌝ }
+{
+    let rest = n - 1 - i;
+    let d = digit_before(s, packed, 2 * rest);
+    if rest == 0 {
+        d * 16 + written_sign(negative)
+    } else {
+        d * 16 + digit_before(s, packed, 2 * rest - 1)
+    }
+}
+
+// Byte i of the n bytes of U with the digits of s.
+fn unpacked_byte(s: &[u8], packed: bool, negative: bool, n: usize, i: usize) -> u8
+    requires { ⌜ Readable packed (now s) × (i < n) × (n ≤ 29) ⌝ }
+    ensures { λ r. ⌜ r ≡ getD (written false n negative (magnitude-of packed (now (s .entry)))) i 0 ⌝ }
+{
+    let rest = n - 1 - i;
+    let d = digit_before(s, packed, rest);
+    if rest == 0 {
+        written_sign(negative) * 16 + d
+    } else {
+        0xF0 + d
+    }
+}
+
+fn written_byte(s: &[u8], packed: bool, negative: bool, target: bool, n: usize, i: usize) -> u8
+    requires { ⌜ Readable packed (now s) × (i < n) × (n ≤ 29) ⌝ }
+    ensures { λ r. ⌜ r ≡ getD (written target n negative (magnitude-of packed (now (s .entry)))) i 0 ⌝ }
+{
+    if target {
+        packed_byte(s, packed, negative, n, i)
+    } else {
+        unpacked_byte(s, packed, negative, n, i)
+    }
 }

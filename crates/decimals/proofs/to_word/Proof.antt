@@ -2,7 +2,7 @@
 use mathlib.Core.Path.{_≡_, sym, _∙_}
 use Prim.Native.Nat.{_-_, _≤_, _*_, _+_}
 use native.Mathlib.Omega.{arith}
-use Rattle.decimals.proofs.Sound.{Sound, sound}
+use Rattle.decimals.proofs.Sound.{sound, readable}
 use Rattle.decimals.proofs.Spelling.{Spelling, spelling-start, spelling-turn, spelling-over, spelling-end, word-outside, word-number}
 use borrow.Author.Needs.{needs}
 use Rattle.decimals.proofs.to_word.Statement.{statement}
@@ -58,7 +58,7 @@ negative-requires : tie.Need-negative-requires Inv-loop μ-loop
 negative-requires c κs =
     let a = c .before .before .before .before in
     let v = sound (a .args .packed) (a .args .s .now) (a .pre .0) in
-    (v .some, a .pre .1, v .nines)
+    readable v (a .pre .1)
 
 cast-t12 : tie.Need-cast-t12 Inv-loop μ-loop
 cast-t12 c = search needs

@@ -42,7 +42,7 @@ loop-again c = spelling-zero (c .before .before .before .loop .inv) (omega arith
 returns-2 : tie.Need-returns-2 Inv-loop μ-loop
 returns-2 c =
     let a = c .before .before .before .before in
-    sym (spelling-fits (c .before .loop .inv) (a .args .m) (a .pre .2) (omega arith))
+    sym (spelling-fits (c .before .loop .inv) (a .args .m) (a .pre .nines) (omega arith))
 
 pub within-spec : {M : Type 1} → statement M
 within-spec =
