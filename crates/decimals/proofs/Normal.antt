@@ -11,10 +11,10 @@ use Rattle.rules.specs.Outcome.{Outcome, done, refused, _>>=_, need, is-done}
 use Rattle.rules.specs.Lists.{Bytes, bytes-of, same, spelled, digits}
 use Rattle.rules.specs.Values.{Format, packed, unpacked, Value, number, pairs, zoned, meaning, sign-written, normal, with-length-byte, in-normal-form, conversion, in-range, converted, carried}
 use Rattle.rules.proofs.Steps.{by-test, eqb-same}
-use Rattle.decimals.specs.Decimals.{decimal-format, digits-of, sign-of, magnitude-of, is-minus, places, encoded, written}
+use Rattle.decimals.specs.Decimals.{decimal-format, digits-of, sign-of, magnitude-of, is-minus, Readable, places, encoded, written}
 use Rattle.decimals.proofs.Digits.{spelled-below, digits-spelled}
 use Rattle.decimals.proofs.Halves.{length-digits-of}
-use Rattle.decimals.proofs.Sound.{Sound, sound, below-ten}
+use Rattle.decimals.proofs.Sound.{Sound, sound, readable, below-ten}
 
 -- ---- a number in normal form
 
@@ -118,3 +118,15 @@ carried-value f g n bs e = go (meaning f bs) e
     go : (m : Outcome Value) → is-done (m >>= converted f g n) ≡ true → is-done m ≡ true
     go (done v) e = refl
     go (refused k) e = e
+
+module _ (p q : Bool) (n : ℕ) (bs : Bytes) (e : is-done (carried (decimal-format p) (decimal-format q) n bs) ≡ true) where
+  carried-sound : Sound p bs
+  carried-sound = sound p bs (carried-value (decimal-format p) (decimal-format q) n bs e)
+
+  pub carried-readable : length bs ≤ 253 → Readable p bs
+  carried-readable = readable carried-sound
+
+  pub carried-bytes : bytes-of (carried (decimal-format p) (decimal-format q) n bs) ≡ written q n (is-minus p bs) (magnitude-of p bs)
+  carried-bytes =
+      let c = carried-is carried-sound q n in
+      rw c (normal-bytes q n (is-minus p bs) (magnitude-of p bs) (rw c at e))

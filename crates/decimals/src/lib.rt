@@ -6,7 +6,9 @@ ghost use Prim.Native.Nat.{_+_, _≤_, _<_, _^_};
 ghost use lib.Dec.{leb, ltb};
 ghost use lib.ListN.{length, getD};
 ghost use Rattle.rules.specs.Outcome.{is-done};
+ghost use Rattle.rules.specs.Lists.{bytes-of, digits};
 ghost use Rattle.rules.specs.Values.{meaning, normal, carried, in-normal-form, sign-written};
+ghost use Rattle.buffer.specs.Splice.{splice};
 ghost use Rattle.words.specs.Words.{signed-value, word-of, value-of};
 ghost use Rattle.decimals.specs.Decimals.{decimal-format, digits-of, sign-of, magnitude-of, is-minus, Readable, places, written, place, is-sign, inner-byte, last-byte};
 use words::Signed;
@@ -231,4 +233,66 @@ fn written_byte(s: &[u8], packed: bool, negative: bool, target: bool, n: usize, 
     } else {
         unpacked_byte(s, packed, negative, n, i)
     }
+}
+
+// The digits of s, with the sign of negative, to n bytes of P (target) or U in out from at on.
+fn write_digits(
+    s: &[u8],
+    packed: bool,
+    negative: bool,
+    target: bool,
+    n: usize,
+    out: &mut [u8],
+    at: usize,
+)
+    requires { ⌜ Readable packed (now s) × (0 < n) × (n ≤ 29) × (at + n ≤ length (now out)) ⌝ }
+    ensures { λ _. ⌜ now (out .exit) ≡ splice at (written target n negative (magnitude-of packed (now (s .entry)))) (now (out .entry)) ⌝ }
+{
+    let mut i = n;
+    while 0 < i {
+        i -= 1;
+        out[at + i] = written_byte(s, packed, negative, target, n, i);
+    }
+}
+
+// The value s, which fits, to n bytes of P (target) or U in out from at on.
+pub fn carry(s: &[u8], packed: bool, target: bool, n: usize, out: &mut [u8], at: usize)
+    requires { ⌜ (is-done (carried (decimal-format packed) (decimal-format target) n (now s)) ≡ true) × (length (now s) ≤ 253) ⌝ }
+    requires { ⌜ (0 < n) × (n ≤ 29) × (at + n ≤ length (now out)) ⌝ }
+    ensures { λ _. ⌜ now (out .exit) ≡ splice at (bytes-of (carried (decimal-format packed) (decimal-format target) n (now (s .entry)))) (now (out .entry)) ⌝ }
+{
+    write_digits(s, packed, negative(s, packed), target, n, out, at);
+}
+
+// The last ten digits of x, which are all.
+fn ten_digits(x: u32) -> [u8; 10]
+    ensures { λ r. ⌜ r ≡ digits 10 10 x ⌝ }
+{
+    let mut ds = [0u8; 10];
+    let mut rest = x;
+    let mut i = 10;
+    while 0 < i {
+        i -= 1;
+        ds[i] = (rest % 10) as u8;
+        rest = rest / 10;
+    }
+    ds
+}
+
+// Whether the number v fits n bytes.
+pub fn fits_word(v: Signed, packed: bool, n: usize) -> bool
+    requires { ⌜ (0 < n) × (n ≤ 29) ⌝ }
+    ensures { λ r. ⌜ r ≡ is-done (normal (decimal-format packed) n (signed-value v)) ⌝ }
+{
+    let ds = ten_digits(v.magnitude);
+    within(&ds, false, digit_count(packed, n))
+}
+
+// The number v, which fits, to n bytes of out from at on.
+pub fn write_word(v: Signed, packed: bool, n: usize, out: &mut [u8], at: usize)
+    requires { ⌜ (is-done (normal (decimal-format packed) n (signed-value v)) ≡ true) × (0 < n) × (n ≤ 29) × (at + n ≤ length (now out)) ⌝ }
+    ensures { λ _. ⌜ now (out .exit) ≡ splice at (bytes-of (normal (decimal-format packed) n (signed-value v))) (now (out .entry)) ⌝ }
+{
+    let ds = ten_digits(v.magnitude);
+    write_digits(&ds, false, v.negative, packed, n, out, at);
 }
