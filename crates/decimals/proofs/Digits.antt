@@ -1,9 +1,9 @@
 -- Digits in any base: what they spell, the digits of what they spell, and each digit by its place. Assumes nothing.
 use mathlib.Core.Path.{_≡_, refl, sym, _∙_, ap}
-use mathlib.Core.Bool.{Bool, true, false, _&&_}
+use mathlib.Core.Bool.{Bool}
 use mathlib.Core.List.{List, [], _∷_, _++_}
-use Prim.Native.Nat.{ℕ, zero, suc, _+_, _-_, _*_, _/_, _%_, _^_, _≤_, _<_}
-use native.Mathlib.Nat.{pow-zero, pow-suc, pow-succ', pow-le-pow-right, one-le-pow, mod-lt, mod-eq-of-lt, zero-mod, div-add-mod', div-eq-of-lt, div-lt-iff-lt-mul, mul-add-div-right, mul-add-mod-self-right, mul-le-mul-left, mul-le-mul-right, lt-of-lt-of-le, mul-assoc, add-mul, mul-one, one-mul, zero-mul, add-zero, zero-add, add-assoc}
+use Prim.Native.Nat.{ℕ, zero, suc, _+_, _*_, _/_, _%_, _^_, _≤_, _<_}
+use native.Mathlib.Nat.{pow-zero, pow-suc, pow-succ', pow-le-pow-right, one-le-pow, mod-lt, mod-eq-of-lt, zero-mod, div-add-mod', div-eq-of-lt, div-lt-iff-lt-mul, mul-add-div-right, mul-add-mod-self-right, mul-le-mul-left, mul-le-mul-right, lt-of-lt-of-le, mul-assoc, add-mul, one-mul, zero-mul}
 use native.Mathlib.Numerals.{add-one}
 use native.Mathlib.Omega.{arith}
 use lib.Dec.{T, ltb, ltb→lt, lt→ltb}

@@ -1,21 +1,18 @@
 -- What P and U bytes mean, and when: a scan from the left decides whether they are a value, and a value is its digits and its sign.
 -- Assumes nothing.
-use mathlib.Core.Path.{_≡_, refl, sym, _∙_, ap}
-use mathlib.Core.Bool.{Bool, true, false, _&&_, _||_, and-true, false≢true}
-use mathlib.Core.List.{List, [], _∷_, _++_, map}
-use Prim.Native.Nat.{ℕ, zero, suc, _+_, _-_, _*_, _/_, _%_, _^_, _≤_, _<_}
+use mathlib.Core.Path.{_≡_, refl, _∙_, ap}
+use mathlib.Core.Bool.{Bool, true, false, _&&_, _||_, and-true}
+use mathlib.Core.List.{List, [], _∷_, map}
+use Prim.Native.Nat.{ℕ, _+_, _/_, _%_, _≤_, _<_}
 use native.Mathlib.Numerals.{add-one}
 use native.Mathlib.Omega.{arith}
-use lib.Dec.{T, eqb, leb, ltb, leb→le, lt→ltb, eqb→eq}
-use lib.ListN.{length, drop, getD, length-map, drop-of-length-le}
+use lib.Dec.{eqb, leb}
+use lib.ListN.{length, drop, getD, drop-of-length-le}
 use lib.Seq.{drop-cons}
-use borrow.Author.Tests.{eqb-true}
 use Rattle.rules.specs.Outcome.{Outcome, done, refused, _>>=_, need, is-done}
 use Rattle.rules.specs.Lists.{Bytes, all, spelled, but-last, last}
-use Rattle.rules.specs.Values.{Format, packed, unpacked, Value, number, signed, halves, pairs, zoned, accepted-plus, accepted-minus, sign-means, decimal, meaning}
-use Rattle.rules.proofs.Steps.{by-test, true-T, T-true, and-left, and-right, not-done}
-use Rattle.decimals.specs.Decimals.{decimal-format, digits-of, sign-of, magnitude-of, is-minus, all-digits, places, encoded, is-sign, inner-byte, last-byte, value-bytes}
-use Rattle.decimals.proofs.Digits.{all-weaker}
+use Rattle.rules.specs.Values.{signed, halves, accepted-plus, accepted-minus, sign-means, decimal, meaning}
+use Rattle.decimals.specs.Decimals.{decimal-format, is-sign, inner-byte, last-byte, value-bytes}
 
 -- ---- when they are a value
 

@@ -1,15 +1,15 @@
 -- The normal form of P and U: when a number fits, its bytes, when a value is in it, and a value carried to it. Assumes nothing.
 use mathlib.Core.Path.{_≡_, refl, sym, _∙_, ap}
-use mathlib.Core.Bool.{Bool, true, false, _&&_, and-true, false≢true}
+use mathlib.Core.Bool.{Bool, true, false, and-true, false≢true}
 use mathlib.Core.List.{List, [], _∷_, _++_}
-use Prim.Native.Nat.{ℕ, zero, suc, _+_, _-_, _*_, _/_, _%_, _^_, _≤_, _<_}
+use Prim.Native.Nat.{ℕ, zero, suc, _+_, _-_, _*_, _^_, _≤_, _<_}
 use native.Mathlib.Omega.{arith}
 use lib.Dec.{eqb, ltb}
 use lib.ListN.{length}
 use borrow.Author.Tests.{lt-ltb, eqb-true, eqb-false, eq-eqb, ne-eqb}
 use Rattle.rules.specs.Outcome.{Outcome, done, refused, _>>=_, need, is-done}
-use Rattle.rules.specs.Lists.{Bytes, bytes-of, same, spelled, digits}
-use Rattle.rules.specs.Values.{Format, packed, unpacked, Value, number, pairs, zoned, meaning, sign-written, normal, with-length-byte, in-normal-form, conversion, in-range, converted, carried}
+use Rattle.rules.specs.Lists.{Bytes, bytes-of, same}
+use Rattle.rules.specs.Values.{Format, Value, number, pairs, zoned, meaning, sign-written, normal, with-length-byte, in-normal-form, conversion, in-range, converted, carried}
 use Rattle.rules.proofs.Steps.{by-test, eqb-same}
 use Rattle.decimals.specs.Decimals.{decimal-format, digits-of, sign-of, magnitude-of, is-minus, Readable, places, encoded, written}
 use Rattle.decimals.proofs.Digits.{spelled-below, digits-spelled}

@@ -2,14 +2,14 @@
 use mathlib.Core.Path.{_≡_, refl, sym, _∙_, ap}
 use mathlib.Core.Bool.{Bool, true, false, _&&_, false≢true}
 use mathlib.Core.List.{List, [], _∷_, _++_, map}
-use Prim.Native.Nat.{ℕ, zero, suc, _+_, _-_, _*_, _/_, _%_, _^_, _≤_, _<_}
+use Prim.Native.Nat.{ℕ, _+_, _*_, _/_, _%_, _≤_, _<_}
 use native.Mathlib.Omega.{arith}
 use lib.Dec.{T, eqb, leb, ltb, leb→le, lt→ltb, eqb→eq}
 use lib.ListN.{length}
 use borrow.Author.Tests.{eqb-true, ne-eqb}
-use Rattle.rules.specs.Outcome.{Outcome, done, refused, _>>=_, need, is-done}
+use Rattle.rules.specs.Outcome.{Outcome, done, refused, is-done}
 use Rattle.rules.specs.Lists.{Bytes, all, spelled, but-last, last}
-use Rattle.rules.specs.Values.{Format, packed, unpacked, Value, number, signed, halves, pairs, zoned, accepted-plus, accepted-minus, sign-means, decimal, meaning}
+use Rattle.rules.specs.Values.{Value, number, signed, halves, pairs, zoned, accepted-plus, accepted-minus, sign-means, decimal, meaning}
 use Rattle.rules.proofs.Steps.{by-test, true-T, T-true, and-left, and-right, not-done, from-bind, from-need, done-inj}
 use Rattle.decimals.specs.Decimals.{decimal-format, digits-of, sign-of, magnitude-of, is-minus, all-digits, Readable, encoded, value-bytes}
 use Rattle.decimals.proofs.Digits.{all-weaker}

@@ -1,22 +1,20 @@
 -- Reading a value's digits from the left: x is what those before place i spell, and with those from i on it is the magnitude.
 -- Assumes nothing.
-use mathlib.Core.Path.{_≡_, refl, sym, _∙_, ap}
-use mathlib.Core.Bool.{Bool, true, false, _&&_, not}
+use mathlib.Core.Path.{_≡_, refl, sym, _∙_}
+use mathlib.Core.Bool.{Bool, true, false, not}
 use mathlib.Core.List.{List, [], _∷_}
-use Prim.Native.Nat.{ℕ, zero, suc, _+_, _-_, _*_, _^_, _≤_, _<_}
-use native.Mathlib.Nat.{pow-zero, pow-le-pow-right, lt-of-lt-of-le, le-trans}
+use Prim.Native.Nat.{ℕ, suc, _+_, _-_, _*_, _^_, _≤_, _<_}
+use native.Mathlib.Nat.{pow-le-pow-right, lt-of-lt-of-le, le-trans}
 use native.Mathlib.Numerals.{add-one}
 use native.Mathlib.Omega.{arith}
 use lib.Dec.{ltb, leb, lit<}
 use lib.ListN.{length, drop, getD, length-drop, drop-of-length-le}
 use lib.Seq.{drop-cons}
 use borrow.Author.Tests.{lt-ltb, le-ltb, le-leb, lt-leb}
-use Rattle.rules.specs.Outcome.{done}
 use Rattle.rules.specs.Limits.{greatest-word}
 use Rattle.rules.specs.Lists.{Bytes, spelled}
-use Rattle.rules.specs.Values.{meaning, number}
+use Rattle.rules.specs.Values.{meaning}
 use Rattle.words.specs.Words.{word-of, value-of, pick}
-use Rattle.words.specs.declared.Word.{Word}
 use Rattle.words.specs.declared.Word.the-variants.{Number, Outside}
 use Rattle.buffer.proofs.Cases.{by-order}
 use Rattle.decimals.specs.Decimals.{decimal-format, digits-of, magnitude-of, is-minus, all-digits, Readable, places, place}

@@ -1,14 +1,13 @@
 -- The ten digits of a number as bytes of U: they can be read, and spell the number. Assumes nothing.
-use mathlib.Core.Path.{_≡_, refl, sym, _∙_, ap}
-use mathlib.Core.Bool.{Bool, true, false}
+use mathlib.Core.Path.{_≡_, refl, sym, _∙_}
+use mathlib.Core.Bool.{false}
 use mathlib.Core.List.{List, [], _∷_, _++_, map, append-assoc, append-nil}
-use Prim.Native.Nat.{ℕ, zero, suc, _+_, _-_, _*_, _/_, _%_, _^_, _≤_, _<_}
-use native.Mathlib.Numerals.{add-one}
+use Prim.Native.Nat.{ℕ, zero, suc, _-_, _/_, _%_, _^_, _≤_, _<_}
 use native.Mathlib.Omega.{arith}
 use lib.Dec.{T, ltb, leb, ltb→lt, le→leb, lit<}
-use lib.ListN.{length, drop, getD, set, length-set, drop-of-length-le}
+use lib.ListN.{length, drop, set, length-set, drop-of-length-le}
 use lib.Seq.{drop-cons, drop-set-lt, getD-set-same}
-use Rattle.rules.specs.Lists.{all, spelled, digits}
+use Rattle.rules.specs.Lists.{all, digits}
 use Rattle.rules.proofs.Steps.{T-true, and-left, and-right}
 use Rattle.decimals.specs.Decimals.{digits-of, magnitude-of, all-digits, Readable}
 use Rattle.decimals.proofs.Digits.{all-weaker, all-digits-below, spelled-digits, length-digits}

@@ -6,7 +6,7 @@ use Prim.Native.Nat.{ℕ, zero, suc, _+_, _-_, _*_, _≤_, _<_}
 use native.Mathlib.Omega.{arith}
 use lib.ListN.{length, getD, length-append, List·getD-append}
 use lib.Seq.{getD-at}
-use Rattle.rules.specs.Lists.{Bytes, digits}
+use Rattle.rules.specs.Lists.{digits}
 use Rattle.rules.specs.Values.{pairs, zoned, sign-written}
 use Rattle.decimals.specs.Decimals.{places, encoded, written, place}
 use Rattle.decimals.proofs.Digits.{length-digits, digits-at}

@@ -1,5 +1,5 @@
 // Formats P and U: is it a value, is it in normal form, does it fit, and its bytes, between P and U and to and from numbers.
-// `packed` selects the format: P where it is true, else U.
+// `packed` selects the format of a value, P where it is true, else U; `target` likewise that of the bytes to write.
 ghost use mathlib.Core.Path.{_≡_};
 ghost use mathlib.Core.Bool.{_&&_, true, false};
 ghost use Prim.Native.Nat.{_+_, _≤_, _<_, _^_};
@@ -17,6 +17,7 @@ use words::Word;
 // 2,147,483,648: no magnitude in a conversion range is greater.
 const GREATEST_MAGNITUDE: u64 = 2147483648;
 
+// "C and F for plus, D for minus".
 fn is_sign(h: u8) -> bool
     ensures { λ r. ⌜ r ≡ is-sign h ⌝ }
 {
@@ -29,12 +30,14 @@ fn is_sign(h: u8) -> bool
     h == 0xD
 }
 
+// The halves of a last byte.
 fn digit_and_sign(d: u8, h: u8) -> bool
     ensures { λ r. ⌜ r ≡ (leb d 9 && is-sign h) ⌝ }
 {
     if d <= 9 { is_sign(h) } else { false }
 }
 
+// A byte before the last, and the last.
 fn inner_byte(b: u8, packed: bool) -> bool
     ensures { λ r. ⌜ r ≡ inner-byte packed b ⌝ }
 {
@@ -98,6 +101,7 @@ fn digit(s: &[u8], packed: bool, i: usize) -> u8
     }
 }
 
+// The sign's half byte.
 fn sign(s: &[u8], packed: bool) -> u8
     requires { ⌜ 0 < length (now s) ⌝ }
     ensures { λ r. ⌜ r ≡ sign-of packed (now (s .entry)) ⌝ }
@@ -153,7 +157,7 @@ pub fn is_normal(s: &[u8], packed: bool) -> bool
     }
 }
 
-// Whether the value s fits n bytes of P (target) or U.
+// Whether the value s fits n bytes.
 pub fn fits(s: &[u8], packed: bool, target: bool, n: usize) -> bool
     requires { ⌜ (is-done (meaning (decimal-format packed) (now s)) ≡ true) × (length (now s) ≤ 253) × (0 < n) × (n ≤ 29) ⌝ }
     ensures { λ r. ⌜ r ≡ is-done (carried (decimal-format packed) (decimal-format target) n (now (s .entry))) ⌝ }
@@ -224,6 +228,7 @@ fn unpacked_byte(s: &[u8], packed: bool, negative: bool, n: usize, i: usize) -> 
     }
 }
 
+// Byte i of the n bytes with the digits of s.
 fn written_byte(s: &[u8], packed: bool, negative: bool, target: bool, n: usize, i: usize) -> u8
     requires { ⌜ Readable packed (now s) × (i < n) × (n ≤ 29) ⌝ }
     ensures { λ r. ⌜ r ≡ getD (written target n negative (magnitude-of packed (now (s .entry)))) i 0 ⌝ }
@@ -235,7 +240,7 @@ fn written_byte(s: &[u8], packed: bool, negative: bool, target: bool, n: usize, 
     }
 }
 
-// The digits of s, with the sign of negative, to n bytes of P (target) or U in out from at on.
+// The digits of s, with the sign of negative, to n bytes of out from at on.
 fn write_digits(
     s: &[u8],
     packed: bool,
@@ -255,10 +260,9 @@ fn write_digits(
     }
 }
 
-// The value s, which fits, to n bytes of P (target) or U in out from at on.
+// The value s, which fits, to n bytes of out from at on.
 pub fn carry(s: &[u8], packed: bool, target: bool, n: usize, out: &mut [u8], at: usize)
-    requires { ⌜ (is-done (carried (decimal-format packed) (decimal-format target) n (now s)) ≡ true) × (length (now s) ≤ 253) ⌝ }
-    requires { ⌜ (0 < n) × (n ≤ 29) × (at + n ≤ length (now out)) ⌝ }
+    requires { ⌜ (is-done (carried (decimal-format packed) (decimal-format target) n (now s)) ≡ true) × (length (now s) ≤ 253) × (0 < n) × (n ≤ 29) × (at + n ≤ length (now out)) ⌝ }
     ensures { λ _. ⌜ now (out .exit) ≡ splice at (bytes-of (carried (decimal-format packed) (decimal-format target) n (now (s .entry)))) (now (out .entry)) ⌝ }
 {
     write_digits(s, packed, negative(s, packed), target, n, out, at);

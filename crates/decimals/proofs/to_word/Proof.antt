@@ -1,6 +1,5 @@
 -- `decimals::to_word` meets its contract: the digits are read from the left, and what is too great so far stays so. Assumes nothing.
-use mathlib.Core.Path.{_≡_, sym, _∙_}
-use Prim.Native.Nat.{_-_, _≤_, _*_, _+_}
+use Prim.Native.Nat.{_-_, _≤_}
 use native.Mathlib.Omega.{arith}
 use Rattle.decimals.proofs.Sound.{sound, readable}
 use Rattle.decimals.proofs.Spelling.{Spelling, spelling-start, spelling-turn, spelling-over, spelling-end, word-outside, word-number}

@@ -1,5 +1,5 @@
 -- `decimals::within` meets its contract: zeros from the left are passed until at most m digits are left. Assumes nothing.
-use mathlib.Core.Path.{_≡_, sym, _∙_}
+use mathlib.Core.Path.{sym, _∙_}
 use Prim.Native.Nat.{_-_}
 use native.Mathlib.Omega.{arith}
 use Rattle.decimals.proofs.Spelling.{Spelling, spelling-start, spelling-zero, spelling-more, spelling-fits}
