@@ -1,3 +1,4 @@
 pub mod EmptyBody
 pub mod Walks
 pub mod Checking
+pub mod Cells
