@@ -2,3 +2,5 @@ pub mod EmptyBody
 pub mod Walks
 pub mod Checking
 pub mod Cells
+pub mod Passing
+pub mod Lookups

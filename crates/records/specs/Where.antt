@@ -1,7 +1,7 @@
 -- Which entry a name stands for, and which entries lie in a periodic group, by their numbers in the table.
 use mathlib.Core.Path.{_≡_}
 use mathlib.Core.Bool.{Bool, true, false}
-use mathlib.Core.List.{List, [], _∷_}
+use mathlib.Core.List.{List, [], _∷_, _++_}
 use Prim.Native.Nat.{ℕ, zero, suc, _≤_, _<_}
 use lib.Dec.{eqb}
 use lib.ListN.{getD}
@@ -23,10 +23,11 @@ First n (e ∷ es) (suc j) = (eqb (e .name) n ≡ false) × First n es j
 abbrev pub Deeper : List Entry → Entry → ℕ → ℕ → Type 0
 Deeper es d g j = (k : ℕ) → g < k → k ≤ j → 1 < getD es k d .level
 
--- The fields among some entries.
+-- The field that an entry is, if it is one; and the fields among some entries.
+unfoldable pub field-of : ℕ → What → List Field
+field-of n (field f s mu) = record { name = n; format = f; size = s; multiple = mu } ∷ []
+field-of n (group p) = []
+
 unfoldable pub fields-of : List Entry → List Field
 fields-of [] = []
-fields-of (e ∷ es) = elim (e .what) [
-  | field f n m ↦ record { name = e .name; format = f; size = n; multiple = m } ∷ fields-of es
-  | group p ↦ fields-of es
-]
+fields-of (e ∷ es) = field-of (e .name) (e .what) ++ fields-of es
