@@ -3,4 +3,5 @@ pub mod Walks
 pub mod Checking
 pub mod Cells
 pub mod Passing
+pub mod Groups
 pub mod Lookups

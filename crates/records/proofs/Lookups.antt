@@ -6,6 +6,7 @@ use mathlib.Core.Option.{Option, none, some}
 use Prim.Native.Nat.{ℕ, zero, suc, pred, _+_, _-_, _≤_, _<_}
 use native.Mathlib.Nat.{not-suc-le-zero, le-of-suc-le-suc}
 use native.Mathlib.Omega.{arith}
+use borrow.Author.Tests.{le-ltb}
 use lib.Dec.{eqb, ltb}
 use lib.ListN.{length, drop, getD}
 use Rattle.rules.specs.Outcome.{Outcome, done, refused, _>>=_}
@@ -17,20 +18,11 @@ use Rattle.rules.proofs.Steps.{by-test}
 use Rattle.records.specs.Walk.{start-of}
 use Rattle.records.specs.Where.{inside-from, First, Deeper, field-of}
 use Rattle.records.proofs.Cells.{each-first, counted-once}
+use Rattle.records.proofs.Groups.{first-within, first-name, member-below}
 use Rattle.records.proofs.Passing.{Unnamed, unnamed, Clear, parts-at, Reached, reach}
 
 never : {b : Bool} → b ≡ false → b ≡ true → ⊥
 never p q = let z : _≡_ {A = ℕ} 0 1 = cc in omega arith
-
-first-within : (n : ℕ) (es : List Entry) (j : ℕ) → First n es j → j < length es
-first-within n [] j f = absurd f
-first-within n (e ∷ es) zero f = omega arith
-first-within n (e ∷ es) (suc j) f = let l = first-within n es j (f .1) in omega arith
-
-first-name : (n : ℕ) (es : List Entry) (d : Entry) (j : ℕ) → First n es j → eqb (getD es j d .name) n ≡ true
-first-name n [] d j f = absurd f
-first-name n (e ∷ es) d zero f = f
-first-name n (e ∷ es) d (suc j) f = first-name n es d j (f .1)
 
 -- A field alone, before other parts.
 alone-here : {C : Type 0} (m n : ℕ) (f : Format) (s : ℕ) (mu : Bool) (es : List Entry) (ps : List Part) (bs : Bytes) (r : Record) (rest : Bytes)
@@ -44,6 +36,27 @@ alone-here m n f s mu es ps bs r rest q p k =
     each-first stored-cell x [] bs h₁ λ c cs mid₁ e₂ h₂ t₂.
     k mid₁ (rw (e, q, e₁, e₂, q) h₂)
 
+-- A periodic group, before other parts.
+group-here : {C : Type 0} (inside : Bool) (m : ℕ) (es : List Entry) (ps : List Part) (bs : Bytes) (r : Record) (rest : Bytes)
+    → each stored-part (part-of inside m (group true) es ps) bs ≡ done (r, rest)
+    → ((os : List Occurrence) (mid : Bytes) → stored-part (record { name = m; periodic = true; members = fields-below 1 es }) bs ≡ done (os, mid)
+    → ((n : ℕ) → eqb m n ≡ true → group-count-at (part-of inside m (group true) es ps) r n ≡ length os)
+    → ((n : ℕ) (f : Field) → member n (fields-below 1 es) ≡ some f → (i : ℕ) → values-at (part-of inside m (group true) es ps) r n i ≡ cell-of n (fields-below 1 es) (getD os (pred i) []))
+    → C) → C
+unfolding part-of each group-count-at values-at
+group-here inside m es ps bs r rest p k =
+    let x : Part = record { name = m; periodic = true; members = fields-below 1 es } in
+    each-first stored-part x ps bs p λ os r′ mid e h t.
+    k os mid h (λ n q. rw (e, q) refl) (λ n f q i. rw (e, q) refl)
+
+-- A periodic group, entry g: its occurrences stand at its place, they are counted, and each has a cell for a field in the group.
+pub record Grouped (before : Bool) (es : List Entry) (bs : Bytes) (r : Record) (d : Entry) (g : ℕ) (os : List Occurrence) (mid : Bytes) : Type 0 where
+  pub stands : stored-part (record { name = getD es g d .name; periodic = true; members = fields-below 1 (drop (suc g) es) }) (start-of before es bs g) ≡ done (os, mid)
+  pub count : (n : ℕ) → First n es g → group-count-at (parts-from before es) r n ≡ length os
+  pub values : getD es g d .level ≤ 1 → (n j : ℕ) → g < j → Deeper es d g j → First n es j
+      → (f : Format) (s : ℕ) (mu : Bool) → getD es j d .what ≡ field f s mu
+      → (i : ℕ) → values-at (parts-from before es) r n i ≡ cell-of n (fields-below 1 (drop (suc g) es)) (getD os (pred i) [])
+
 module _ (before : Bool) (es : List Entry) (bs : Bytes) (r : Record) (rest : Bytes) (whole : each stored-part (parts-from before es) bs ≡ done (r, rest)) (d : Entry) where
   -- The values of a field outside periodic groups are the cell at its entry's place.
   pub outside : {C : Type 0} (n j : ℕ) (f : Format) (s : ℕ) (mu : Bool) → First n es j → inside-from before es j ≡ false → getD es j d .what ≡ field f s mu
@@ -52,3 +65,17 @@ module _ (before : Bool) (es : List Entry) (bs : Bytes) (r : Record) (rest : Byt
       reach before es bs r rest d j (first-within n es j first) whole λ r′ q.
       alone-here (getD es j d .name) n f s mu (drop (suc j) es) _ (start-of before es bs j) r′ rest (first-name n es d j first) (rw (out, what) at (q .stands)) λ mid h.
       k mid (h ∙ rw (q .values n (unnamed n es j j (omega arith) first) (λ t i. never out i) 1, out, what) refl)
+
+  -- The occurrences of a periodic group are what stands at its entry's place.
+  pub grouped : {C : Type 0} (g : ℕ) → g < length es → getD es g d .what ≡ group true → ((os : List Occurrence) (mid : Bytes) → Grouped before es bs r d g os mid → C) → C
+  grouped g l what k =
+      reach before es bs r rest d g l whole λ r′ q.
+      group-here (inside-from before es g) (getD es g d .name) (drop (suc g) es) (parts-from (inside-from before es g) (drop (suc g) es)) (start-of before es bs g) r′ rest
+      (rw what at (q .stands)) λ os mid h c v.
+      k os mid (record {
+        stands = h;
+        count = λ n first. q .counts n (unnamed n es g g (omega arith) first) ∙ rw what (c n (first-name n es d g first));
+        values = λ top n j o deep first f s mu w i.
+            q .values n (unnamed n es g j (omega arith) first) (λ t z. never (le-ltb 1 (getD es g d .level) top) t) i
+            ∙ rw what (v n _ (member-below es d g j n o deep first f s mu w) i);
+      })

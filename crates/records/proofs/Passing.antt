@@ -43,7 +43,7 @@ stays level (group false) t = t
 
 -- An entry of a level above 1 adds its field, if it is one, to those behind it; an entry of level 1 ends them.
 module _ (e : Entry) (es : List Entry) where
-  below-on : ltb 1 (e .level) ≡ true → fields-below 1 (e ∷ es) ≡ field-of (e .name) (e .what) ++ fields-below 1 es
+  pub below-on : ltb 1 (e .level) ≡ true → fields-below 1 (e ∷ es) ≡ field-of (e .name) (e .what) ++ fields-below 1 es
   unfolding fields-below field-of
   below-on t = rw (t, fields-below) (go (e .what))
     where
@@ -56,7 +56,7 @@ module _ (e : Entry) (es : List Entry) where
   unfolding fields-below
   below-end t = rw (t, fields-below) refl
 
-other-name : (n m : ℕ) (w : What) (fs : List Field) → eqb m n ≡ false → member n (field-of m w ++ fs) ≡ member n fs
+pub other-name : (n m : ℕ) (w : What) (fs : List Field) → eqb m n ≡ false → member n (field-of m w ++ fs) ≡ member n fs
 unfolding field-of member
 other-name n m (field f s mu) fs q = rw (q, member) refl
 other-name n m (group p) fs q = refl
