@@ -18,17 +18,8 @@ use Rattle.rules.specs.Record.{Occurrence, each, stored-cell, cell-of}
 use Rattle.rules.proofs.Steps.{by-test, not-some}
 use Rattle.records.specs.Where.{First, Deeper, field-of, fields-of}
 use Rattle.records.proofs.Cells.{members-at}
+use Rattle.records.proofs.Entries.{first-within, first-name}
 use Rattle.records.proofs.Passing.{below-on, other-name}
-
-pub first-within : (n : ℕ) (es : List Entry) (j : ℕ) → First n es j → j < length es
-first-within n [] j f = absurd f
-first-within n (e ∷ es) zero f = omega arith
-first-within n (e ∷ es) (suc j) f = let l = first-within n es j (f .1) in omega arith
-
-pub first-name : (n : ℕ) (es : List Entry) (d : Entry) (j : ℕ) → First n es j → eqb (getD es j d .name) n ≡ true
-first-name n [] d j f = absurd f
-first-name n (e ∷ es) d zero f = f
-first-name n (e ∷ es) d (suc j) f = first-name n es d j (f .1)
 
 -- The entries up to entry j all lie deeper than level 1.
 split-first : (es : List Entry) (d : Entry) (j : ℕ) → j < length es → ((k : ℕ) → k ≤ j → 1 < getD es k d .level)

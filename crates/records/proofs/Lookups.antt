@@ -18,11 +18,9 @@ use Rattle.rules.proofs.Steps.{by-test}
 use Rattle.records.specs.Walk.{start-of}
 use Rattle.records.specs.Where.{inside-from, First, Deeper, field-of}
 use Rattle.records.proofs.Cells.{each-first, counted-once}
-use Rattle.records.proofs.Groups.{first-within, first-name, member-below}
+use Rattle.records.proofs.Groups.{member-below}
+use Rattle.records.proofs.Entries.{never, first-within, first-name}
 use Rattle.records.proofs.Passing.{Unnamed, unnamed, Clear, parts-at, Reached, reach}
-
-never : {b : Bool} → b ≡ false → b ≡ true → ⊥
-never p q = let z : _≡_ {A = ℕ} 0 1 = cc in omega arith
 
 -- A field alone, before other parts.
 alone-here : {C : Type 0} (m n : ℕ) (f : Format) (s : ℕ) (mu : Bool) (es : List Entry) (ps : List Part) (bs : Bytes) (r : Record) (rest : Bytes)
