@@ -6,3 +6,4 @@ pub mod Entries
 pub mod Passing
 pub mod Groups
 pub mod Lookups
+pub mod Homes
