@@ -1,15 +1,15 @@
 -- What readers one behind the other took, each at its place: an occurrence of a part, a member of an occurrence, a value of a cell.
 use mathlib.Core.Path.{_≡_, refl, sym, _∙_, ap}
-use mathlib.Core.Bool.{Bool, true, false, _&&_}
+use mathlib.Core.Bool.{true, false}
 use mathlib.Core.List.{List, [], _∷_, _++_}
-use mathlib.Core.Option.{Option, none, some}
-use Prim.Native.Nat.{ℕ, zero, suc, _+_, _*_, _-_, _≤_, _<_}
+use mathlib.Core.Option.{none}
+use Prim.Native.Nat.{ℕ, zero, suc, _*_, _≤_, _<_}
 use native.Mathlib.Nat.{not-suc-le-zero, le-of-suc-le-suc, zero-mul, suc-mul, add-comm}
 use native.Mathlib.Omega.{arith}
 use lib.Dec.{eqb, leb, leb→le}
 use lib.ListN.{length, take, drop, getD}
 use lib.Seq.{drop-at, drop-drop}
-use Rattle.rules.specs.Outcome.{Outcome, done, refused, _>>=_, need}
+use Rattle.rules.specs.Outcome.{done}
 use Rattle.rules.specs.Limits.{highest-index}
 use Rattle.rules.specs.Lists.{Bytes}
 use Rattle.rules.specs.Values.{Format, first-value, content, with-length-byte, in-normal-form}
@@ -77,6 +77,28 @@ members-at n [] f ms₂ bs m q p c = each-first stored-cell f ms₂ bs p λ x zs
 members-at n (g ∷ ms₁) f ms₂ bs m q p c = each-first stored-cell g (ms₁ ++ f ∷ ms₂) bs p λ x zs mid e h t.
     by-test (eqb (g .name) n) (λ y. absurd (not-some (sym (rw (y, member) at m)))) λ y.
     members-at n ms₁ f ms₂ mid (rw (y, member) at m) q t λ cs₁ mid₁ next h₁ h₂. c (x ∷ cs₁) mid₁ next (rw (h, h₁) refl) (rw (e, y, cell-of) h₂)
+
+-- A cell of an MU field stands behind its count; another is its one value.
+module _ {C : Type 0} (n : ℕ) (f : Format) (s : ℕ) (bs : Bytes) {rest : Bytes} {vs : Cell} where
+  pub cell-many : stored-cell (record { name = n; format = f; size = s; multiple = true }) bs ≡ done (vs, rest)
+      → ((tail : Bytes) → bs ≡ length vs ∷ tail → length vs ≤ highest-index → times (length vs) (stored-value f s) tail ≡ done (vs, rest) → C) → C
+  unfolding stored-cell
+  cell-many p = counted-many (stored-value f s) bs p
+
+  pub cell-once : stored-cell (record { name = n; format = f; size = s; multiple = false }) bs ≡ done (vs, rest)
+      → ((v : Bytes) → vs ≡ v ∷ [] → stored-value f s bs ≡ done (v, rest) → C) → C
+  unfolding stored-cell
+  cell-once p = counted-once (stored-value f s) bs p
+
+not-nil : {x : ℕ} {xs : Bytes} → _≡_ {A = Bytes} [] (x ∷ xs) → ⊥
+not-nil p = let z : _≡_ {A = ℕ} 0 1 = cc in omega arith
+
+-- The byte at a place, where the bytes from there on are known.
+pub byte-there : (b : Bytes) (at : ℕ) {x : ℕ} {tail : Bytes} → drop at b ≡ x ∷ tail → (at < length b) × (getD b at 0 ≡ x) × (tail ≡ drop (suc at) b)
+byte-there [] zero p = absurd (not-nil p)
+byte-there [] (suc at) p = absurd (not-nil p)
+byte-there (y ∷ b) zero p = (omega arith, cc, cc)
+byte-there (y ∷ b) (suc at) p = let (l, g, t) = byte-there b at p in (omega arith, g, t)
 
 content-back : (n : ℕ) (c : Bytes) → content n (with-length-byte n c) ≡ c
 unfolding content with-length-byte

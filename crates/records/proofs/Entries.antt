@@ -1,20 +1,19 @@
 -- Entries by their numbers: the first with a name, whether one lies in a periodic group and in which, each by induction over the entries before it.
-use mathlib.Core.Path.{_≡_, refl, sym, _∙_, ap}
-use mathlib.Core.Bool.{Bool, true, false, not, _&&_, _||_}
-use mathlib.Core.List.{List, [], _∷_, map}
-use Prim.Native.Nat.{ℕ, zero, suc, _≤_, _<_}
+use mathlib.Core.Path.{_≡_, refl}
+use mathlib.Core.Bool.{Bool, true, false, not}
+use mathlib.Core.List.{List, [], _∷_}
+use Prim.Native.Nat.{ℕ, zero, suc, _<_}
 use native.Mathlib.Nat.{not-suc-le-zero, le-of-suc-le-suc}
 use native.Mathlib.Omega.{arith}
-use borrow.Author.Tests.{lt-ltb, le-ltb, ne-eqb}
-use lib.Dec.{T, eqb, ltb, eqb-refl}
+use borrow.Author.Tests.{ne-eqb}
+use lib.Dec.{T, eqb, eqb-refl}
 use lib.ListN.{length, drop, getD}
-use Rattle.rules.specs.Outcome.{Outcome, done}
+use Rattle.rules.specs.Outcome.{done}
 use Rattle.rules.specs.Lists.{all}
-use Rattle.rules.specs.Table.{What, field, group, Entry, is-inside, inside-of, names, differ}
-use Rattle.rules.specs.Use.{Found, find-from}
-use Rattle.rules.proofs.Steps.{and-left, and-right, T-true, eqb-same}
-use Rattle.buffer.proofs.Cases.{by-order}
-use Rattle.records.specs.Where.{inside-from, First, Deeper}
+use Rattle.rules.specs.Table.{group, Entry, is-inside, names, differ}
+use Rattle.rules.specs.Use.{find-from}
+use Rattle.rules.proofs.Steps.{and-left, and-right, eqb-same}
+use Rattle.records.specs.Where.{inside-from, First}
 
 pub never : {b : Bool} → b ≡ false → b ≡ true → ⊥
 never p q = let z : _≡_ {A = ℕ} 0 1 = cc in omega arith

@@ -1,8 +1,8 @@
 -- The fields of a periodic group by their entries: those between the group and an entry in it, then that entry's own, then the others.
 use mathlib.Core.Path.{_≡_, refl, sym, _∙_, ap}
-use mathlib.Core.Bool.{Bool, true, false}
+use mathlib.Core.Bool.{Bool, true}
 use mathlib.Core.List.{List, [], _∷_, _++_, append-assoc}
-use mathlib.Core.Option.{Option, none, some}
+use mathlib.Core.Option.{none, some}
 use Prim.Native.Nat.{ℕ, zero, suc, _≤_, _<_}
 use native.Mathlib.Nat.{not-suc-le-zero, le-of-suc-le-suc}
 use native.Mathlib.Omega.{arith}
@@ -13,7 +13,7 @@ use lib.Seq.{slice}
 use Rattle.rules.specs.Outcome.{done}
 use Rattle.rules.specs.Lists.{Bytes}
 use Rattle.rules.specs.Values.{Format}
-use Rattle.rules.specs.Table.{What, field, group, Entry, Field, fields-below, member}
+use Rattle.rules.specs.Table.{field, group, Entry, Field, fields-below, member}
 use Rattle.rules.specs.Record.{Occurrence, each, stored-cell, cell-of}
 use Rattle.rules.proofs.Steps.{by-test, not-some}
 use Rattle.records.specs.Where.{First, Deeper, field-of, fields-of}

@@ -2,18 +2,19 @@
 use mathlib.Core.Path.{_≡_, refl, sym, _∙_, ap}
 use mathlib.Core.Bool.{Bool, true, false, _&&_, _||_}
 use mathlib.Core.List.{List, [], _∷_}
-use mathlib.Core.Option.{Option, none, some}
+use mathlib.Core.Option.{none}
 use Prim.Native.Nat.{ℕ, zero, suc, _≤_, _<_}
 use native.Mathlib.Nat.{not-suc-le-zero, le-of-suc-le-suc}
 use native.Mathlib.Omega.{arith}
 use borrow.Author.Tests.{lt-ltb, le-ltb, eqb-true}
 use lib.Dec.{T, eqb, leb, ltb, eqb→eq}
-use lib.ListN.{length, getD}
-use Rattle.rules.specs.Outcome.{Outcome, done, refused, _>>=_, need}
+use lib.ListN.{length, take, drop, getD}
+use Rattle.rules.specs.Outcome.{done}
+use Rattle.rules.specs.Limits.{most-entries}
 use Rattle.rules.specs.Characters.{space}
-use Rattle.rules.specs.Lists.{Bytes}
+use Rattle.rules.specs.Lists.{Bytes, same}
 use Rattle.rules.specs.Values.{Format, allowed}
-use Rattle.rules.specs.Table.{What, field, group, Entry, is-name, name-of, format-of, what-of, entries, is-inside, inside-of}
+use Rattle.rules.specs.Table.{What, field, group, Entry, table-head, is-name, name-of, format-of, what-of, entries, levels, differ, names, table, is-inside, inside-of}
 use Rattle.rules.proofs.Steps.{from-bind, from-need, not-done, done-inj, by-option, and-right}
 use Rattle.buffer.proofs.Cases.{by-order}
 use Rattle.records.specs.Where.{inside-from, Deeper}
@@ -99,3 +100,13 @@ entries-top (suc n) (a ∷ b ∷ l ∷ f ∷ s ∷ o ∷ bs) es d p =
     from-bind (what-of l f s o) _ k λ w h k₂.
     from-bind (entries n bs) _ k₂ λ fs h₂ k₃.
     rw (← done-inj k₃) (top-first (record { name = name-of a b; level = l; what = w }) fs d (λ q. what-top l f s o (h ∙ ap done q)) (entries-top n bs fs d h₂))
+
+-- What the other laws ask of the entries, from the table that they stand in.
+pub table-top : (bs : Bytes) (es : List Entry) (d : Entry) → table bs ≡ done es → Top es d × T (differ (names es))
+unfolding table
+table-top bs es d p =
+    from-need (same (take 5 bs) table-head) 1 _ p λ t k.
+    from-need (leb 1 (getD bs 5 0) && leb (getD bs 5 0) most-entries) 1 _ k λ t₂ k₂.
+    from-bind (entries (getD bs 5 0) (drop 6 bs)) _ k₂ λ fs h k₃.
+    from-need (levels (group false) 0 fs && differ (names fs)) 1 _ k₃ λ t₃ k₄.
+    rw (← done-inj k₄) (entries-top (getD bs 5 0) (drop 6 bs) fs d h, and-right (levels (group false) 0 fs) (differ (names fs)) t₃)

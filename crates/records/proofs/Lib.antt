@@ -6,4 +6,5 @@ pub mod Entries
 pub mod Passing
 pub mod Groups
 pub mod Lookups
+pub mod Occurrences
 pub mod Homes

@@ -1,26 +1,24 @@
 -- Where the values of a name lie in a record: its entry is reached, and its part, or the periodic group that it lies in, is the first from there on.
-use mathlib.Core.Path.{_≡_, refl, sym, _∙_, ap}
+use mathlib.Core.Path.{_≡_, refl, _∙_}
 use mathlib.Core.Bool.{Bool, true, false}
-use mathlib.Core.List.{List, [], _∷_, _++_}
-use mathlib.Core.Option.{Option, none, some}
-use Prim.Native.Nat.{ℕ, zero, suc, pred, _+_, _-_, _≤_, _<_}
-use native.Mathlib.Nat.{not-suc-le-zero, le-of-suc-le-suc}
+use mathlib.Core.List.{List, [], _∷_}
+use mathlib.Core.Option.{some}
+use Prim.Native.Nat.{ℕ, suc, pred, _≤_, _<_}
 use native.Mathlib.Omega.{arith}
 use borrow.Author.Tests.{le-ltb}
-use lib.Dec.{eqb, ltb}
+use lib.Dec.{eqb}
 use lib.ListN.{length, drop, getD}
-use Rattle.rules.specs.Outcome.{Outcome, done, refused, _>>=_}
+use Rattle.rules.specs.Outcome.{done}
 use Rattle.rules.specs.Lists.{Bytes}
 use Rattle.rules.specs.Values.{Format}
-use Rattle.rules.specs.Table.{What, field, group, Entry, Field, Part, fields-below, alone, part-of, parts-from, member}
-use Rattle.rules.specs.Record.{Cell, Occurrence, Record, each, stored-cell, stored-part, cell-of, values-at, group-count-at}
-use Rattle.rules.proofs.Steps.{by-test}
+use Rattle.rules.specs.Table.{field, group, Entry, Field, Part, fields-below, alone, part-of, parts-from, member}
+use Rattle.rules.specs.Record.{Occurrence, Record, each, stored-cell, stored-part, cell-of, values-at, group-count-at}
 use Rattle.records.specs.Walk.{start-of}
-use Rattle.records.specs.Where.{inside-from, First, Deeper, field-of}
+use Rattle.records.specs.Where.{inside-from, First, Deeper}
 use Rattle.records.proofs.Cells.{each-first, counted-once}
 use Rattle.records.proofs.Groups.{member-below}
 use Rattle.records.proofs.Entries.{never, first-within, first-name}
-use Rattle.records.proofs.Passing.{Unnamed, unnamed, Clear, parts-at, Reached, reach}
+use Rattle.records.proofs.Passing.{unnamed, reach}
 
 -- A field alone, before other parts.
 alone-here : {C : Type 0} (m n : ℕ) (f : Format) (s : ℕ) (mu : Bool) (es : List Entry) (ps : List Part) (bs : Bytes) (r : Record) (rest : Bytes)

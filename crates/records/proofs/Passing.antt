@@ -1,22 +1,20 @@
 -- What stands from an entry on, by induction over the entries before it: their parts are passed, and hold nothing of a name that is not theirs.
-use mathlib.Core.Path.{_≡_, refl, sym, _∙_, ap}
-use mathlib.Core.Bool.{Bool, true, false, _&&_, _||_}
+use mathlib.Core.Path.{_≡_, refl, _∙_, ap}
+use mathlib.Core.Bool.{Bool, true, false}
 use mathlib.Core.List.{List, [], _∷_, _++_}
-use mathlib.Core.Option.{Option, none, some}
-use Prim.Native.Nat.{ℕ, zero, suc, pred, _+_, _-_, _≤_, _<_}
+use mathlib.Core.Option.{none}
+use Prim.Native.Nat.{ℕ, zero, suc, _≤_, _<_}
 use native.Mathlib.Nat.{not-suc-le-zero, le-of-suc-le-suc}
-use native.Mathlib.Omega.{arith}
 use lib.Dec.{eqb, ltb}
 use lib.ListN.{length, drop, getD}
-use Rattle.rules.specs.Outcome.{Outcome, done, refused, _>>=_}
+use Rattle.rules.specs.Outcome.{done}
 use Rattle.rules.specs.Lists.{Bytes}
-use Rattle.rules.specs.Values.{Format}
 use Rattle.rules.specs.Table.{What, field, group, Entry, Field, Part, is-inside, inside-of, fields-below, alone, part-of, parts-from, member}
-use Rattle.rules.specs.Record.{Cell, Occurrence, Record, Reader, each, counted, stored-cell, stored-part, cell-of, values-at, group-count-at}
-use Rattle.rules.proofs.Steps.{not-some, by-test}
-use Rattle.records.specs.Walk.{rest-of, bytes-left, behind, start-of}
-use Rattle.records.specs.Where.{inside-from, First, Deeper, field-of}
-use Rattle.records.proofs.Cells.{each-first, counted-once}
+use Rattle.rules.specs.Record.{Record, each, stored-part, values-at, group-count-at}
+use Rattle.rules.proofs.Steps.{by-test}
+use Rattle.records.specs.Walk.{rest-of, behind, start-of}
+use Rattle.records.specs.Where.{inside-from, First, field-of}
+use Rattle.records.proofs.Cells.{each-first}
 
 -- No entry before entry j has the name n.
 abbrev pub Unnamed : ℕ → List Entry → ℕ → Type 0
