@@ -9,7 +9,7 @@ use native.Mathlib.Omega.{arith}
 use lib.Dec.{eqb, leb, leb→le}
 use lib.ListN.{length, take, drop, getD}
 use lib.Seq.{drop-at, drop-drop}
-use Rattle.rules.specs.Outcome.{done}
+use Rattle.rules.specs.Outcome.{Outcome, done, _>>=_}
 use Rattle.rules.specs.Limits.{highest-index}
 use Rattle.rules.specs.Lists.{Bytes}
 use Rattle.rules.specs.Values.{Format, first-value, content, with-length-byte, in-normal-form}
@@ -19,21 +19,28 @@ use Rattle.rules.proofs.Steps.{from-bind, from-need, from-as, from-done, not-do
 use Rattle.rules.proofs.Readers.{cut-sound, value-sound}
 
 -- The first of several, and the others behind it.
+abbrev first-and : {X : Type 0} → Outcome (X × Bytes) → Reader (List X) → Outcome (List X × Bytes)
+first-and first others = do
+  x ← first
+  xs ← others (x .1)
+  done (x .0 ∷ xs .0, xs .1)
+
+from-both : {X C : Type 0} (first : Outcome (X × Bytes)) (others : Reader (List X)) {rest : Bytes} {xs : List X} → first-and first others ≡ done (xs, rest)
+    → ((x : X) (ys : List X) (mid : Bytes) → xs ≡ x ∷ ys → first ≡ done (x, mid) → others mid ≡ done (ys, rest) → C) → C
+from-both first others p k =
+    from-bind first _ p λ x h k₁.
+    from-bind (others (x .1)) _ k₁ λ ys h₂ k₂.
+    from-done k₂ λ e f. k (x .0) (ys .0) (x .1) (sym e) h (rw f at h₂)
+
 pub times-first : {X C : Type 0} (one : Reader X) (n : ℕ) (bs : Bytes) {rest : Bytes} {xs : List X} → times (suc n) one bs ≡ done (xs, rest)
     → ((x : X) (ys : List X) (mid : Bytes) → xs ≡ x ∷ ys → one bs ≡ done (x, mid) → times n one mid ≡ done (ys, rest) → C) → C
 unfolding times
-times-first one n bs p k =
-    from-bind (one bs) _ p λ x h k₁.
-    from-bind (times n one (x .1)) _ k₁ λ ys h₂ k₂.
-    from-done k₂ λ e f. k (x .0) (ys .0) (x .1) (sym e) h (rw f at h₂)
+times-first one n bs p k = from-both (one bs) (times n one) p k
 
 pub each-first : {X Y C : Type 0} (one : Y → Reader X) (y : Y) (ys : List Y) (bs : Bytes) {rest : Bytes} {xs : List X} → each one (y ∷ ys) bs ≡ done (xs, rest)
     → ((x : X) (zs : List X) (mid : Bytes) → xs ≡ x ∷ zs → one y bs ≡ done (x, mid) → each one ys mid ≡ done (zs, rest) → C) → C
 unfolding each
-each-first one y ys bs p k =
-    from-bind (one y bs) _ p λ x h k₁.
-    from-bind (each one ys (x .1)) _ k₁ λ zs h₂ k₂.
-    from-done k₂ λ e f. k (x .0) (zs .0) (x .1) (sym e) h (rw f at h₂)
+each-first one y ys bs p k = from-both (one y bs) (each one ys) p k
 
 pub times-none : {X : Type 0} (one : Reader X) (bs : Bytes) {rest : Bytes} {xs : List X} → times 0 one bs ≡ done (xs, rest) → (xs ≡ []) × (bs ≡ rest)
 unfolding times

@@ -1,5 +1,5 @@
 -- Entries by their numbers: the first with a name, whether one lies in a periodic group and in which, each by induction over the entries before it.
-use mathlib.Core.Path.{_≡_, refl}
+use mathlib.Core.Path.{_≡_, refl, sym}
 use mathlib.Core.Bool.{Bool, true, false, not}
 use mathlib.Core.List.{List, [], _∷_}
 use Prim.Native.Nat.{ℕ, zero, suc, _<_}
@@ -11,8 +11,8 @@ use lib.ListN.{length, drop, getD}
 use Rattle.rules.specs.Outcome.{done}
 use Rattle.rules.specs.Lists.{all}
 use Rattle.rules.specs.Table.{group, Entry, is-inside, names, differ}
-use Rattle.rules.specs.Use.{find-from}
-use Rattle.rules.proofs.Steps.{and-left, and-right, eqb-same}
+use Rattle.rules.specs.Use.{Found, find-from}
+use Rattle.rules.proofs.Steps.{done-inj, not-done, by-test, and-left, and-right, eqb-same}
 use Rattle.records.specs.Where.{inside-from, First}
 
 pub never : {b : Bool} → b ≡ false → b ≡ true → ⊥
@@ -35,6 +35,14 @@ unfolding find-from inside-from
 first-found before n [] d j f = absurd f
 first-found before n (e ∷ es) d zero f = rw (f, find-from) refl
 first-found before n (e ∷ es) d (suc j) f = rw (f .0, find-from) (first-found (is-inside before e) n es d j (f .1))
+
+pub found-first : {C : Type 0} (before : Bool) (n : ℕ) (es : List Entry) (d : Entry) (x : Found) → find-from before n es ≡ done x
+    → ((j : ℕ) → First n es j → x ≡ record { entry = getD es j d; inside = inside-from before es j; behind = drop (suc j) es } → C) → C
+unfolding find-from inside-from
+found-first before n [] d x p k = absurd (not-done p)
+found-first before n (e ∷ es) d x p k = by-test (eqb (e .name) n)
+    (λ t. k 0 t (sym (done-inj (rw (t, find-from) at p))))
+    (λ t. found-first (is-inside before e) n es d x (rw (t, find-from) at p) λ j f q. k (suc j) (t, f) q)
 
 -- An entry with the name, and none before it: what a search finds.
 pub first-of : (n : ℕ) (es : List Entry) (d : Entry) (j : ℕ) → j < length es → ((k : ℕ) → k < j → eqb (getD es k d .name) n ≡ false) → eqb (getD es j d .name) n ≡ true → First n es j
