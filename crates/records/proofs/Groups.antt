@@ -1,0 +1,74 @@
+-- The fields of a periodic group by their entries: those between the group and an entry in it, then that entry's own, then the others.
+use mathlib.Core.Path.{_≡_, refl, sym, _∙_, ap}
+use mathlib.Core.Bool.{Bool, true}
+use mathlib.Core.List.{List, [], _∷_, _++_, append-assoc}
+use mathlib.Core.Option.{none, some}
+use Prim.Native.Nat.{ℕ, zero, suc, _≤_, _<_}
+use native.Mathlib.Nat.{not-suc-le-zero, le-of-suc-le-suc}
+use native.Mathlib.Omega.{arith}
+use borrow.Author.Tests.{le-leb}
+use lib.Dec.{eqb}
+use lib.ListN.{length, take, drop, getD}
+use lib.Seq.{slice}
+use Rattle.rules.specs.Outcome.{done}
+use Rattle.rules.specs.Lists.{Bytes}
+use Rattle.rules.specs.Values.{Format}
+use Rattle.rules.specs.Table.{field, group, Entry, Field, fields-below, member}
+use Rattle.rules.specs.Record.{Occurrence, each, stored-cell, cell-of}
+use Rattle.rules.proofs.Steps.{by-test, not-some}
+use Rattle.records.specs.Where.{First, Deeper, field-of, fields-of}
+use Rattle.records.proofs.Cells.{members-at}
+use Rattle.records.proofs.Entries.{first-within, first-name}
+use Rattle.records.proofs.Passing.{below-on, other-name}
+
+-- The entries up to entry j all lie deeper than level 1.
+split-first : (es : List Entry) (d : Entry) (j : ℕ) → j < length es → ((k : ℕ) → k ≤ j → 1 < getD es k d .level)
+    → fields-below 1 es ≡ fields-of (take j es) ++ (field-of (getD es j d .name) (getD es j d .what) ++ fields-below 1 (drop (suc j) es))
+unfolding fields-of
+split-first [] d j l h = absurd (not-suc-le-zero l)
+split-first (e ∷ es) d zero l h = below-on e es (le-leb 2 (e .level) (h 0 (omega arith)))
+split-first (e ∷ es) d (suc j) l h = below-on e es (le-leb 2 (e .level) (h 0 (omega arith)))
+    ∙ ap (λ (fs : List Field). field-of (e .name) (e .what) ++ fs) (split-first es d j (le-of-suc-le-suc l) (λ k q. h (suc k) (omega arith)))
+    ∙ sym (append-assoc (field-of (e .name) (e .what)) (fields-of (take j es)) _)
+
+pub split-below : (es : List Entry) (d : Entry) (g j : ℕ) → g < j → j < length es → Deeper es d g j
+    → fields-below 1 (drop (suc g) es) ≡ fields-of (slice (suc g) j es) ++ (field-of (getD es j d .name) (getD es j d .what) ++ fields-below 1 (drop (suc j) es))
+split-below [] d g j o l h = absurd (not-suc-le-zero l)
+split-below (e ∷ es) d g zero o l h = absurd (not-suc-le-zero o)
+split-below (e ∷ es) d zero (suc j) o l h = split-first es d j (le-of-suc-le-suc l) (λ k q. h (suc k) (omega arith) (omega arith))
+split-below (e ∷ es) d (suc g) (suc j) o l h = split-below es d g j (le-of-suc-le-suc o) (le-of-suc-le-suc l) (λ k p q. h (suc k) (omega arith) (omega arith))
+
+-- Before the first entry with a name there is no field with it.
+pub none-between : (n : ℕ) (es : List Entry) (g j : ℕ) → First n es j → member n (fields-of (slice g j es)) ≡ none
+unfolding fields-of member
+none-between n [] g j f = absurd f
+none-between n (e ∷ es) zero zero f = refl
+none-between n (e ∷ es) (suc g) zero f = refl
+none-between n (e ∷ es) zero (suc j) f = other-name n (e .name) (e .what) (fields-of (take j es)) (f .0) ∙ none-between n es zero j (f .1)
+none-between n (e ∷ es) (suc g) (suc j) f = none-between n es g j (f .1)
+
+pub some-there : (n : ℕ) (fs₁ : List Field) (f : Field) (fs₂ : List Field) → member n fs₁ ≡ none → eqb (f .name) n ≡ true → member n (fs₁ ++ f ∷ fs₂) ≡ some f
+unfolding member
+some-there n [] f fs₂ m q = rw (q, member) refl
+some-there n (x ∷ fs₁) f fs₂ m q = by-test (eqb (x .name) n) (λ y. absurd (not-some (sym (rw (y, member) at m)))) λ y.
+    rw (y, member) (some-there n fs₁ f fs₂ (rw (y, member) at m) q)
+
+-- Entry j, a field in the group that entry g is, and the first entry with the name n.
+module _ (es : List Entry) (d : Entry) (g j n : ℕ) (behind : g < j) (deep : Deeper es d g j) (first : First n es j) (f : Format) (s : ℕ) (mu : Bool) (what : getD es j d .what ≡ field f s mu) where
+  abbrev own : Field
+  own = record { name = getD es j d .name; format = f; size = s; multiple = mu }
+
+  split-own : fields-below 1 (drop (suc g) es) ≡ fields-of (slice (suc g) j es) ++ own ∷ fields-below 1 (drop (suc j) es)
+  unfolding field-of
+  split-own = split-below es d g j behind (first-within n es j first) deep ∙ rw what refl
+
+  pub member-below : member n (fields-below 1 (drop (suc g) es)) ≡ some own
+  member-below = rw split-own (some-there n (fields-of (slice (suc g) j es)) own (fields-below 1 (drop (suc j) es)) (none-between n es (suc g) j first) (first-name n es d j first))
+
+  -- In an occurrence of the group, the cell of n stands behind those of the fields between.
+  pub cell-below : {C : Type 0} (bs : Bytes) {rest : Bytes} {cs : Occurrence} → each stored-cell (fields-below 1 (drop (suc g) es)) bs ≡ done (cs, rest)
+      → ((cs₁ : Occurrence) (mid next : Bytes) → each stored-cell (fields-of (slice (suc g) j es)) bs ≡ done (cs₁, mid)
+      → stored-cell (record { name = n; format = f; size = s; multiple = mu }) mid ≡ done (cell-of n (fields-below 1 (drop (suc g) es)) cs, next) → C) → C
+  unfolding stored-cell
+  cell-below bs p k = members-at n (fields-of (slice (suc g) j es)) own (fields-below 1 (drop (suc j) es)) bs (none-between n es (suc g) j first) (first-name n es d j first) (rw split-own at p)
+      λ cs₁ mid next h₁ h₂. k cs₁ mid next h₁ (rw split-own h₂)
