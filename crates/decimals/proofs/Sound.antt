@@ -76,7 +76,7 @@ unpacked-whole (b ∷ c ∷ bs) a =
     let e : 0xF0 + b % 16 ≡ b = omega arith in
     rw (e, unpacked-whole (c ∷ bs) (and-right (eqb (b / 16) 0xF) z a))
 
--- ---- a value
+-- ---- a value: it has bytes and digits, means its number, and is the bytes of its digits and its sign
 
 pub record Sound (p : Bool) (bs : Bytes) : Type 0 where
   pub some : 0 < length bs
