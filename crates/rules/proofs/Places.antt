@@ -2,24 +2,33 @@
 -- occurrences and values, so both come down to its three sides.
 use mathlib.Core.Path.{_≡_, refl, sym, _∙_, ap, fun-ext}
 use mathlib.Core.Bool.{Bool, true, false, not, _&&_, _||_, or-false, or-self, or-assoc, and-false, and-or-distrib-left, and-or-distrib-right}
-use mathlib.Core.List.{List, [], _∷_, _++_, map, append-assoc}
+use mathlib.Core.List.{List, [], _∷_, _++_, map}
 use Prim.Native.Nat.{ℕ, zero, suc, _+_, _-_, _≤_, _<_, max}
 use native.Mathlib.Omega.{arith}
 use borrow.Author.Tests.{ne-eqb, eqb-true, eqb-false}
-use lib.Dec.{T, leb, leb→le, le→leb, eqb, eqb→eq, eqb-refl, T-not}
+use lib.Dec.{T, leb, leb→le, le→leb, eqb, eqb→eq, eqb-refl, T-not, not-T}
 use Rattle.rules.specs.Lists.{all, any, run, join}
 use Rattle.rules.specs.Table.{differ}
 use Rattle.rules.specs.Format.{Range}
-use Rattle.rules.specs.Use.{Place, Asked}
+use Rattle.rules.specs.Use.{Place, Item, blanks-item, text-item, group-count, value-count, value-item, Asked, value-items}
 use Rattle.rules.specs.Update.{same-place, meet}
 use Rattle.rules.proofs.Steps.{and-left, and-right, and-intro, by-test, true-T}
 
--- a place that stands behind an equal one
+-- "Counts, spaces and text name nothing."
+unfoldable pub places-of : List Item → List Place
+places-of [] = []
+places-of (blanks-item n ∷ xs) = places-of xs
+places-of (text-item t ∷ xs) = places-of xs
+places-of (group-count n ∷ xs) = places-of xs
+places-of (value-count n i ∷ xs) = places-of xs
+places-of (value-item p g n bare ∷ xs) = p ∷ places-of xs
+
+-- A place stands behind one that is the same.
 unfoldable pub repeats : List Place → Bool
 repeats [] = false
 repeats (p ∷ ps) = any (same-place p) ps || repeats ps
 
--- a place of the one list among those of the other
+-- Two lists have a place in common.
 unfoldable pub clash : List Place → List Place → Bool
 clash ps qs = any (λ p. any (same-place p) qs) ps
 
@@ -65,7 +74,8 @@ repeats-append [] qs = refl
 repeats-append (p ∷ ps) qs =
     rw (any-append (same-place p) ps qs, repeats-append ps qs) (crossed (any (same-place p) ps) (any (same-place p) qs) (repeats ps) (clash ps qs) (repeats qs))
 
--- the places of one field in one occurrence; of some fields in one occurrence; of some fields in a range of occurrences
+-- The places of one field in one occurrence; of some fields in one occurrence; of some fields in some occurrences: n of them from
+-- the index i on, with m values each from the index k on.
 abbrev pub spot : Asked → ℕ → ℕ → Place
 spot a i k = record { field = a .field; occurrence = i; value = k }
 
@@ -78,11 +88,45 @@ row fs i k m = join (map (λ a. spots a i k m) fs)
 unfoldable pub grid : List Asked → ℕ → ℕ → ℕ → ℕ → List Place
 grid fs i n k m = join (run (λ j. row fs j k m) i n)
 
+-- How many numbers a range has.
+abbrev pub size : Range → ℕ
+size r = suc (r .upto) - r .from
+
 abbrev pub counting : ℕ → ℕ → List ℕ
 counting i n = run (λ j. j) i n
 
+-- The names of the fields of an element.
 abbrev pub names-asked : List Asked → List ℕ
 names-asked fs = map (λ a. a .field .name) fs
+
+pub places-append : (xs ys : List Item) → places-of (xs ++ ys) ≡ places-of xs ++ places-of ys
+unfolding places-of
+places-append [] ys = refl
+places-append (blanks-item n ∷ xs) ys = places-append xs ys
+places-append (text-item t ∷ xs) ys = places-append xs ys
+places-append (group-count n ∷ xs) ys = places-append xs ys
+places-append (value-count n i ∷ xs) ys = places-append xs ys
+places-append (value-item p g n bare ∷ xs) ys = ap (_∷_ p) (places-append xs ys)
+
+places-run : (f : ℕ → List Item) (i n : ℕ) → places-of (join (run f i n)) ≡ join (run (λ j. places-of (f j)) i n)
+unfolding places-of join run
+places-run f i zero = refl
+places-run f i (suc n) = rw (places-append (f i) (join (run f (suc i) n)), places-run f (suc i) n)
+
+places-map : (f : Asked → List Item) (fs : List Asked) → places-of (join (map f fs)) ≡ join (map (λ a. places-of (f a)) fs)
+unfolding places-of join
+places-map f [] = refl
+places-map f (a ∷ fs) = rw (places-append (f a) (join (map f fs)), places-map f fs)
+
+places-spots : (a : Asked) (i : ℕ) (bare : Bool) (k m : ℕ) → places-of (run (λ j. value-item (spot a i j) (a .format) (a .size) bare) k m) ≡ spots a i k m
+unfolding places-of spots run
+places-spots a i bare k zero = refl
+places-spots a i bare k (suc m) = ap (_∷_ (spot a i k)) (places-spots a i bare (suc k) m)
+
+-- The places of an element are a grid.
+pub places-grid : (fs : List Asked) (os vs : Range) (bare : Bool) → places-of (value-items fs os vs bare) ≡ grid fs (os .from) (size os) (vs .from) (size vs)
+unfolding value-items grid row
+places-grid fs os vs bare = simp (places-run, places-map, places-spots)
 
 pick-field : (f r g h : Bool) → ((f && g && h) || (r && g && h)) ≡ ((f || r) && g && h)
 pick-field true true g h = or-self (g && h)
@@ -93,8 +137,8 @@ pick-occurrence : (f g r h : Bool) → ((f && g && h) || (f && r && h)) ≡ (f &
 pick-occurrence true g r h = sym (and-or-distrib-right g r h)
 pick-occurrence false g r h = refl
 
--- a test of a place that tests its field, its occurrence and its value apart, holds somewhere on the grid where each of the three
--- holds somewhere on its side
+-- A test that tests a place's field, occurrence and value apart holds somewhere on the grid where each of the three holds somewhere
+-- on its side.
 module _ (F G H : ℕ → Bool) where
   abbrev apart : Place → Bool
   apart p = F (p .field .name) && G (p .occurrence) && H (p .value)
@@ -118,7 +162,7 @@ module _ (F G H : ℕ → Bool) where
       rw (any-append apart (row fs i k m) (grid fs (suc i) n k m), any-row fs i k m, any-grid fs (suc i) n k m)
       (pick-occurrence (any (λ a. F (a .field .name)) fs) (G i) (any G (counting (suc i) n)) (any H (counting k m)))
 
--- the fields have a name in common
+-- A name is among those of the fields; a number is among n from i on.
 abbrev pub among : List Asked → ℕ → Bool
 among fs n = any (λ a. eqb n (a .field .name)) fs
 
@@ -141,7 +185,7 @@ unfolding any run
 none-below j i zero h = refl
 none-below j i (suc n) h = rw (ne-eqb j i (omega arith), none-below j (suc i) n (omega arith))
 
--- no n among them
+-- No n is among them.
 abbrev pub Avoids : ℕ → List ℕ → Type 0
 Avoids n ns = T (all (λ m. not (eqb m n)) ns)
 
@@ -151,22 +195,34 @@ from-avoids n m ms a k =
     k (λ e. T-not (eqb m n) (and-left (not (eqb m n)) (all (λ m. not (eqb m n)) ms) a) (rw e (eqb-refl m)))
     (and-right (not (eqb m n)) (all (λ m. not (eqb m n)) ms) a)
 
+pub avoids-more : (n m : ℕ) (ms : List ℕ) → (n ≡ m → ⊥) → Avoids n ms → Avoids n (m ∷ ms)
+unfolding all
+avoids-more n m ms d a = and-intro (not (eqb m n)) (all (λ m. not (eqb m n)) ms) (not-T (eqb m n) (λ t. d (sym (eqb→eq m n t)))) a
+
 pub from-differ : {C : Type 0} (n : ℕ) (ns : List ℕ) → T (differ (n ∷ ns)) → (Avoids n ns → T (differ ns) → C) → C
 unfolding differ
 from-differ n ns d k = k (and-left (all (λ m. not (eqb m n)) ns) (differ ns) d) (and-right (all (λ m. not (eqb m n)) ns) (differ ns) d)
+
+pub differ-more : (n : ℕ) (ns : List ℕ) → Avoids n ns → T (differ ns) → T (differ (n ∷ ns))
+unfolding differ
+differ-more n ns a d = and-intro (all (λ m. not (eqb m n)) ns) (differ ns) a d
 
 not-among : (fs : List Asked) (n : ℕ) → Avoids n (names-asked fs) → among fs n ≡ false
 unfolding any
 not-among [] n a = refl
 not-among (f ∷ fs) n a = from-avoids n (f .field .name) (names-asked fs) a λ e b. rw (ne-eqb n (f .field .name) e) (not-among fs n b)
 
--- no place of one element repeats: its fields differ, and its indexes ascend
+-- No place of one element repeats: its fields differ, and its indexes ascend.
 spots-once : (a : Asked) (i k m : ℕ) → repeats (spots a i k m) ≡ false
 unfolding repeats spots run same-place
 spots-once a i k zero = refl
 spots-once a i k (suc m) =
-    rw (any-spots (eqb (a .field .name)) (eqb i) (eqb k) a i (suc k) m, none-below k (suc k) m (omega arith),
-        and-false (eqb (a .field .name) (a .field .name) && eqb i i), spots-once a i (suc k) m)
+    rw (
+      any-spots (eqb (a .field .name)) (eqb i) (eqb k) a i (suc k) m,
+      none-below k (suc k) m (omega arith),
+      and-false (eqb (a .field .name) (a .field .name) && eqb i i),
+      spots-once a i (suc k) m,
+    )
 
 row-once : (fs : List Asked) (i k m : ℕ) → T (differ (names-asked fs)) → repeats (row fs i k m) ≡ false
 unfolding repeats row join same-place
@@ -203,7 +259,7 @@ both-ways true false f g = absurd (f tt)
 both-ways false true f g = absurd (g tt)
 both-ways false false f g = refl
 
--- by a test that holds at a number of a count, and back
+-- A test holds somewhere among n numbers from i on where it holds at one of them, and only there.
 pub there : (f : ℕ → Bool) (i n k : ℕ) → i ≤ k → k < i + n → T (f k) → T (any f (counting i n))
 unfolding any run
 there f i zero k l h t = absurd (omega arith)
@@ -216,20 +272,17 @@ unfolding any run
 somewhere f i zero t c = absurd t
 somewhere f i (suc n) t c = by-test (f i) (λ e. c i (omega arith) (omega arith) (true-T e)) (λ e. somewhere f (suc i) n (rw e at t) λ k l h. c k (omega arith) (omega arith))
 
--- the numbers of a range
-abbrev pub size : Range → ℕ
-size r = suc (r .upto) - r .from
-
+-- Two ranges that do not descend have an index in common where neither ends before the other begins.
 pub ranges-meet : (a b : Range) → a .from ≤ a .upto → b .from ≤ b .upto → any (in-count (b .from) (size b)) (counting (a .from) (size a)) ≡ meet a b
 unfolding meet
 ranges-meet a b h g =
     both-ways _ _
     (λ t. somewhere (in-count (b .from) (size b)) (a .from) (size a) t λ k l u s. somewhere (eqb k) (b .from) (size b) s λ q l′ u′ v.
-        let e = eqb→eq k q v in
-        and-intro (leb (a .from) (b .upto)) (leb (b .from) (a .upto)) (le→leb (a .from) (b .upto) (omega arith)) (le→leb (b .from) (a .upto) (omega arith)))
+    let e = eqb→eq k q v in
+    and-intro (leb (a .from) (b .upto)) (leb (b .from) (a .upto)) (le→leb (a .from) (b .upto) (omega arith)) (le→leb (b .from) (a .upto) (omega arith)))
     (λ t.
-        let l = leb→le (a .from) (b .upto) (and-left (leb (a .from) (b .upto)) (leb (b .from) (a .upto)) t) in
-        let u = leb→le (b .from) (a .upto) (and-right (leb (a .from) (b .upto)) (leb (b .from) (a .upto)) t) in
-        let k = max (a .from) (b .from) in
-        there (in-count (b .from) (size b)) (a .from) (size a) k (omega arith) (omega arith)
-        (there (eqb k) (b .from) (size b) k (omega arith) (omega arith) (eqb-refl k)))
+    let l = leb→le (a .from) (b .upto) (and-left (leb (a .from) (b .upto)) (leb (b .from) (a .upto)) t) in
+    let u = leb→le (b .from) (a .upto) (and-right (leb (a .from) (b .upto)) (leb (b .from) (a .upto)) t) in
+    let k = max (a .from) (b .from) in
+    there (in-count (b .from) (size b)) (a .from) (size a) k (omega arith) (omega arith)
+    (there (eqb k) (b .from) (size b) k (omega arith) (omega arith) (eqb-refl k)))
