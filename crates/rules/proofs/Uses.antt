@@ -44,6 +44,20 @@ pub by-what : {C : Type 0} (w : What) → ((f : Format) (s : ℕ) (m : Bool) →
 by-what (field f s m) h g = h f s m refl
 by-what (group p) h g = g p refl
 
+-- No field is MU.
+abbrev pub Single : List Field → Type 0
+Single = All (λ f. f .multiple ≡ false)
+
+pub not-T-false : (b : Bool) → T (not b) → b ≡ false
+not-T-false true t = absurd t
+not-T-false false t = refl
+
+pub plain-single : (fs : List Field) → T (all plain fs) → Single fs
+unfolding all plain
+plain-single [] t = tt
+plain-single (f ∷ fs) t =
+    (not-T-false (f .multiple) (and-left (not (f .multiple)) (leb 1 (f .size)) (and-left (plain f) (all plain fs) t)), plain-single fs (and-right (plain f) (all plain fs) t))
+
 abbrev pub field-names : List Field → List ℕ
 field-names fs = map (λ f. f .name) fs
 
@@ -56,7 +70,7 @@ below-picked level (e ∷ es) =
     (λ t. by-what (e .what) (λ f s m q. rw (t, fields-below, q) (taken (below-picked level es))) (λ p q. rw (t, fields-below, q) (left-out (below-picked level es))))
     (λ t. rw (t, fields-below) nothing-left)
 
-pub to-picked : (n : ℕ) (es : List Entry) (fs : List Field) → fields-to n es ≡ done fs → Picked (field-names fs) (names es)
+pub to-picked : (n : ℕ) (es : List Entry) (fs : List Field) → fields-to n es ≡ done fs → Picked (field-names fs) (names es) × Single fs
 unfolding fields-to names
 to-picked n [] fs p = absurd (not-done p)
 to-picked n (e ∷ es) fs p =
@@ -64,9 +78,11 @@ to-picked n (e ∷ es) fs p =
     (λ f s m q.
     from-need (not m) 5 _ (rw q at p) λ t k.
     by-test (eqb (e .name) n)
-    (λ h. rw (← done-inj (rw h at k)) (taken nothing-left))
-    (λ h. from-bind (fields-to n es) _ (rw h at k) λ gs g k₂. rw (← done-inj k₂) (taken (to-picked n es gs g))))
-    (λ b q. from-need (not b && not (eqb (e .name) n)) 5 _ (rw q at p) λ t k. left-out (to-picked n es fs k))
+    (λ h. rw (← done-inj (rw h at k)) (taken nothing-left, (not-T-false m t, tt)))
+    (λ h. from-bind (fields-to n es) _ (rw h at k) λ gs g k₂.
+    let (a, b) = to-picked n es gs g in
+    rw (← done-inj k₂) (taken a, (not-T-false m t, b))))
+    (λ b q. from-need (not b && not (eqb (e .name) n)) 5 _ (rw q at p) λ t k. let (a, b) = to-picked n es fs k in (left-out a, b))
 
 pub find-picked : (before : Bool) (n : ℕ) (es : List Entry) (x : Found) → find-from before n es ≡ done x → Picked (names (x .entry ∷ x .behind)) (names es)
 unfolding find-from names
@@ -143,7 +159,7 @@ group-once x os vs l g u d q =
     let o = spread-in-order (x .inside) false 0 os vs s h in
     rw (← done-inj k₂) (as-stored-once fs (picked-differ (left-out (below-picked (x .entry .level) (x .behind))) d), o .0, o .1)
 
-not-group : {A : Type 0} (w : What) (m : Outcome A) {a : A} → elim w [ group p ↦ refused 5 | field f s mu ↦ m ] ≡ done a → m ≡ done a
+pub not-group : {A : Type 0} (w : What) (m : Outcome A) {a : A} → elim w [ group p ↦ refused 5 | field f s mu ↦ m ] ≡ done a → m ≡ done a
 not-group (field f s mu) m p = p
 not-group (group q) m p = absurd (not-done p)
 
@@ -152,7 +168,7 @@ unfolding use-of-series in-order
 series-once x n u d q =
     from-need (not (x .inside)) 5 _ (not-group (x .entry .what) _ q) λ t k.
     from-bind (fields-to n (x .entry ∷ x .behind)) _ k λ fs g k₂.
-    rw (← done-inj k₂) (as-stored-once fs (picked-differ (to-picked n (x .entry ∷ x .behind) fs g) d), tt, tt)
+    rw (← done-inj k₂) (as-stored-once fs (picked-differ (to-picked n (x .entry ∷ x .behind) fs g .0) d), tt, tt)
 
 module _ (es : List Entry) (d : T (differ (names es))) where
   use-once : (ls : Indexes) (x : Element) (u : Use) → use-of es ls x ≡ done u → Once u
