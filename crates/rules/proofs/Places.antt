@@ -89,8 +89,8 @@ unfoldable pub grid : List Asked → ℕ → ℕ → ℕ → ℕ → List Place
 grid fs i n k m = join (run (λ j. row fs j k m) i n)
 
 -- How many numbers a range has.
-abbrev pub size : Range → ℕ
-size r = suc (r .upto) - r .from
+abbrev pub range-length : Range → ℕ
+range-length r = suc (r .upto) - r .from
 
 abbrev pub counting : ℕ → ℕ → List ℕ
 counting i n = run (λ j. j) i n
@@ -124,7 +124,7 @@ places-spots a i bare k zero = refl
 places-spots a i bare k (suc m) = ap (_∷_ (spot a i k)) (places-spots a i bare (suc k) m)
 
 -- The places of an element are a grid.
-pub places-grid : (fs : List Asked) (os vs : Range) (bare : Bool) → places-of (value-items fs os vs bare) ≡ grid fs (os .from) (size os) (vs .from) (size vs)
+pub places-grid : (fs : List Asked) (os vs : Range) (bare : Bool) → places-of (value-items fs os vs bare) ≡ grid fs (os .from) (range-length os) (vs .from) (range-length vs)
 unfolding value-items grid row
 places-grid fs os vs bare = simp (places-run, places-map, places-spots)
 
@@ -273,16 +273,16 @@ somewhere f i zero t c = absurd t
 somewhere f i (suc n) t c = by-test (f i) (λ e. c i (omega arith) (omega arith) (true-T e)) (λ e. somewhere f (suc i) n (rw e at t) λ k l h. c k (omega arith) (omega arith))
 
 -- Two ranges that do not descend have an index in common where neither ends before the other begins.
-pub ranges-meet : (a b : Range) → a .from ≤ a .upto → b .from ≤ b .upto → any (in-count (b .from) (size b)) (counting (a .from) (size a)) ≡ meet a b
+pub ranges-meet : (a b : Range) → a .from ≤ a .upto → b .from ≤ b .upto → any (in-count (b .from) (range-length b)) (counting (a .from) (range-length a)) ≡ meet a b
 unfolding meet
 ranges-meet a b h g =
     both-ways _ _
-    (λ t. somewhere (in-count (b .from) (size b)) (a .from) (size a) t λ k l u s. somewhere (eqb k) (b .from) (size b) s λ q l′ u′ v.
+    (λ t. somewhere (in-count (b .from) (range-length b)) (a .from) (range-length a) t λ k l u s. somewhere (eqb k) (b .from) (range-length b) s λ q l′ u′ v.
     let e = eqb→eq k q v in
     and-intro (leb (a .from) (b .upto)) (leb (b .from) (a .upto)) (le→leb (a .from) (b .upto) (omega arith)) (le→leb (b .from) (a .upto) (omega arith)))
     (λ t.
     let l = leb→le (a .from) (b .upto) (and-left (leb (a .from) (b .upto)) (leb (b .from) (a .upto)) t) in
     let u = leb→le (b .from) (a .upto) (and-right (leb (a .from) (b .upto)) (leb (b .from) (a .upto)) t) in
     let k = max (a .from) (b .from) in
-    there (in-count (b .from) (size b)) (a .from) (size a) k (omega arith) (omega arith)
-    (there (eqb k) (b .from) (size b) k (omega arith) (omega arith) (eqb-refl k)))
+    there (in-count (b .from) (range-length b)) (a .from) (range-length a) k (omega arith) (omega arith)
+    (there (eqb k) (b .from) (range-length b) k (omega arith) (omega arith) (eqb-refl k)))

@@ -8,13 +8,13 @@ use Rattle.rules.specs.Table.{Entry, table}
 use Rattle.rules.specs.Format.{Element}
 use Rattle.rules.specs.Use.{Use, one, values, value-items, items-of, items, uses}
 use Rattle.rules.specs.Update.{share, name-alike, named-twice}
-use Rattle.rules.proofs.Places.{places-of, places-append, places-grid, repeats, clash, clash-none, clash-append, repeats-append, clash-grid, grid-once, size, ranges-meet}
+use Rattle.rules.proofs.Places.{places-of, places-append, places-grid, repeats, clash, clash-none, clash-append, repeats-append, clash-grid, grid-once, range-length, ranges-meet}
 use Rattle.rules.proofs.Uses.{Once, Apart, in-order-le, table-differ, uses-apart}
 
 use-once : (u : Use) → Once u → repeats (places-of (items-of u)) ≡ false
 unfolding items-of repeats
 use-once (one x) h = rw h
-use-once (values fs os vs bare) h = rw (places-grid fs os vs bare) (grid-once fs (os .from) (size os) (vs .from) (size vs) (h .0))
+use-once (values fs os vs bare) h = rw (places-grid fs os vs bare) (grid-once fs (os .from) (range-length os) (vs .from) (range-length vs) (h .0))
 
 use-alike : (u v : Use) → Once u → Once v → clash (places-of (items-of u)) (places-of (items-of v)) ≡ name-alike u v
 unfolding items-of name-alike clash any share
@@ -25,7 +25,7 @@ use-alike (values fs os vs b) (values gs ps ws c) h g =
     rw (
       places-grid fs os vs b,
       places-grid gs ps ws c,
-      clash-grid fs gs (os .from) (size os) (vs .from) (size vs) (ps .from) (size ps) (ws .from) (size ws),
+      clash-grid fs gs (os .from) (range-length os) (vs .from) (range-length vs) (ps .from) (range-length ps) (ws .from) (range-length ws),
       ranges-meet os ps (in-order-le os (h .1)) (in-order-le ps (g .1)),
       ranges-meet vs ws (in-order-le vs (h .2)) (in-order-le ws (g .2)),
     )
@@ -42,19 +42,19 @@ uses-alike u (v ∷ us) h a =
     )
 
 -- Elements that each name their occurrences once name one twice where a place repeats.
-pub twice-said : (us : List Use) → Apart us → named-twice us ≡ repeats (places-of (items us))
+pub named-twice-repeats : (us : List Use) → Apart us → named-twice us ≡ repeats (places-of (items us))
 unfolding named-twice items join places-of repeats
-twice-said [] a = refl
-twice-said (u ∷ us) a =
+named-twice-repeats [] a = refl
+named-twice-repeats (u ∷ us) a =
     sym (rw (
       places-append (items-of u) (items us),
       repeats-append (places-of (items-of u)) (places-of (items us)),
       use-once u (a .0),
       uses-alike u us (a .0) (a .1),
-      twice-said us (a .1),
+      named-twice-repeats us (a .1),
     ))
 
 -- So it is for the format of any call with a valid table.
-pub named-twice-said : (t : Bytes) (es : List Entry) (xs : List Element) (us : List Use) → table t ≡ done es → uses es [] xs ≡ done us
+pub format-named-twice : (t : Bytes) (es : List Entry) (xs : List Element) (us : List Use) → table t ≡ done es → uses es [] xs ≡ done us
     → named-twice us ≡ repeats (places-of (items us))
-named-twice-said t es xs us p q = twice-said us (uses-apart es (table-differ t es p) [] xs us q)
+format-named-twice t es xs us p q = named-twice-repeats us (uses-apart es (table-differ t es p) [] xs us q)
