@@ -45,11 +45,11 @@ where
         (answer, start.elapsed())
     };
     let mut times = 1;
-    while run(times).1 < Duration::from_millis(20) {
+    while run(times).1 < Duration::from_micros(500) {
         times *= 2;
     }
     let ((number, length), _) = run(1);
-    let least = (0..7).map(|_| run(times).1).min().unwrap_or_default();
+    let least = (0..60).map(|_| run(times).1).min().unwrap_or_default();
     (number, length, least.as_nanos() as f64 / f64::from(times))
 }
 
@@ -72,17 +72,8 @@ fn specimen(format: &str) -> Call {
 }
 
 pub fn specimen_reads() -> Vec<Call> {
-    let formats = [
-        "AA,AB.",
-        "AB,2.",
-        "AB,5,U.",
-        "AB,2,B.",
-        "MF,MF,MF.",
-        "MFC,3X,MF2.",
-        "CB1(1-2),CB2C.",
-        "HB2.",
-        "ZV.",
-    ];
+    let formats =
+        ["AA,AB.", "AB,2.", "AB,5,U.", "AB,2,B.", "MF,MF,MF.", "MFC,3X,MF2.", "CB1(1-2),CB2C.", "HB2.", "ZV."];
     formats.iter().map(|format| specimen(format)).collect()
 }
 
@@ -94,8 +85,7 @@ pub fn nine_elements() -> Call {
 pub fn forty_fields() -> Vec<Call> {
     let forms = ["A5", "B2", "F4", "P3", "U2"];
     let values: [&[u8]; 5] = [b"\xC3\xC1\xC2\x40\x40", b"\x00\x96", b"\xFF\xFF\xFF\x6A", b"\x00\x15\x0F", b"\xF1\xF5"];
-    let names: Vec<String> = (0..40).map(|i| format!("{}{}", (b'A' + i / 10) as char, i % 10)).collect();
-    let names: Vec<String> = names.iter().map(|name| name.replace('E', "F")).collect();
+    let names: Vec<String> = (0..40).map(|i| format!("{}{}", (b'P' + i / 10) as char, i % 10)).collect();
     let fields = names.iter().enumerate().map(|(i, name)| format!("  2{} {}", name, forms[i % 5]));
     let table = "1GG _0".to_string() + &fields.collect::<String>();
     let record = || record((0..40).map(|i| values[i % 5].to_vec()));
@@ -125,7 +115,7 @@ pub fn hundred_occurrences() -> Vec<Call> {
 }
 
 fn plain_occurrence(i: u8) -> [u8; 9] {
-    [0, i, 0xC1, 0xC2, 0x40, 0x40, 0, i / 10 % 10 << 4 | i % 10, 0x5F]
+    [0, i, 0xC1, 0xC2, 0x40, 0x40, 0, ((i / 10 % 10) << 4) | (i % 10), 0x5F]
 }
 
 fn mixed_occurrence(i: u8) -> Vec<u8> {
@@ -162,7 +152,8 @@ pub fn hundred_conversions() -> Vec<Call> {
 
 /// As many elements as a format buffer holds: three bytes each.
 pub fn most_elements() -> Call {
-    let names: Vec<String> = (b'A'..=b'Z').filter(|&letter| letter != b'E').map(|c| format!("{}1", c as char)).collect();
+    let names: Vec<String> =
+        (b'A'..=b'Z').filter(|&letter| letter != b'E').map(|c| format!("{}1", c as char)).collect();
     let table: String = names.iter().map(|name| format!("  1{} B2", name)).collect();
     let record = record((0..names.len()).map(|_| vec![0x30, 0x39]));
     let elements: Vec<&str> = names.iter().cycle().take(682).map(|name| name.as_str()).collect();
@@ -171,7 +162,7 @@ pub fn most_elements() -> Call {
 
 /// As many items as one call may have, of one byte each.
 pub fn most_items() -> Call {
-    let occurrence = |i: u8| vec![7, 3, 0xF0 | i % 10, 0xF5, 0xF9];
+    let occurrence = |i: u8| vec![7, 3, 0xF0 | (i % 10), 0xF5, 0xF9];
     let record = record(vec![vec![191]].into_iter().chain((0..191).map(occurrence)));
     call("32,767 items", "1PG _0 P  2PA B1  2PM U1 M", record, "PM1-171(1-191),PM172(1-106).")
 }

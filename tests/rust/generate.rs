@@ -203,13 +203,13 @@ fn length_for(random: &mut Random, format: u8, wide: bool) -> u8 {
         b'P' => (1, 15),
         _ => (1, 29),
     };
-    match random.below(8) {
+    let length = match random.below(8) {
         0 => least,
         1 if wide => greatest,
-        2 | 3 if wide => random.between(least, greatest) as u8 as usize,
+        2 | 3 if wide => random.between(least, greatest),
         _ => random.between(1, 6),
-    }
-    .max(least) as u8
+    };
+    length as u8
 }
 
 fn make_name(random: &mut Random, used: &[Entry]) -> String {
@@ -217,8 +217,8 @@ fn make_name(random: &mut Random, used: &[Entry]) -> String {
         let first = random.pick(b"AAABBCDEEFGMPUXZ") as char;
         let second = random.pick(b"ABCDEXUPGSZ0123456789") as char;
         let name: String = [first, second].iter().collect();
-        let taken = used.iter().any(|entry| entry.name == name);
-        if !taken && !(first == 'E' && second.is_ascii_digit()) {
+        let no_name = first == 'E' && second.is_ascii_digit();
+        if !no_name && used.iter().all(|entry| entry.name != name) {
             return name;
         }
     }
@@ -299,7 +299,22 @@ fn bad_table(random: &mut Random, table: &[Entry]) -> Vec<u8> {
 // Values.
 
 const LANDMARKS: [u128; 16] = [
-    9, 10, 99, 127, 128, 255, 256, 999, 9_999, 32_767, 32_768, 65_535, 65_536, 2_147_483_647, 2_147_483_648, 4_294_967_295,
+    9,
+    10,
+    99,
+    127,
+    128,
+    255,
+    256,
+    999,
+    9_999,
+    32_767,
+    32_768,
+    65_535,
+    65_536,
+    2_147_483_647,
+    2_147_483_648,
+    4_294_967_295,
 ];
 
 fn magnitude(random: &mut Random) -> u128 {
@@ -534,6 +549,7 @@ impl Maker<'_> {
             match plan {
                 Plan::Use if i == odd => maker.misuse(random),
                 Plan::Name if i == odd => maker.unknown(random),
+                Plan::Syntax if i == odd && random.chance(70) => maker.misspell(random),
                 Plan::Twice if i > 0 && random.chance(60) => maker.again(random),
                 _ => maker.add(random),
             }
@@ -680,6 +696,18 @@ impl Maker<'_> {
         self.put(&written, 4);
     }
 
+    /// Puts an element that is none of the forms. The sign # stands for a name.
+    fn misspell(&mut self, random: &mut Random) {
+        const FORMS: [&str; 38] = [
+            "", "#0X", "0X", "256X", "1234X", "5 X", "''", "'A''B'", "'A", "#(1)", "#1-2C", "#1(1)C", "#1C(1)", "#1-",
+            "#-1", "# 1", "#1 (1)", "#1(1", "#1()", "#1(1-)", "#1234", "#,256", "#,1000", "#,U,5", "#,5,5", "#,X",
+            "#,5,N", "#,AU,", "E5", "#-E1", "#,E1", "#N", "#S", "#1-N", "C", "#,5,", "#C,1", "#-#,5",
+        ];
+        let name = &self.table[random.below(self.table.len())].name;
+        let written = random.pick(&FORMS).replace('#', name);
+        self.put(&written, 4);
+    }
+
     /// A length and format in effect: mostly one that holds what the standard ones hold.
     fn choose_form(&self, random: &mut Random, standard: Form) -> Option<Form> {
         let any = self.plan == Plan::Misfit;
@@ -770,31 +798,17 @@ fn write_format(random: &mut Random, elements: &[Element]) -> Vec<u8> {
     format
 }
 
-/// A format that is damaged, random, or has an element that none of the forms allows.
-fn bad_format(random: &mut Random, table: &[Entry], good: &[u8]) -> Vec<u8> {
-    const FORMS: [&str; 38] = [
-        "", "#0X", "0X", "256X", "1234X", "5 X", "''", "'A''B'", "'A", "#(1)", "#1-2C", "#1(1)C", "#1C(1)", "#1-", "#-1",
-        "# 1", "#1 (1)", "#1(1", "#1()", "#1(1-)", "#1234", "#,256", "#,1000", "#,U,5", "#,5,5", "#,X", "#,5,N", "#,AU,",
-        "E5", "#-E1", "#,E1", "#N", "#S", "#1-N", "C", "#,5,", "#C,1", "#-#,5",
-    ];
-    let mut format = good.to_vec();
+/// A format that is damaged, random, too long or without a period.
+fn bad_format(random: &mut Random, mut format: Vec<u8>) -> Vec<u8> {
     let character = |random: &mut Random| match random.below(30) {
         0 => random.byte(),
         _ => ebcdic(random.pick(b"AABCDEFGUX0123456789.,,-()' ")),
     };
-    match random.below(6) {
-        0 => damage(random, &mut format, character),
-        1 => format = (0..random.between(0, 30)).map(|_| character(random)).collect(),
-        2 if random.chance(10) => format.resize(random.pick(&[MOST_FORMAT + 1, 3000]), SPACE),
-        2 => format.retain(|&byte| byte != PERIOD),
-        _ => {
-            let name = &table[random.below(table.len())].name;
-            let odd = random.pick(&FORMS).replace('#', name) + ",";
-            let start = if random.chance(60) { 0 } else { format.len() - 1 };
-            let before = if start == 0 { vec![] } else { encode(",") };
-            let tail = if start == 0 { odd } else { odd.replace(",,", "") };
-            format.splice(start..start, before.into_iter().chain(encode(&tail)));
-        }
+    match random.below(4) {
+        0 => format = (0..random.between(0, 30)).map(|_| character(random)).collect(),
+        1 if random.chance(10) => format.resize(random.pick(&[MOST_FORMAT + 1, 3000]), SPACE),
+        1 => format.retain(|&byte| byte != PERIOD),
+        _ => damage(random, &mut format, character),
     }
     format
 }
@@ -829,8 +843,8 @@ impl Story {
             _ => self.record.clone(),
         };
         let mut format = write_format(random, elements);
-        if plan == Plan::Syntax {
-            format = bad_format(random, &self.table, &format);
+        if plan == Plan::Syntax && random.chance(50) {
+            format = bad_format(random, format);
         }
         (table, record, format)
     }
@@ -898,9 +912,6 @@ impl Story {
             if let Some(named) = element.named {
                 self.put_values(random, plan, &named, &mut buffer);
             }
-            if buffer.len() > 33_000 {
-                break;
-            }
         }
         if plan == Plan::Short && !buffer.is_empty() {
             buffer.truncate(random.below(buffer.len()));
@@ -915,6 +926,9 @@ impl Story {
         for _ in named.occurrences.0..=named.occurrences.1 {
             for field in fields.clone() {
                 for _ in named.values.0..=named.values.1 {
+                    if buffer.len() > 33_000 {
+                        return;
+                    }
                     let form = named.form.unwrap_or_else(|| field.form());
                     let fit = if plan == Plan::Misfit { form } else { field.form() };
                     let mut value = make_value(random, form, fit, true);

@@ -179,30 +179,48 @@ const LETTER_G: u8 = 0xC7;
 const LETTER_W: u8 = 0xE6;
 const LETTER_X: u8 = 0xE7;
 
-fn letter(character: u8) -> Option<usize> {
-    match character {
-        0xC1..=0xC9 => Some(usize::from(character - 0xC1)),
-        0xD1..=0xD9 => Some(usize::from(character - 0xD1) + 9),
-        0xE2..=0xE9 => Some(usize::from(character - 0xE2) + 18),
-        _ => None,
+const LETTERS: usize = 26;
+const LETTERS_AND_DIGITS: usize = 36;
+
+/// The number of each character among letters and digits; one that is neither has the number after the last.
+static CHARACTERS: [u8; 256] = number_characters();
+
+const fn number_characters() -> [u8; 256] {
+    let runs = [(0xC1, 9), (0xD1, 9), (0xE2, 8), (0xF0, 10)];
+    let mut numbers = [LETTERS_AND_DIGITS as u8; 256];
+    let (mut run, mut number) = (0, 0);
+    while run < runs.len() {
+        let (start, length) = runs[run];
+        let mut i = 0;
+        while i < length {
+            numbers[start + i] = number;
+            number += 1;
+            i += 1;
+        }
+        run += 1;
     }
+    numbers
+}
+
+fn number_of(character: u8) -> usize {
+    usize::from(CHARACTERS[usize::from(character)])
 }
 
 fn is_digit(character: u8) -> bool {
     (0xF0..=0xF9).contains(&character)
 }
 
-const NAMES: usize = 26 * 36;
+const NAMES: usize = LETTERS * LETTERS_AND_DIGITS;
 
 /// The number of a name among all names. E and a digit is none.
 fn name(first: u8, second: u8) -> Option<usize> {
-    let row = letter(first)?;
-    let column = match letter(second) {
-        Some(column) => column,
-        None if is_digit(second) && first != LETTER_E => 26 + usize::from(second - 0xF0),
-        None => return None,
-    };
-    Some(row * 36 + column)
+    let (row, column) = (number_of(first), number_of(second));
+    let columns = if first == LETTER_E { LETTERS } else { LETTERS_AND_DIGITS };
+    if row < LETTERS && column < columns {
+        Some(row * LETTERS_AND_DIGITS + column)
+    } else {
+        None
+    }
 }
 
 // Values.
@@ -282,7 +300,11 @@ impl Form {
     /// How many digits a decimal value has.
     fn digits(self) -> usize {
         let length = usize::from(self.length);
-        if self.format == Format::P { 2 * length - 1 } else { length }
+        if self.format == Format::P {
+            2 * length - 1
+        } else {
+            length
+        }
     }
 
     /// The length of the stored value that begins there.
@@ -313,7 +335,11 @@ fn sign(value: &[u8], format: Format) -> Option<u8> {
     } else {
         (before.iter().all(|&byte| is_digit(byte)), last >> 4, last & 15)
     };
-    if good && digit <= 9 { Some(sign) } else { None }
+    if good && digit <= 9 {
+        Some(sign)
+    } else {
+        None
+    }
 }
 
 fn is_value(value: &[u8], form: Form) -> bool {
@@ -331,7 +357,8 @@ fn is_normal_decimal(value: &[u8], format: Format) -> bool {
 /// Whether a decimal value is below zero, which minus zero isn't.
 fn is_negative(value: &[u8], format: Format) -> bool {
     let last = value[value.len() - 1];
-    let (sign, digit, zero) = if format == Format::P { (last & 15, last >> 4, 0) } else { (last >> 4, last & 15, 0xF0) };
+    let (sign, digit, zero) =
+        if format == Format::P { (last & 15, last >> 4, 0) } else { (last >> 4, last & 15, 0xF0) };
     sign == 0xD && (digit != 0 || value[..value.len() - 1].iter().any(|&byte| byte != zero))
 }
 
@@ -366,16 +393,22 @@ fn number(value: &[u8], form: Form) -> Option<i32> {
             i32::try_from(significant.iter().fold(0, |number, &byte| number << 8 | u32::from(byte))).ok()
         }
         Format::P | Format::U => {
-            let mut magnitude = 0i64;
-            for right in (0..form.digits()).rev() {
-                magnitude = magnitude * 10 + i64::from(digit(value, form.format, right));
-                if magnitude > 1 << 31 {
-                    return None;
-                }
-            }
+            let magnitude = magnitude(value, form.format)?;
             i32::try_from(if is_negative(value, form.format) { -magnitude } else { magnitude }).ok()
         }
     }
+}
+
+fn magnitude(value: &[u8], format: Format) -> Option<i64> {
+    let mut magnitude = 0;
+    for &byte in &value[..value.len() - 1] {
+        let (high, low) = (i64::from(byte >> 4), i64::from(byte & 15));
+        magnitude = if format == Format::P { magnitude * 100 + high * 10 + low } else { magnitude * 10 + low };
+        if magnitude > 1 << 31 {
+            return None;
+        }
+    }
+    Some(magnitude * 10 + i64::from(digit(value, format, 0)))
 }
 
 fn number_fits(number: i32, to: Form) -> bool {
@@ -420,7 +453,11 @@ fn fits(value: &[u8], from: Form, to: Form) -> bool {
 
 /// The length of a value after conversion.
 fn converted_length(value: &[u8], from: Form, to: Form) -> usize {
-    if to.is_variable() { 1 + text(value, from).len() } else { usize::from(to.length) }
+    if to.is_variable() {
+        1 + text(value, from).len()
+    } else {
+        usize::from(to.length)
+    }
 }
 
 /// Writes a value that fits, in normal form, over the whole of the bytes.
@@ -540,7 +577,11 @@ impl Entry {
         };
         let entry = Entry { kind, form: Form { format, length }, level, ..Entry::NONE };
         let allowed = if entry.is_field() { entry.form.is_allowed() } else { length == 0 };
-        if allowed && level <= HIGHEST_LEVEL { Some(entry) } else { None }
+        if allowed && level <= HIGHEST_LEVEL {
+            Some(entry)
+        } else {
+            None
+        }
     }
 
     fn is_field(&self) -> bool {
@@ -548,7 +589,11 @@ impl Entry {
     }
 
     fn may_precede(&self, level: u8) -> bool {
-        if self.is_field() { 1 <= level && level <= self.level } else { level == self.level + 1 }
+        if self.is_field() {
+            1 <= level && level <= self.level
+        } else {
+            level == self.level + 1
+        }
     }
 
     fn empty_length(&self) -> usize {
@@ -600,7 +645,11 @@ impl Table {
             self.entries[i] = entry;
             previous = entry;
         }
-        if previous.is_field() { Some(()) } else { None }
+        if previous.is_field() {
+            Some(())
+        } else {
+            None
+        }
     }
 
     /// From the last entry back, as a group is made of what follows it.
@@ -692,7 +741,11 @@ impl<'a> Record<'a> {
             }
         }
         self.places[i] = at as u16;
-        if at == self.bytes.len() { Some(()) } else { None }
+        if at == self.bytes.len() {
+            Some(())
+        } else {
+            None
+        }
     }
 
     fn check_periodic(&mut self, group: usize, at: usize, occurrences: &mut usize) -> Option<usize> {
@@ -814,18 +867,20 @@ impl Record<'_> {
         let end = match element.kind {
             Items::Blanks | Items::Text => at + usize::from(element.form.length),
             Items::Count => at + 1,
+            Items::Values if element.in_one_piece => at + self.piece(element).len(),
             Items::Values if element.standard => at + self.standard_length(element),
             Items::Values => return self.measure_converted(element, at, limit),
         };
         within(end, limit)
     }
 
+    fn piece(&self, element: &Element) -> &[u8] {
+        &self.bytes[self.place(element.first())..self.place(element.end())]
+    }
+
     /// The length of all items of an element at standard length and format, which always fit.
     fn standard_length(&self, element: &Element) -> usize {
         let entry = &self.table.entries[element.first()];
-        if entry.periodic.is_none() && entry.kind != Kind::Multiple {
-            return self.place(element.end()) - self.place(element.first());
-        }
         if entry.size > 0 {
             return element.occurrences().count() * element.values_named() * usize::from(entry.size);
         }
@@ -859,8 +914,9 @@ impl Record<'_> {
             Items::Blanks => out.take(length).fill(SPACE),
             Items::Text => out.copy(&format[usize::from(element.at)..][..length]),
             Items::Count => out.copy(&[self.count_of(element)]),
+            Items::Values if element.in_one_piece => out.copy(self.piece(element)),
             Items::Values if element.first() + 1 == element.end() => self.fill_field(element, out),
-            Items::Values => self.fill_span(element, out),
+            Items::Values => self.fill_group(element, out),
         }
     }
 
@@ -889,15 +945,12 @@ impl Record<'_> {
         }
     }
 
-    /// A group or series outside periodic groups lies in one piece, and so do the occurrences of a periodic group.
-    fn fill_span(&self, element: &Element, out: &mut Filling) {
+    /// Fills in occurrences of a group. Those of a periodic group that exist stand side by side.
+    fn fill_group(&self, element: &Element, out: &mut Filling) {
         let (first, end) = (element.first(), element.end());
         let entry = &self.table.entries[first];
         let size = usize::from(entry.size);
         let (low, high) = element.occurrences().into_inner();
-        if entry.periodic.is_none() {
-            return out.copy(&self.bytes[self.place(first)..self.place(end)]);
-        }
         let mut absent = low;
         while let Some(at) = self.find(first, absent).filter(|_| absent <= high) {
             let pieces = if entry.kind == Kind::Periodic { self.existing(first, absent, high) } else { 1 };
@@ -916,7 +969,11 @@ impl Record<'_> {
 }
 
 fn within(end: usize, limit: usize) -> Outcome<usize> {
-    if end > limit { Err(Refusal::BeyondBuffer) } else { Ok(end) }
+    if end > limit {
+        Err(Refusal::BeyondBuffer)
+    } else {
+        Ok(end)
+    }
 }
 
 // The format buffer: syntax.
@@ -957,7 +1014,11 @@ impl Scanner<'_> {
     }
 
     fn expect(&mut self, character: u8) -> Outcome<()> {
-        if self.take(character) { Ok(()) } else { Err(Refusal::Syntax) }
+        if self.take(character) {
+            Ok(())
+        } else {
+            Err(Refusal::Syntax)
+        }
     }
 
     fn spaces(&mut self) {
@@ -981,7 +1042,11 @@ impl Scanner<'_> {
                 return Err(Refusal::Syntax);
             }
         }
-        if self.at == start { Err(Refusal::Syntax) } else { Ok(number) }
+        if self.at == start {
+            Err(Refusal::Syntax)
+        } else {
+            Ok(number)
+        }
     }
 
     fn small_number(&mut self) -> Outcome<u8> {
@@ -1014,7 +1079,11 @@ impl Scanner<'_> {
     fn blanks(&mut self) -> Outcome<Written> {
         let number = self.small_number()?;
         self.expect(LETTER_X)?;
-        if number == 0 { Err(Refusal::Syntax) } else { Ok(Written::Blanks(number)) }
+        if number == 0 {
+            Err(Refusal::Syntax)
+        } else {
+            Ok(Written::Blanks(number))
+        }
     }
 
     fn named(&mut self) -> Outcome<Written> {
@@ -1038,41 +1107,44 @@ impl Scanner<'_> {
                 self.expect(CLOSE)?;
             }
         }
-        reference.length = self.length()?;
-        reference.format = self.format()?;
+        if matches!(self.peek(0), COMMA | SPACE) {
+            self.overrides(&mut reference)?;
+        }
         Ok(Written::Values(reference))
     }
 
     fn range_end(&mut self, start: u16) -> Outcome<u16> {
-        if self.take(HYPHEN) { self.number() } else { Ok(start) }
+        if self.take(HYPHEN) {
+            self.number()
+        } else {
+            Ok(start)
+        }
     }
 
-    /// Digits after a comma are a length, unless an X makes them the next element.
-    fn length(&mut self) -> Outcome<Option<u8>> {
-        let start = self.at;
-        if self.comma() && is_digit(self.peek(0)) {
+    /// Digits after a comma are a length unless an X makes them the next element, and a letter is a format unless a
+    /// second character does.
+    fn overrides(&mut self, reference: &mut Reference) -> Outcome<()> {
+        let mut end = self.at;
+        let mut comma = self.comma();
+        if comma && is_digit(self.peek(0)) {
             let number = self.number()?;
-            if self.peek(0) != LETTER_X {
-                return u8::try_from(number).map(Some).map_err(|_| Refusal::Syntax);
+            comma = self.peek(0) != LETTER_X;
+            if comma {
+                reference.length = Some(u8::try_from(number).map_err(|_| Refusal::Syntax)?);
+                end = self.at;
+                comma = self.comma();
             }
         }
-        self.at = start;
-        Ok(None)
-    }
-
-    /// A letter after a comma is a format, unless a second character makes it the next element.
-    fn format(&mut self) -> Outcome<Option<u8>> {
-        let start = self.at;
-        if self.comma() && letter(self.peek(0)).is_some() {
-            let (format, second) = (self.peek(0), self.peek(1));
-            if letter(second).is_none() && !is_digit(second) {
-                self.at += 1;
-                let known = format_of(format).is_some() || matches!(format, LETTER_G | LETTER_W);
-                return if known { Ok(Some(format)) } else { Err(Refusal::Syntax) };
+        let (letter, second) = (self.peek(0), self.peek(1));
+        if comma && number_of(letter) < LETTERS && number_of(second) == LETTERS_AND_DIGITS {
+            if format_of(letter).is_none() && !matches!(letter, LETTER_G | LETTER_W) {
+                return Err(Refusal::Syntax);
             }
+            reference.format = Some(letter);
+            end = self.at + 1;
         }
-        self.at = start;
-        Ok(None)
+        self.at = end;
+        Ok(())
     }
 }
 
@@ -1099,6 +1171,8 @@ struct Element {
     form: Form,
     /// Whether every field has its standard length and format.
     standard: bool,
+    /// Whether it names plain fields outside periodic groups so, whose values stand in the record as they are read.
+    in_one_piece: bool,
     /// Whether an MU field is named without an index.
     bare: bool,
     /// Where the text stands in the format; for an update, where its next item stands in the record buffer.
@@ -1116,6 +1190,7 @@ impl Element {
         values: (0, 0),
         form: Form::NONE,
         standard: false,
+        in_one_piece: false,
         bare: false,
         at: 0,
         next: 0,
@@ -1205,6 +1280,7 @@ fn series_element(table: &Table, first: usize, last: usize) -> Outcome<Element> 
         values: ONE,
         form: table.entries[first].form,
         standard: true,
+        in_one_piece: true,
         ..Element::NONE
     })
 }
@@ -1221,6 +1297,7 @@ fn values_element(table: &Table, last: &mut [u8; MOST_ENTRIES], reference: &Refe
         _ => return Err(Refusal::Use),
     };
     let form = form_in_effect(entry, reference)?;
+    let standard = form == entry.form;
     last[first] = values.1;
     Ok(Element {
         kind: Items::Values,
@@ -1229,7 +1306,8 @@ fn values_element(table: &Table, last: &mut [u8; MOST_ENTRIES], reference: &Refe
         occurrences,
         values,
         form,
-        standard: form == entry.form,
+        standard,
+        in_one_piece: standard && entry.periodic.is_none() && entry.kind != Kind::Multiple,
         bare: reference.index.is_none(),
         ..Element::NONE
     })
@@ -1250,7 +1328,11 @@ fn form_in_effect(entry: &Entry, reference: &Reference) -> Outcome<Form> {
     }
     let format = reference.format.map_or(Some(entry.form.format), format_of).ok_or(Refusal::Use)?;
     let form = Form { format, length: reference.length.unwrap_or(entry.form.length) };
-    if form.is_allowed() && !matches!(way(entry.form, form), Way::Never) { Ok(form) } else { Err(Refusal::Use) }
+    if form.is_allowed() && !matches!(way(entry.form, form), Way::Never) {
+        Ok(form)
+    } else {
+        Err(Refusal::Use)
+    }
 }
 
 // Updating: the items.
@@ -1405,7 +1487,8 @@ impl Layout<'_> {
         for part in record.table.parts() {
             let entry = &record.table.entries[part];
             let periodic = entry.kind == Kind::Periodic;
-            let named = if periodic { self.naming(next, entry.periodic).next().is_some() } else { self.active[part] != END };
+            let named =
+                if periodic { self.naming(next, entry.periodic).next().is_some() } else { self.active[part] != END };
             if !named {
                 continue;
             }
@@ -1487,7 +1570,11 @@ impl Layout<'_> {
             }
             link = element.next;
         }
-        if highest > 0 && bare { highest } else { max(old, highest) }
+        if highest > 0 && bare {
+            highest
+        } else {
+            max(old, highest)
+        }
     }
 
     /// Takes one value from the record buffer if an element names it, else keeps the stored one, else makes it null.
