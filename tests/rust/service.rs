@@ -1,8 +1,8 @@
 //! Read, update and make the empty record, by the rules of document 01.
 //!
-//! Nothing is allocated. A call decodes what it was lent once: the table into entries, the record into the places of its
-//! entries and occurrences, the format into elements. A read then goes over its elements twice, to test and to write.
-//! An update tests its items, then lays the new record out in table order and copies it to the room last.
+//! Nothing is allocated. A call decodes what it was lent once: the table into entries, the record into the places of
+//! its entries and occurrences, the format into elements. A read then goes over its elements twice, to test and to
+//! write. An update tests its items, then lays the new record out in table order and copies it to the room last.
 
 use std::cmp::{max, min};
 use std::convert::TryFrom;
