@@ -1,0 +1,955 @@
+//! Writes random calls: `generate SEED COUNT`.
+//!
+//! Calls come in stories. A story has one table and one record; what an accepted update gives is the record of the next
+//! call. Most calls are good ones, each of the others is made to be refused by one number, and some meet another first.
+
+use std::env;
+use std::io::{self, BufWriter, Write};
+use std::process::exit;
+
+mod service;
+
+const MOST_RECORD: usize = 4096;
+const MOST_FORMAT: usize = 2048;
+const HIGHEST_INDEX: usize = 191;
+const SPACE: u8 = 0x40;
+const PERIOD: u8 = 0x4B;
+const APOSTROPHE: u8 = 0x7D;
+
+fn main() -> io::Result<()> {
+    let arguments: Vec<u64> = env::args().skip(1).filter_map(|word| word.parse().ok()).collect();
+    let (seed, count) = match arguments[..] {
+        [seed, count] => (seed, count),
+        _ => {
+            eprintln!("generate SEED COUNT");
+            exit(2);
+        }
+    };
+    let mut random = Random::new(seed);
+    let mut out = BufWriter::new(io::stdout());
+    let mut story = Story::new(&mut random);
+    for _ in 0..count {
+        if random.chance(9) {
+            story = Story::new(&mut random);
+        }
+        match random.below(20) {
+            0 => story.write_empty(&mut random, &mut out)?,
+            1..=9 => story.write_read(&mut random, &mut out)?,
+            _ => story.write_update(&mut random, &mut out)?,
+        }
+    }
+    out.flush()
+}
+
+/// The xorshift generator with a multiplication.
+struct Random(u64);
+
+impl Random {
+    fn new(seed: u64) -> Random {
+        let mut random = Random(seed.wrapping_mul(0x9E37_79B9_7F4A_7C15) | 1);
+        (0..8).for_each(|_| random.0 = random.next() | 1);
+        random
+    }
+
+    fn next(&mut self) -> u64 {
+        self.0 ^= self.0 >> 12;
+        self.0 ^= self.0 << 25;
+        self.0 ^= self.0 >> 27;
+        self.0.wrapping_mul(0x2545_F491_4F6C_DD1D)
+    }
+
+    fn below(&mut self, count: usize) -> usize {
+        (self.next() >> 33) as usize % count
+    }
+
+    fn between(&mut self, low: usize, high: usize) -> usize {
+        low + self.below(high - low + 1)
+    }
+
+    fn chance(&mut self, percent: usize) -> bool {
+        self.below(100) < percent
+    }
+
+    fn byte(&mut self) -> u8 {
+        self.below(256) as u8
+    }
+
+    fn pick<T: Copy>(&mut self, from: &[T]) -> T {
+        from[self.below(from.len())]
+    }
+}
+
+/// What a call is made for.
+#[derive(Clone, Copy, PartialEq, Eq)]
+enum Plan {
+    Good,
+    Table,
+    Record,
+    Syntax,
+    Name,
+    Use,
+    Twice,
+    Short,
+    Bad,
+    Misfit,
+    Room,
+}
+
+fn plan(random: &mut Random, plans: &[(usize, Plan)]) -> Plan {
+    let mut place = random.below(100);
+    for &(share, plan) in plans {
+        if place < share {
+            return plan;
+        }
+        place -= share;
+    }
+    Plan::Good
+}
+
+fn ebcdic(character: u8) -> u8 {
+    match character {
+        b'A'..=b'I' => character - b'A' + 0xC1,
+        b'J'..=b'R' => character - b'J' + 0xD1,
+        b'S'..=b'Z' => character - b'S' + 0xE2,
+        b'0'..=b'9' => character - b'0' + 0xF0,
+        b'.' => PERIOD,
+        b'(' => 0x4D,
+        b')' => 0x5D,
+        b'-' => 0x60,
+        b',' => 0x6B,
+        b'\'' => APOSTROPHE,
+        _ => SPACE,
+    }
+}
+
+fn encode(text: &str) -> Vec<u8> {
+    text.bytes().map(ebcdic).collect()
+}
+
+fn hexadecimal(bytes: &[u8]) -> String {
+    if bytes.is_empty() {
+        return "-".to_string();
+    }
+    bytes.iter().map(|byte| format!("{:02x}", byte)).collect()
+}
+
+/// Changes, takes out, puts in or cuts off a few bytes.
+fn damage(random: &mut Random, bytes: &mut Vec<u8>, new: impl Fn(&mut Random) -> u8) {
+    for _ in 0..random.pick(&[1, 1, 1, 2, 4]) {
+        if bytes.is_empty() {
+            bytes.push(new(random));
+            continue;
+        }
+        let at = random.below(bytes.len());
+        match random.below(8) {
+            0 => drop(bytes.remove(at)),
+            1 => bytes.insert(at, new(random)),
+            2 => bytes.truncate(at),
+            3 => bytes.push(new(random)),
+            _ => bytes[at] = new(random),
+        }
+    }
+}
+
+// Tables.
+
+/// An entry; its format is an ASCII letter, or a space for a group.
+#[derive(Clone)]
+struct Entry {
+    name: String,
+    level: u8,
+    format: u8,
+    length: u8,
+    option: u8,
+    periodic: Option<usize>,
+    end: usize,
+}
+
+impl Entry {
+    fn is_group(&self) -> bool {
+        self.format == b' '
+    }
+
+    fn is_multiple(&self) -> bool {
+        self.option == 1
+    }
+
+    fn is_periodic(&self) -> bool {
+        self.option == 2
+    }
+
+    fn is_variable(&self) -> bool {
+        !self.is_group() && self.length == 0
+    }
+
+    fn form(&self) -> Form {
+        Form { format: self.format, length: self.length }
+    }
+}
+
+#[derive(Clone, Copy)]
+struct Form {
+    format: u8,
+    length: u8,
+}
+
+const FORMATS: [u8; 5] = [b'A', b'B', b'F', b'P', b'U'];
+
+fn length_for(random: &mut Random, format: u8, wide: bool) -> u8 {
+    let (least, greatest) = match format {
+        b'A' => (0, 253),
+        b'B' => (1, 126),
+        b'F' => return random.pick(&[2, 4]),
+        b'P' => (1, 15),
+        _ => (1, 29),
+    };
+    let length = match random.below(8) {
+        0 => least,
+        1 if wide => greatest,
+        2 | 3 if wide => random.between(least, greatest),
+        _ => random.between(1, 6),
+    };
+    length as u8
+}
+
+fn make_name(random: &mut Random, used: &[Entry]) -> String {
+    loop {
+        let first = random.pick(b"AAABBCDEEFGMPUXZ") as char;
+        let second = random.pick(b"ABCDEXUPGSZ0123456789") as char;
+        let name: String = [first, second].iter().collect();
+        let no_name = first == 'E' && second.is_ascii_digit();
+        if !no_name && used.iter().all(|entry| entry.name != name) {
+            return name;
+        }
+    }
+}
+
+fn make_table(random: &mut Random) -> Vec<Entry> {
+    let count = match random.below(24) {
+        0 => 1,
+        1 => 64,
+        2 | 3 => random.between(13, 63),
+        _ => random.between(2, 12),
+    };
+    let (wide, groups, multiples) = (random.chance(20), random.pick(&[5, 25, 40]), random.pick(&[0, 20, 30]));
+    let mut table: Vec<Entry> = Vec::new();
+    for i in 0..count {
+        let level = match table.last() {
+            None => 1,
+            Some(entry) if entry.is_group() => entry.level + 1,
+            Some(entry) if random.chance(60) => entry.level,
+            Some(entry) => random.between(1, usize::from(entry.level)) as u8,
+        };
+        let group = i + 1 < count && level < 7 && random.chance(groups);
+        let format = if group { b' ' } else { random.pick(&FORMATS) };
+        let length = if group { 0 } else { length_for(random, format, wide) };
+        let option = match group {
+            true if level == 1 && random.chance(60) => 2,
+            false if random.chance(multiples) => 1,
+            _ => 0,
+        };
+        let periodic = match table.last() {
+            _ if option == 2 => Some(i),
+            Some(entry) if level > 1 => entry.periodic,
+            _ => None,
+        };
+        table.push(Entry { name: make_name(random, &table), level, format, length, option, periodic, end: i + 1 });
+    }
+    close_groups(&mut table);
+    table
+}
+
+fn close_groups(table: &mut [Entry]) {
+    for i in 0..table.len() {
+        if table[i].is_group() {
+            let inside = table[i + 1..].iter().take_while(|entry| entry.level > table[i].level).count();
+            table[i].end = i + 1 + inside;
+        }
+    }
+}
+
+fn table_bytes(table: &[Entry]) -> Vec<u8> {
+    let mut bytes = vec![0xE5, 0xC6, 0xE3, 0x00, 0x01, table.len() as u8];
+    for entry in table {
+        bytes.extend(encode(&entry.name));
+        bytes.extend(&[entry.level, ebcdic(entry.format), entry.length, entry.option]);
+    }
+    bytes
+}
+
+/// Breaks one rule of the table, or damages its bytes.
+fn bad_table(random: &mut Random, table: &[Entry]) -> Vec<u8> {
+    let mut bytes = table_bytes(table);
+    let entry = 6 + 6 * random.below(table.len());
+    let other = 6 + 6 * random.below(table.len());
+    match random.below(12) {
+        0 => bytes[entry + 1] = random.byte(),
+        1 => bytes[entry..entry + 2].copy_from_slice(&[0xC5, random.pick(&[0xF0, 0xF5, 0xF9])]),
+        2 => bytes.copy_within(other..other + 2, entry),
+        3 | 4 => bytes[entry + 2] = random.pick(&[0, 1, 2, 3, 7, 8, 255]),
+        5 => bytes[entry + 3] = ebcdic(random.pick(b"ABFPUGWN ")),
+        6 | 7 => bytes[entry + 4] = random.pick(&[0, 1, 2, 3, 4, 5, 15, 16, 29, 30, 126, 127, 253, 254, 255]),
+        8 => bytes[entry + 5] = random.pick(&[0, 1, 2, 3, 255]),
+        9 => bytes[5] = random.pick(&[0, 1, 63, 64, 65, 255, bytes[5] + 1, bytes[5] - 1]),
+        _ => damage(random, &mut bytes, Random::byte),
+    }
+    bytes
+}
+
+// Values.
+
+const LANDMARKS: [u128; 16] = [
+    9,
+    10,
+    99,
+    127,
+    128,
+    255,
+    256,
+    999,
+    9_999,
+    32_767,
+    32_768,
+    65_535,
+    65_536,
+    2_147_483_647,
+    2_147_483_648,
+    4_294_967_295,
+];
+
+fn magnitude(random: &mut Random) -> u128 {
+    match random.below(6) {
+        0 => 0,
+        1 | 2 => random.pick(&LANDMARKS) + random.below(2) as u128,
+        3 => random.below(1000) as u128,
+        _ => u128::from(random.next()) << random.below(48) >> random.below(64),
+    }
+}
+
+/// The largest magnitude that a numeric form holds for sure.
+fn capacity(form: Form) -> u128 {
+    let length = u32::from(form.length);
+    match form.format {
+        b'B' => (1u128 << (8 * length.min(15))) - 1,
+        b'F' => (1 << (8 * length - 1)) - 1,
+        b'P' => 10u128.pow(2 * length - 1) - 1,
+        _ => 10u128.pow(length) - 1,
+    }
+}
+
+/// A value of the form whose meaning fits another form too. A loose one need not be in normal form.
+fn make_value(random: &mut Random, form: Form, fit: Form, loose: bool) -> Vec<u8> {
+    if form.format == b'A' {
+        return make_text(random, form, fit, loose);
+    }
+    let mut most = capacity(form).min(capacity(fit));
+    if form.format != fit.format && [form, fit].iter().any(|form| matches!(form.format, b'B' | b'F')) {
+        most = most.min(2_147_483_647);
+    }
+    let magnitude = magnitude(random) % (most + 1);
+    let signed = form.format != b'B' && fit.format != b'B';
+    let negative = signed && random.chance(30) && (magnitude > 0 || loose);
+    put_number(random, form, magnitude, negative, loose)
+}
+
+fn put_number(random: &mut Random, form: Form, magnitude: u128, negative: bool, loose: bool) -> Vec<u8> {
+    let length = usize::from(form.length);
+    let plus = if loose && random.chance(30) { 0xC } else { 0xF };
+    let sign = if negative { 0xD } else { plus };
+    let digit = |right: usize| (magnitude / 10u128.pow(right as u32) % 10) as u8;
+    match form.format {
+        b'B' => {
+            let mut bytes = vec![0; length.saturating_sub(16)];
+            bytes.extend(&magnitude.to_be_bytes()[16 - length.min(16)..]);
+            bytes
+        }
+        b'F' => {
+            let number = if negative { -(magnitude as i64) } else { magnitude as i64 };
+            number.to_be_bytes()[8 - length..].to_vec()
+        }
+        b'P' => {
+            let low = |back: usize| if back == 0 { sign } else { digit(2 * back - 1) };
+            (0..length).rev().map(|back| digit(2 * back) << 4 | low(back)).collect()
+        }
+        _ => (0..length).rev().map(|back| if back == 0 { sign << 4 | digit(0) } else { 0xF0 | digit(back) }).collect(),
+    }
+}
+
+fn make_text(random: &mut Random, form: Form, fit: Form, loose: bool) -> Vec<u8> {
+    let room = |form: Form| if form.length == 0 { 253 } else { usize::from(form.length) };
+    let most = room(form).min(room(fit));
+    let length = match random.below(12) {
+        0 => most,
+        1 | 2 => 0,
+        _ => random.between(0, most.min(8)),
+    };
+    let mut text: Vec<u8> = (0..length).map(|_| random.pick(&[0xC1, 0xE9, 0xF5, 0x40, 0x00, 0xFF])).collect();
+    if form.length != 0 {
+        text.resize(usize::from(form.length), SPACE);
+        return text;
+    }
+    while !loose && text.last() == Some(&SPACE) {
+        text.pop();
+    }
+    text.insert(0, text.len() as u8 + 1);
+    text
+}
+
+fn make_bad(random: &mut Random, form: Form, value: &mut [u8]) {
+    let last = value.len() - 1;
+    let half = random.between(0xA, 0xE) as u8;
+    match form.format {
+        b'A' if form.length == 0 => value[0] = random.pick(&[0, 255]),
+        b'P' if random.chance(50) => value[last] = value[last] & 0xF0 | random.pick(&[0, 9, 0xA, 0xB, 0xE]),
+        b'P' => value[random.below(last + 1)] |= half << 4,
+        b'U' if random.chance(50) => value[random.below(last + 1)] = random.pick(&[0x05, 0xA5, 0xB5, 0xE5, 0x40]),
+        b'U' => value[random.below(last + 1)] |= half,
+        _ => {}
+    }
+}
+
+// Records.
+
+fn make_count(random: &mut Random, full: bool) -> usize {
+    match random.below(30) {
+        0 if full => HIGHEST_INDEX,
+        1 | 2 if full => random.between(5, 60),
+        3..=9 => 0,
+        10..=19 => 1,
+        _ => random.between(1, 4),
+    }
+}
+
+fn put_field(random: &mut Random, entry: &Entry, full: bool, bytes: &mut Vec<u8>) {
+    let mut count = 1;
+    if entry.is_multiple() {
+        count = make_count(random, full);
+        bytes.push(count as u8);
+    }
+    for _ in 0..count {
+        bytes.extend(make_value(random, entry.form(), entry.form(), false));
+    }
+}
+
+/// A valid record of the table, if its empty record isn't too long. Some are filled to the brim or nearly so.
+fn make_record(random: &mut Random, table: &[Entry]) -> Vec<u8> {
+    for &full in &[true, false, false] {
+        let mut bytes = vec![0xE5, 0xD9, 0xC3, 0x00, 0x01];
+        let (mut part, mut part_at) = (0, 0);
+        while part < table.len() {
+            part_at = bytes.len();
+            let (mut end, mut count) = (part + 1, 1);
+            if table[part].is_periodic() {
+                end = table[part].end;
+                count = make_count(random, full);
+                bytes.push(count as u8);
+            }
+            for _ in 0..count {
+                let fields = table[part..end].iter().filter(|entry| !entry.is_group());
+                fields.for_each(|entry| put_field(random, entry, full && entry.periodic.is_none(), &mut bytes));
+            }
+            part = end;
+        }
+        if random.chance(15) {
+            fill_record(random, &table[table.len() - 1], part_at, &mut bytes);
+        }
+        if bytes.len() <= MOST_RECORD {
+            return bytes;
+        }
+    }
+    let mut room = vec![0; MOST_RECORD];
+    let (_, length) = service::empty(&table_bytes(table), &mut room);
+    room.truncate(length);
+    room
+}
+
+/// Adds values to the last field until the record is as good as full, if that is a variable-length MU field outside.
+fn fill_record(random: &mut Random, last: &Entry, at: usize, record: &mut Vec<u8>) {
+    let length = MOST_RECORD - random.pick(&[0, 0, 1, 2, 5, 30]);
+    if !last.is_multiple() || !last.is_variable() || last.periodic.is_some() {
+        return;
+    }
+    while record.len() < length && usize::from(record[at]) < HIGHEST_INDEX {
+        let value = (length - record.len()).min(random.pick(&[254, 254, 100]));
+        record.push(value as u8);
+        record.extend((1..value).map(|_| 0xC1));
+        record[at] += 1;
+    }
+}
+
+fn bad_record(random: &mut Random, record: &[u8]) -> Vec<u8> {
+    let mut bytes = record.to_vec();
+    match random.below(8) {
+        0 => bytes.push(random.pick(&[0, 1, SPACE])),
+        1 => drop(bytes.pop()),
+        2 => bytes[random.below(5)] ^= 1,
+        3 if random.chance(10) => bytes.resize(random.pick(&[4097, 5000]), 0),
+        4 => bytes.truncate(random.below(record.len())),
+        _ => {
+            let at = random.between(0, record.len() - 1);
+            bytes[at] = random.pick(&[0, 1, 2, 192, 255, 0x0C, 0x0D, 0xF0, 0xC0, 0xD0, 0xFA, 0xA5, SPACE]);
+        }
+    }
+    if random.chance(15) {
+        damage(random, &mut bytes, Random::byte);
+    }
+    bytes
+}
+
+// Formats.
+
+/// An element as written, with what an update's record buffer has to hold for it.
+struct Element {
+    written: Vec<u8>,
+    skipped: usize,
+    named: Option<Named>,
+}
+
+#[derive(Clone, Copy)]
+struct Named {
+    first: usize,
+    end: usize,
+    occurrences: (usize, usize),
+    values: (usize, usize),
+    form: Option<Form>,
+}
+
+fn meet(a: (usize, usize), b: (usize, usize)) -> bool {
+    a.0 <= b.1 && b.0 <= a.1
+}
+
+impl Named {
+    fn meets(&self, other: &Named) -> bool {
+        meet((self.first, self.end - 1), (other.first, other.end - 1))
+            && meet(self.occurrences, other.occurrences)
+            && meet(self.values, other.values)
+    }
+}
+
+/// The elements of one format as they are made.
+struct Maker<'a> {
+    table: &'a [Entry],
+    plan: Plan,
+    update: bool,
+    last: Vec<usize>,
+    elements: Vec<Element>,
+}
+
+impl Maker<'_> {
+    fn make(random: &mut Random, table: &[Entry], plan: Plan, update: bool) -> Vec<Element> {
+        let count = match random.below(40) {
+            0 => random.between(20, 60),
+            1 if random.chance(20) => 600,
+            2..=9 => random.between(5, 12),
+            _ => random.between(1, 4),
+        };
+        let mut maker = Maker { table, plan, update, last: vec![0; table.len()], elements: Vec::new() };
+        let odd = random.below(count.min(4));
+        for i in 0..count {
+            match plan {
+                Plan::Use if i == odd => maker.misuse(random),
+                Plan::Name if i == odd => maker.unknown(random),
+                Plan::Syntax if i == odd && random.chance(70) => maker.misspell(random),
+                Plan::Twice if i > 0 && random.chance(60) => maker.again(random),
+                _ => maker.add(random),
+            }
+        }
+        if plan == Plan::Twice {
+            maker.again(random);
+        }
+        maker.elements
+    }
+
+    fn put(&mut self, written: &str, skipped: usize) {
+        self.elements.push(Element { written: encode(written), skipped, named: None });
+    }
+
+    fn add(&mut self, random: &mut Random) {
+        let i = random.below(self.table.len());
+        match random.below(16) {
+            0 => {
+                let number = random.pick(&[1, 2, 3, 10, 255]);
+                let written = spell(random, number) + "X";
+                self.put(&written, number);
+            }
+            1 => self.add_text(random),
+            2 | 3 => self.add_count(random, i),
+            4 => self.add_series(random, i),
+            _ => self.add_values(random, i),
+        }
+    }
+
+    fn add_text(&mut self, random: &mut Random) {
+        let length = random.pick(&[1, 2, 3, 8, 8, 255]);
+        let byte = |random: &mut Random| random.pick(&[PERIOD, 0xC1, SPACE, 0x6B, 0x00, 0xFF, 0x81]);
+        let mut written = vec![APOSTROPHE];
+        written.extend((0..length).map(|_| byte(random)));
+        written.push(APOSTROPHE);
+        self.elements.push(Element { written, skipped: length, named: None });
+    }
+
+    fn add_count(&mut self, random: &mut Random, i: usize) {
+        let entry = &self.table[i];
+        let written = match (entry.is_multiple(), entry.periodic) {
+            (true, Some(_)) => {
+                let index = range(random, self.plan).0;
+                format!("{}{}C", entry.name, spell(random, index))
+            }
+            (false, Some(group)) => format!("{}C", self.table[group].name),
+            (true, None) => format!("{}C", entry.name),
+            (false, None) => return self.add_values(random, i),
+        };
+        self.put(&written, 1);
+    }
+
+    fn add_series(&mut self, random: &mut Random, first: usize) {
+        let shut_out = |entry: &&Entry| !entry.is_multiple() && !entry.is_periodic();
+        let run = self.table[first..].iter().take_while(shut_out).count();
+        if run == 0 || self.table[first].is_group() || self.table[first].periodic.is_some() {
+            return self.add_values(random, first);
+        }
+        let last = first + random.below(run.min(6));
+        if self.table[last].is_group() {
+            return self.add_values(random, first);
+        }
+        let written = format!("{}-{}", self.table[first].name, self.table[last].name);
+        self.name(&written, Named { first, end: last + 1, occurrences: (1, 1), values: (1, 1), form: None });
+    }
+
+    fn add_values(&mut self, random: &mut Random, i: usize) {
+        let entry = &self.table[i];
+        let members = &self.table[i..entry.end];
+        if entry.is_group() && members.iter().any(|entry| entry.is_multiple() || entry.is_variable()) {
+            return self.add_values(random, i + 1);
+        }
+        let (mut occurrences, mut values, mut written) = ((1, 1), (1, 1), entry.name.clone());
+        if entry.periodic.is_some() {
+            occurrences = range(random, self.plan);
+            written += &spell_range(random, occurrences);
+            if entry.is_multiple() && random.chance(60) {
+                values = range(random, self.plan);
+                written += &format!("({})", spell_range(random, values));
+            }
+        } else if entry.is_multiple() {
+            values = (self.last[i] + 1, self.last[i] + 1);
+            if values.0 > HIGHEST_INDEX || random.chance(40) {
+                values = range(random, self.plan);
+                written += &spell_range(random, values);
+            }
+        }
+        let form = if entry.is_group() { None } else { self.choose_form(random, entry.form()) };
+        if let Some(form) = form {
+            written += &spell_form(random, form, entry.form());
+        }
+        let named = Named { first: i, end: entry.end, occurrences, values, form };
+        if self.name(&written, named) {
+            self.last[i] = values.1;
+        }
+    }
+
+    /// Adds an element, unless an update would name an occurrence twice by it.
+    fn name(&mut self, written: &str, named: Named) -> bool {
+        let twice = |element: &Element| element.named.map_or(false, |other| other.meets(&named));
+        if self.update && self.elements.iter().any(twice) {
+            return false;
+        }
+        self.elements.push(Element { written: encode(written), skipped: 0, named: Some(named) });
+        true
+    }
+
+    /// Names a field again that has been named.
+    fn again(&mut self, random: &mut Random) {
+        let named: Vec<Named> = self.elements.iter().filter_map(|element| element.named).collect();
+        if named.is_empty() {
+            return self.add(random);
+        }
+        let old = random.pick(&named);
+        let i = random.between(old.first, old.end - 1);
+        self.update = false;
+        self.add_values(random, i);
+        self.update = true;
+    }
+
+    fn unknown(&mut self, random: &mut Random) {
+        let name = make_name(random, self.table);
+        let known = self.table[random.below(self.table.len())].name.clone();
+        let written = match random.below(5) {
+            0 => format!("{}-{}", name, known),
+            1 => format!("{}-{}", known, name),
+            _ => name + random.pick(&["", "", "1", "0", "C", "1C", "1-2(3)", ",5", ",5,U", ",U"]),
+        };
+        self.put(&written, 1);
+    }
+
+    /// Puts something after a name that few entries take.
+    fn misuse(&mut self, random: &mut Random) {
+        const SUFFIXES: [&str; 40] = [
+            "", "1", "0", "000", "192", "999", "2-1", "0-1", "1-192", "2-2", "C", "1C", "0C", "192C", "1(1)", "1(0)",
+            "1(2-1)", "1(192)", "1-2(3)", "0(1)", ",0", ",1", ",3", ",16", ",30", ",127", ",254", ",255", ",G", ",W",
+            ",A", ",B", ",F", ",P", ",U", ",4,F", ",5,G", ",0,B", "1,2", "1,P",
+        ];
+        let name = |random: &mut Random| self.table[random.below(self.table.len())].name.clone();
+        let written = match random.chance(20) {
+            true => format!("{}-{}", name(random), name(random)),
+            false => name(random) + random.pick(&SUFFIXES),
+        };
+        self.put(&written, 4);
+    }
+
+    /// Puts an element that is none of the forms. The sign # stands for a name.
+    fn misspell(&mut self, random: &mut Random) {
+        const FORMS: [&str; 38] = [
+            "", "#0X", "0X", "256X", "1234X", "5 X", "''", "'A''B'", "'A", "#(1)", "#1-2C", "#1(1)C", "#1C(1)", "#1-",
+            "#-1", "# 1", "#1 (1)", "#1(1", "#1()", "#1(1-)", "#1234", "#,256", "#,1000", "#,U,5", "#,5,5", "#,X",
+            "#,5,N", "#,AU,", "E5", "#-E1", "#,E1", "#N", "#S", "#1-N", "C", "#,5,", "#C,1", "#-#,5",
+        ];
+        let name = &self.table[random.below(self.table.len())].name;
+        let written = random.pick(&FORMS).replace('#', name);
+        self.put(&written, 4);
+    }
+
+    /// A length and format in effect: mostly one that holds what the standard ones hold.
+    fn choose_form(&self, random: &mut Random, standard: Form) -> Option<Form> {
+        let any = self.plan == Plan::Misfit;
+        if !any && random.chance(60) {
+            return None;
+        }
+        let format = if standard.format == b'A' { b'A' } else { random.pick(&FORMATS[1..]) };
+        for _ in 0..8 {
+            let form = Form { format, length: length_for(random, format, true) };
+            let holds = match format {
+                b'A' => form.length == 0 || (form.length >= standard.length && standard.length > 0),
+                _ => capacity(form) >= capacity(standard).min(99_999) && (format != b'B' || standard.format == b'B'),
+            };
+            if any || holds || random.chance(4) {
+                return Some(form);
+            }
+        }
+        None
+    }
+}
+
+/// An index or range; one made for a full room goes high.
+fn range(random: &mut Random, plan: Plan) -> (usize, usize) {
+    let high = plan == Plan::Room && random.chance(50);
+    let low = match random.below(40) {
+        0 => HIGHEST_INDEX,
+        _ if high => random.between(100, HIGHEST_INDEX),
+        1 => random.between(1, HIGHEST_INDEX),
+        _ => random.between(1, 4),
+    };
+    match random.below(30) {
+        0 if random.chance(30) => (1, HIGHEST_INDEX),
+        1 => (low, random.between(low, HIGHEST_INDEX)),
+        2..=9 => (low, (low + random.below(3)).min(HIGHEST_INDEX)),
+        _ => (low, low),
+    }
+}
+
+fn spell(random: &mut Random, number: usize) -> String {
+    match random.below(20) {
+        0 => format!("{:03}", number),
+        1 => format!("{:02}", number),
+        _ => number.to_string(),
+    }
+}
+
+fn spell_range(random: &mut Random, (low, high): (usize, usize)) -> String {
+    if low == high && random.chance(90) {
+        return spell(random, low);
+    }
+    format!("{}-{}", spell(random, low), spell(random, high))
+}
+
+fn spell_form(random: &mut Random, form: Form, standard: Form) -> String {
+    let comma = |random: &mut Random| random.pick(&[",", ",", ",", " ,", ", ", " , "]);
+    let mut written = String::new();
+    if form.length != standard.length || random.chance(30) {
+        written += comma(random);
+        written += &spell(random, form.length.into());
+    }
+    if form.format != standard.format || random.chance(20) {
+        written += comma(random);
+        written.push(form.format.into());
+    }
+    written
+}
+
+fn write_format(random: &mut Random, elements: &[Element]) -> Vec<u8> {
+    let spaced = random.chance(30);
+    let spaces = |random: &mut Random| vec![SPACE; if spaced { random.pick(&[0, 0, 1, 3]) } else { 0 }];
+    let mut format = spaces(random);
+    for (i, element) in elements.iter().enumerate() {
+        if i > 0 {
+            format.extend(spaces(random));
+            format.push(ebcdic(b','));
+            format.extend(spaces(random));
+        }
+        format.extend(&element.written);
+    }
+    format.extend(spaces(random));
+    format.push(PERIOD);
+    if random.chance(5) {
+        format.extend((0..random.below(9)).map(|_| random.byte()));
+    }
+    if random.chance(1) && format.len() < MOST_FORMAT {
+        format.resize(MOST_FORMAT, SPACE);
+    }
+    format
+}
+
+/// A format that is damaged, random, too long or without a period.
+fn bad_format(random: &mut Random, mut format: Vec<u8>) -> Vec<u8> {
+    let character = |random: &mut Random| match random.below(30) {
+        0 => random.byte(),
+        _ => ebcdic(random.pick(b"AABCDEFGUX0123456789.,,-()' ")),
+    };
+    match random.below(4) {
+        0 => format = (0..random.between(0, 30)).map(|_| character(random)).collect(),
+        1 if random.chance(10) => format.resize(random.pick(&[MOST_FORMAT + 1, 3000]), SPACE),
+        1 => format.retain(|&byte| byte != PERIOD),
+        _ => damage(random, &mut format, character),
+    }
+    format
+}
+
+// Calls.
+
+struct Story {
+    table: Vec<Entry>,
+    record: Vec<u8>,
+}
+
+impl Story {
+    fn new(random: &mut Random) -> Story {
+        let table = make_table(random);
+        let mut record = make_record(random, &table);
+        if random.chance(25) {
+            record = vec![0; MOST_RECORD];
+            let (_, length) = service::empty(&table_bytes(&table), &mut record);
+            record.truncate(length);
+        }
+        if record.is_empty() && random.chance(90) {
+            return Story::new(random);
+        }
+        Story { table, record }
+    }
+
+    /// The table, record and elements' format of one call.
+    fn lend(&self, random: &mut Random, plan: Plan, elements: &[Element]) -> (Vec<u8>, Vec<u8>, Vec<u8>) {
+        let table = if plan == Plan::Table { bad_table(random, &self.table) } else { table_bytes(&self.table) };
+        let record = match plan {
+            Plan::Record if !self.record.is_empty() => bad_record(random, &self.record),
+            _ => self.record.clone(),
+        };
+        let mut format = write_format(random, elements);
+        if plan == Plan::Syntax && random.chance(50) {
+            format = bad_format(random, format);
+        }
+        (table, record, format)
+    }
+
+    fn write_empty(&self, random: &mut Random, out: &mut impl Write) -> io::Result<()> {
+        let (bad, short) = (random.chance(30), random.chance(30));
+        let table = if bad { bad_table(random, &self.table) } else { table_bytes(&self.table) };
+        let (_, length) = service::empty(&table, &mut [0; MOST_RECORD]);
+        let room = choose_length(random, length, short);
+        writeln!(out, "E {} {}", hexadecimal(&table), room)
+    }
+
+    fn write_read(&self, random: &mut Random, out: &mut impl Write) -> io::Result<()> {
+        const PLANS: [(usize, Plan); 8] = [
+            (5, Plan::Table),
+            (6, Plan::Record),
+            (8, Plan::Syntax),
+            (6, Plan::Name),
+            (8, Plan::Use),
+            (6, Plan::Short),
+            (9, Plan::Misfit),
+            (1, Plan::Room),
+        ];
+        let plan = plan(random, &PLANS);
+        let elements = Maker::make(random, &self.table, plan, false);
+        let (table, record, format) = self.lend(random, plan, &elements);
+        let mut buffer = vec![0; 32_800];
+        let (_, length) = service::read(&table, &record, &format, &mut buffer);
+        let length = choose_length(random, length, plan == Plan::Short);
+        let (table, record, format) = (hexadecimal(&table), hexadecimal(&record), hexadecimal(&format));
+        writeln!(out, "R {} {} {} {}", table, record, format, length)
+    }
+
+    fn write_update(&mut self, random: &mut Random, out: &mut impl Write) -> io::Result<()> {
+        const PLANS: [(usize, Plan); 10] = [
+            (4, Plan::Table),
+            (4, Plan::Record),
+            (5, Plan::Syntax),
+            (4, Plan::Name),
+            (5, Plan::Use),
+            (7, Plan::Twice),
+            (5, Plan::Short),
+            (12, Plan::Bad),
+            (8, Plan::Misfit),
+            (10, Plan::Room),
+        ];
+        let plan = plan(random, &PLANS);
+        let elements = Maker::make(random, &self.table, plan, true);
+        let (table, record, format) = self.lend(random, plan, &elements);
+        let buffer = self.make_buffer(random, plan, &elements);
+        let mut new = vec![0; MOST_RECORD];
+        let (number, length) = service::update(&table, &record, &format, &buffer, &mut new);
+        let room = choose_length(random, length, plan == Plan::Room);
+        if number == 0 && length <= room && random.chance(80) {
+            self.record = new[..length].to_vec();
+        }
+        let (table, record, format) = (hexadecimal(&table), hexadecimal(&record), hexadecimal(&format));
+        writeln!(out, "U {} {} {} {} {}", table, record, format, hexadecimal(&buffer), room)
+    }
+
+    fn make_buffer(&self, random: &mut Random, plan: Plan, elements: &[Element]) -> Vec<u8> {
+        let mut buffer = Vec::new();
+        for element in elements {
+            buffer.extend((0..element.skipped).map(|_| random.byte()));
+            if let Some(named) = element.named {
+                self.put_values(random, plan, &named, &mut buffer);
+            }
+        }
+        if plan == Plan::Short && !buffer.is_empty() {
+            buffer.truncate(random.below(buffer.len()));
+        } else if random.chance(10) {
+            buffer.extend((0..random.below(20)).map(|_| random.byte()));
+        }
+        buffer
+    }
+
+    fn put_values(&self, random: &mut Random, plan: Plan, named: &Named, buffer: &mut Vec<u8>) {
+        let fields = self.table[named.first..named.end].iter().filter(|entry| !entry.is_group());
+        for _ in named.occurrences.0..=named.occurrences.1 {
+            for field in fields.clone() {
+                for _ in named.values.0..=named.values.1 {
+                    if buffer.len() > 33_000 {
+                        return;
+                    }
+                    let form = named.form.unwrap_or_else(|| field.form());
+                    let fit = if plan == Plan::Misfit { form } else { field.form() };
+                    let mut value = make_value(random, form, fit, true);
+                    if plan == Plan::Bad && random.chance(40) {
+                        make_bad(random, form, &mut value);
+                    }
+                    buffer.extend(value);
+                }
+            }
+        }
+    }
+}
+
+/// A length to lend where so much is needed, or 0 where the call is refused in any case.
+fn choose_length(random: &mut Random, needed: usize, short: bool) -> usize {
+    match random.below(4) {
+        _ if needed == 0 => random.pick(&[0, 30, 999, 4096, 4097, 33_000]),
+        _ if short && random.chance(60) => needed - 1,
+        _ if short => random.below(needed),
+        0 | 1 => needed,
+        2 => needed + random.below(40),
+        _ => needed.max(random.pick(&[999, 4096, 33_000])),
+    }
+}
