@@ -1,0 +1,192 @@
+// The field definition table: whether a slice is one, and what the layers above ask of one.
+ghost use mathlib.Core.Path.{_≡_};
+ghost use mathlib.Core.Bool.{_&&_, true};
+ghost use Prim.Native.Nat.{_<_, _≤_, _+_, _*_};
+ghost use lib.ListN.{length, getD, drop};
+ghost use Rattle.rules.specs.Outcome.{is-done};
+ghost use Rattle.rules.specs.Values.{allowed};
+ghost use Rattle.rules.specs.Characters.{letter, digit};
+ghost use Rattle.rules.specs.Table.{is-name, what-of, entries};
+ghost use Rattle.tables.specs.Entries.{format-at, letter-number, row-of, right-of, bytes-at};
+
+// What stands in the place of a group's format.
+pub const GROUP: u8 = 5;
+
+// A decoded entry. A format is its number: A 0, B 1, F 2, P 3, U 4; a group has GROUP.
+pub struct Entry {
+    pub name: u16,
+    pub level: u8,
+    pub format: u8,
+    pub size: u8,
+    pub multiple: bool,
+    pub periodic: bool,
+}
+
+// The least and the greatest length of each format, by its number.
+const LEAST: [u8; 5] = [0, 1, 2, 1, 1];
+
+const GREATEST: [u8; 5] = [253, 126, 4, 15, 29];
+
+// Whether a format allows a length: F has 2 and 4 alone.
+pub fn length_allowed(format: u8, size: u8) -> bool
+    requires { ⌜ format < 5 ⌝ }
+    ensures { λ r. ⌜ r ≡ allowed (format-at format) size ⌝ }
+{
+    let f = format as usize;
+    if size < LEAST[f] {
+        return false;
+    }
+    if GREATEST[f] < size {
+        return false;
+    }
+    if format == 2 {
+        return size != 3;
+    }
+    true
+}
+
+fn is_letter(b: u8) -> bool
+    ensures { λ r. ⌜ r ≡ letter b ⌝ }
+{
+    if b < 0xc1 {
+        return false;
+    }
+    if b <= 0xc9 {
+        return true;
+    }
+    if b < 0xd1 {
+        return false;
+    }
+    if b <= 0xd9 {
+        return true;
+    }
+    if b < 0xe2 {
+        return false;
+    }
+    b <= 0xe9
+}
+
+fn is_digit(b: u8) -> bool
+    ensures { λ r. ⌜ r ≡ digit b ⌝ }
+{
+    if b < 0xf0 {
+        return false;
+    }
+    b <= 0xf9
+}
+
+// A letter, then a letter or a digit, and none of E0 to E9.
+fn is_name(a: u8, b: u8) -> bool
+    ensures { λ r. ⌜ r ≡ is-name a b ⌝ }
+{
+    if is_letter(a) {
+        if is_digit(b) {
+            return a != 0xc5;
+        }
+        return is_letter(b);
+    }
+    false
+}
+
+// The number of a format letter, or GROUP.
+fn format_number(letter: u8) -> u8
+    ensures { λ r. ⌜ (r ≡ letter-number letter) × (r ≤ 5) ⌝ }
+{
+    match letter {
+        0xc1 => 0,
+        0xc2 => 1,
+        0xc6 => 2,
+        0xd7 => 3,
+        0xe4 => 4,
+        _ => GROUP,
+    }
+}
+
+// Whether a group's level, format letter, length and option go together.
+fn group_right(level: u8, letter: u8, size: u8, option: u8) -> bool
+    requires { ⌜ letter-number letter ≡ 5 ⌝ }
+    ensures { λ r. ⌜ r ≡ is-done (what-of level letter size option) ⌝ }
+{
+    if letter != 0x40 {
+        return false;
+    }
+    if size != 0 {
+        return false;
+    }
+    if option == 2 {
+        return level == 1;
+    }
+    option == 0
+}
+
+// The same of any entry.
+fn what_right(level: u8, letter: u8, size: u8, option: u8) -> bool
+    ensures { λ r. ⌜ r ≡ is-done (what-of level letter size option) ⌝ }
+{
+    let format = format_number(letter);
+    if format == GROUP {
+        return group_right(level, letter, size, option);
+    }
+    if length_allowed(format, size) {
+        return option <= 1;
+    }
+    false
+}
+
+// Whether entry i is right by itself.
+fn entry_right(t: &[u8], i: usize) -> bool
+    requires { ⌜ i * 6 + 12 ≤ length (now t) ⌝ }
+    ensures { λ r. ⌜ r ≡ right-of (bytes-at (now (t .entry)) i) ⌝ }
+{
+    let p = i * 6 + 6;
+    if is_name(t[p], t[p + 1]) {
+        return what_right(t[p + 2], t[p + 3], t[p + 4], t[p + 5]);
+    }
+    false
+}
+
+// Whether each of the n entries is right by itself.
+fn entries_right(t: &[u8], n: usize) -> bool
+    requires { ⌜ n * 6 + 6 ≡ length (now t) ⌝ }
+    ensures { λ r. ⌜ r ≡ is-done (entries n (drop 6 (now (t .entry)))) ⌝ }
+{
+    let mut i = 0;
+    while i < n {
+        if entry_right(t, i) {
+            i += 1;
+        } else {
+            return false;
+        }
+    }
+    true
+}
+
+fn wide(b: u8) -> u16
+    ensures { λ r. ⌜ (r ≡ b) × (r < 256) ⌝ }
+{
+    b as u16
+}
+
+// The name of entry i, as one number.
+fn name_at(t: &[u8], i: usize) -> u16
+    requires { ⌜ i * 6 + 12 ≤ length (now t) ⌝ }
+    ensures { λ r. ⌜ r ≡ row-of (bytes-at (now (t .entry)) i) .name ⌝ }
+{
+    let p = i * 6 + 6;
+    wide(t[p]) * 256 + wide(t[p + 1])
+}
+
+fn row(t: &[u8], i: usize) -> Entry
+    requires { ⌜ i * 6 + 12 ≤ length (now t) ⌝ }
+    ensures { λ r. ⌜ r ≡ row-of (bytes-at (now (t .entry)) i) ⌝ }
+{
+    let p = i * 6 + 6;
+    Entry {
+        name: name_at(t, i),
+        level: t[p + 2],
+        format: format_number(t[p + 3]),
+        size: t[p + 4],
+        multiple: t[p + 5] == 1,
+        periodic: t[p + 5] == 2,
+    }
+}
