@@ -1,2 +1,4 @@
 pub mod Rows
 pub mod Lengths
+pub mod Levels
+pub mod Tables

@@ -1,15 +1,16 @@
 -- The entries of a table, and what the code's entries mean, in the words of `rules`.
 use mathlib.Core.Path.{_≡_}
-use mathlib.Core.Bool.{Bool, true, false, _&&_}
+use mathlib.Core.Bool.{Bool, true, false, not, _&&_}
 use mathlib.Core.List.{List, [], _∷_}
 use mathlib.Core.Option.{none, some}
-use Prim.Native.Nat.{ℕ, _+_, _*_}
-use lib.Dec.{eqb}
-use lib.ListN.{getD, drop}
+use Prim.Native.Nat.{ℕ, suc, _+_, _*_}
+use lib.Dec.{eqb, leb}
+use lib.ListN.{length, getD, take, drop}
 use Rattle.rules.specs.Outcome.{Outcome, done, refused, is-done}
-use Rattle.rules.specs.Lists.{Bytes}
+use Rattle.rules.specs.Limits.{most-entries, deepest-level}
+use Rattle.rules.specs.Lists.{Bytes, same, all}
 use Rattle.rules.specs.Values.{Format, alpha, binary, fixed, packed, unpacked}
-use Rattle.rules.specs.Table.{What, field, group, Entry, format-of, is-name, name-of, what-of, entries, table}
+use Rattle.rules.specs.Table.{What, field, group, Entry, format-of, is-name, name-of, what-of, entries, names, table-head, table}
 use Rattle.tables.specs.declared.Entry.{Entry as Row}
 
 -- The entries of an outcome: none where it was refused.
@@ -106,3 +107,21 @@ right-of bs = is-name (getD bs 0 0) (getD bs 1 0) && is-done (what-of (getD bs 2
 -- Where entry i's bytes stand.
 abbrev pub bytes-at : Bytes → ℕ → Bytes
 bytes-at t i = drop (i * 6 + 6) t
+
+-- The first n entries are right by themselves.
+abbrev pub Right : ℕ → Bytes → Type 0
+Right n t = is-done (entries n (drop 6 t)) ≡ true
+
+-- The head, n, and the length of the whole slice.
+unfoldable pub headed : Bytes → Bool
+headed t =
+    leb 6 (length t) && same (take 5 t) table-head && (leb 1 (getD t 5 0) && leb (getD t 5 0) most-entries) && eqb (length t) (getD t 5 0 * 6 + 6)
+
+-- Whether a level may follow that of a group, or of a field.
+unfoldable pub follows : Bool → ℕ → ℕ → Bool
+follows true before level = eqb level (suc before) && leb level deepest-level
+follows false before level = leb 1 level && leb level before
+
+-- Whether no entry has a name.
+unfoldable pub unused : ℕ → List Entry → Bool
+unused n es = all (λ m. not (eqb m n)) (names es)

@@ -1,13 +1,14 @@
 // The field definition table: whether a slice is one, and what the layers above ask of one.
 ghost use mathlib.Core.Path.{_≡_};
-ghost use mathlib.Core.Bool.{_&&_, true};
+ghost use mathlib.Core.Bool.{false};
 ghost use Prim.Native.Nat.{_<_, _≤_, _+_, _*_};
 ghost use lib.ListN.{length, getD, drop};
+ghost use lib.Dec.{eqb};
 ghost use Rattle.rules.specs.Outcome.{is-done};
 ghost use Rattle.rules.specs.Values.{allowed};
 ghost use Rattle.rules.specs.Characters.{letter, digit};
-ghost use Rattle.rules.specs.Table.{is-name, what-of, entries};
-ghost use Rattle.tables.specs.Entries.{format-at, letter-number, row-of, right-of, bytes-at};
+ghost use Rattle.rules.specs.Table.{is-name, group, what-of, entries, levels, differ, names, table};
+ghost use Rattle.tables.specs.Entries.{format-at, letter-number, row-of, right-of, bytes-at, read-entries, Right, follows, unused, headed};
 
 // What stands in the place of a group's format.
 pub const GROUP: u8 = 5;
@@ -161,10 +162,10 @@ fn entries_right(t: &[u8], n: usize) -> bool
     true
 }
 
-fn wide(b: u8) -> u16
+fn wide(b: u8) -> usize
     ensures { λ r. ⌜ (r ≡ b) × (r < 256) ⌝ }
 {
-    b as u16
+    b as usize
 }
 
 // The name of entry i, as one number.
@@ -173,7 +174,7 @@ fn name_at(t: &[u8], i: usize) -> u16
     ensures { λ r. ⌜ r ≡ row-of (bytes-at (now (t .entry)) i) .name ⌝ }
 {
     let p = i * 6 + 6;
-    wide(t[p]) * 256 + wide(t[p + 1])
+    (wide(t[p]) * 256 + wide(t[p + 1])) as u16
 }
 
 fn row(t: &[u8], i: usize) -> Entry
@@ -189,4 +190,113 @@ fn row(t: &[u8], i: usize) -> Entry
         multiple: t[p + 5] == 1,
         periodic: t[p + 5] == 2,
     }
+}
+
+fn is_group(e: Entry) -> bool
+    ensures { λ r. ⌜ r ≡ eqb (e .format) 5 ⌝ }
+{
+    e.format == GROUP
+}
+
+// Whether a level may follow that of a group, or of a field.
+fn may_follow(group: bool, before: u8, level: u8) -> bool
+    ensures { λ r. ⌜ r ≡ follows group before level ⌝ }
+{
+    if level < 1 {
+        return false;
+    }
+    if group {
+        if level - 1 == before {
+            return level <= rules::DEEPEST_LEVEL;
+        }
+        return false;
+    }
+    level <= before
+}
+
+// Whether the levels of the n entries are right, and the last entry is a field.
+fn levels_right(t: &[u8], n: usize) -> bool
+    requires { ⌜ Right n (now t) ⌝ }
+    ensures { λ r. ⌜ r ≡ levels (group false) 0 (read-entries n (now (t .entry))) ⌝ }
+{
+    let mut after_group = true;
+    let mut before = 0;
+    let mut i = 0;
+    while i < n {
+        let e = row(t, i);
+        if may_follow(after_group, before, e.level) {
+            after_group = is_group(e);
+            before = e.level;
+            i += 1;
+        } else {
+            return false;
+        }
+    }
+    !after_group
+}
+
+// Whether no entry from the one given on has a name.
+fn name_unused(t: &[u8], n: usize, from: usize, name: u16) -> bool
+    requires { ⌜ Right n (now t) × (from ≤ n) ⌝ }
+    ensures { λ r. ⌜ r ≡ unused name (drop from (read-entries n (now (t .entry)))) ⌝ }
+{
+    let mut i = from;
+    while i < n {
+        if name_at(t, i) == name {
+            return false;
+        }
+        i += 1;
+    }
+    true
+}
+
+// Whether the names of the n entries differ.
+fn names_differ(t: &[u8], n: usize) -> bool
+    requires { ⌜ Right n (now t) ⌝ }
+    ensures { λ r. ⌜ r ≡ differ (names (read-entries n (now (t .entry)))) ⌝ }
+{
+    let mut i = 0;
+    while i < n {
+        if name_unused(t, n, i + 1, name_at(t, i)) {
+            i += 1;
+        } else {
+            return false;
+        }
+    }
+    true
+}
+
+// Whether the head, the number of entries and the length of the slice are a table's.
+fn head_right(t: &[u8]) -> bool
+    ensures { λ r. ⌜ r ≡ headed (now (t .entry)) ⌝ }
+{
+    if t.len() < 6 {
+        return false;
+    }
+    if buffer::stands_at(t, 0, b"\xe5\xc6\xe3\x00\x01") {
+        let n = wide(t[5]);
+        if n < 1 {
+            return false;
+        }
+        if rules::MOST_ENTRIES < n {
+            return false;
+        }
+        return t.len() == n * 6 + 6;
+    }
+    false
+}
+
+// Whether the slice is a field definition table.
+pub fn valid(t: &[u8]) -> bool
+    ensures { λ r. ⌜ r ≡ is-done (table (now (t .entry))) ⌝ }
+{
+    if head_right(t) {
+        let n = wide(t[5]);
+        if entries_right(t, n) {
+            if levels_right(t, n) {
+                return names_differ(t, n);
+            }
+        }
+    }
+    false
 }

@@ -36,6 +36,9 @@ wide-requires-2 c κs = search needs
 add-result : tie.Need-add-result
 add-result c = search needs
 
+cast-result : tie.Need-cast-result
+cast-result c = search needs
+
 returns : tie.Need-returns
 unfolding name-of
 returns c =
@@ -55,4 +58,5 @@ name-at-spec =
     shared-slice-read-wide-2
     wide-requires-2
     add-result
+    cast-result
     returns)
