@@ -14,6 +14,10 @@ use Rattle.rules.specs.Values.{alpha}
 use Rattle.rules.specs.Table.{What, field, group, Entry, levels, differ, names}
 use Rattle.tables.specs.Entries.{is-group, follows, unused, blank}
 
+pub and-both : (a b : Bool) → (a && b) ≡ true → (a ≡ true) × (b ≡ true)
+and-both true b e = (refl, e)
+and-both false b e = let z : _≡_ {A = ℕ} 0 1 = cc in absurd (omega arith)
+
 -- all that `levels` asks of the entry before is whether it is a group
 abbrev pub mark : Bool → What
 mark true = group false
@@ -41,7 +45,7 @@ unused-nil : (n : ℕ) → unused n [] ≡ true
 unfolding unused names all
 unused-nil n = refl
 
-unused-cons : (n : ℕ) (e : Entry) (es : List Entry) → unused n (e ∷ es) ≡ (not (eqb (e .name) n) && unused n es)
+pub unused-cons : (n : ℕ) (e : Entry) (es : List Entry) → unused n (e ∷ es) ≡ (not (eqb (e .name) n) && unused n es)
 unfolding unused names all
 unused-cons n e es = refl
 

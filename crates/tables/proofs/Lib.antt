@@ -2,3 +2,4 @@ pub mod Rows
 pub mod Lengths
 pub mod Levels
 pub mod Tables
+pub mod Names

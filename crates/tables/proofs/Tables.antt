@@ -13,8 +13,9 @@ use Rattle.rules.specs.Limits.{most-entries}
 use Rattle.rules.specs.Lists.{Bytes, same}
 use Rattle.rules.specs.Values.{Format, alpha, binary, fixed, packed, unpacked}
 use Rattle.rules.specs.Table.{What, field, group, Entry, entries, levels, differ, names, table-head, table}
-use Rattle.rules.proofs.Steps.{and-left, and-right, by-test}
+use Rattle.rules.proofs.Steps.{by-test, from-bind, from-need}
 use Rattle.tables.specs.Entries.{listed, Valid, entries-of, read-entries, blank, format-at, number-of, format-number, decoded, what-by, entry-of, row-of, bytes-at, Right, headed, group-number, is-group}
+use Rattle.tables.proofs.Levels.{and-both}
 use Rattle.tables.proofs.Rows.{Sound, entries-length, entry-row, entry-sound}
 
 done-listed : (m : Outcome (List Entry)) → is-done m ≡ true → m ≡ done (listed m)
@@ -91,10 +92,6 @@ pub record Tabled (t : Bytes) : Type 0 where
   pub levelled : levels (group false) 0 (read-entries (getD t 5 0) t) ≡ true
   pub differing : differ (names (read-entries (getD t 5 0) t)) ≡ true
 
-and-both : (a b : Bool) → (a && b) ≡ true → (a ≡ true) × (b ≡ true)
-and-both true b e = (refl, e)
-and-both false b e = let z : _≡_ {A = ℕ} 0 1 = cc in absurd (omega arith)
-
 and-four : (a b c d : Bool) → (a && b && c && d) ≡ true → (a ≡ true) × (b ≡ true) × (c ≡ true) × (d ≡ true)
 and-four a b c d e =
     let x = and-both (a && b && c) d e in
@@ -140,3 +137,62 @@ module _ (t : Bytes) where
 
   pub headless : headed t ≡ false → false ≡ is-done (table t)
   headless e = by-test (is-done (table t)) (λ v. sym e ∙ valid-headed v ∙ sym v) (λ v. sym v)
+
+-- ---- the entries of a valid table
+table-reads : (t : Bytes) (es : List Entry) → table t ≡ done es → entries (getD t 5 0) (drop 6 t) ≡ done es
+unfolding table
+table-reads t es p =
+    from-need (same (take 5 t) table-head) 1 _ p λ h p₁.
+    from-need (leb 1 (getD t 5 0) && leb (getD t 5 0) most-entries) 1 _ p₁ λ n p₂.
+    from-bind (entries (getD t 5 0) (drop 6 t)) _ p₂ λ fs r p₃.
+    from-need (right-names fs) 1 _ p₃ λ l p₄.
+    r ∙ p₄
+
+module _ (t : Bytes) (v : Valid t) where
+  same-entries : entries-of t ≡ read-entries (getD t 5 0) t
+  unfolding entries-of read-entries
+  same-entries = sym (ap listed (table-reads t (entries-of t) (done-listed (table t) v)))
+
+  pub valid-count : length (entries-of t) ≡ getD t 5 0
+  valid-count = ap length same-entries ∙ read-count (getD t 5 0) t (tabled t v .right)
+
+  pub valid-some : 1 ≤ length (entries-of t)
+  valid-some = omega (arith, valid-count, tabled t v .some)
+
+  pub valid-most : length (entries-of t) ≤ most-entries
+  valid-most = omega (arith, valid-count, tabled t v .most)
+
+  pub valid-levels : levels (group false) 0 (entries-of t) ≡ true
+  valid-levels = ap (levels (group false) 0) same-entries ∙ tabled t v .levelled
+
+  pub valid-names : differ (names (entries-of t)) ≡ true
+  valid-names = ap (λ es. differ (names es)) same-entries ∙ tabled t v .differing
+
+  module _ (i : ℕ) (h : i < length (entries-of t)) where
+    below : i < getD t 5 0
+    below = omega (arith, valid-count)
+
+    pub valid-reach : i * 6 + 12 ≤ length t
+    valid-reach = read-reach (getD t 5 0) t (tabled t v .right) i below
+
+    pub valid-row : row-of (bytes-at t i) ≡ decoded (getD (entries-of t) i blank)
+    valid-row = read-row (getD t 5 0) t (tabled t v .right) i below ∙ ap (λ es. decoded (getD es i blank)) (sym same-entries)
+
+    -- a field's length is one that its format allows, and a periodic group has level 1
+    pub valid-sound : Sound (getD (entries-of t) i blank .level) (getD (entries-of t) i blank .what)
+    valid-sound = subst (λ (es : List Entry). Sound (getD es i blank .level) (getD es i blank .what)) (sym same-entries)
+        (read-sound (getD t 5 0) t (tabled t v .right) i below)
+
+-- ---- an entry of the code and what it means
+what-back : (n l : ℕ) (w : What)
+    → what-by (eqb (format-number w) group-number) (decoded (record { name = n; level = l; what = w })) ≡ w
+unfolding format-at
+what-back n l (field alpha s m) = refl
+what-back n l (field binary s m) = refl
+what-back n l (field fixed s m) = refl
+what-back n l (field packed s m) = refl
+what-back n l (field unpacked s m) = refl
+what-back n l (group p) = refl
+
+pub entry-of-decoded : (e : Entry) → entry-of (decoded e) ≡ e
+entry-of-decoded e = ap (λ (w : What). record { name = e .name; level = e .level; what = w }) (what-back (e .name) (e .level) (e .what))

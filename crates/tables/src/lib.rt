@@ -7,8 +7,12 @@ ghost use lib.Dec.{eqb};
 ghost use Rattle.rules.specs.Outcome.{is-done};
 ghost use Rattle.rules.specs.Values.{allowed};
 ghost use Rattle.rules.specs.Characters.{letter, digit};
-ghost use Rattle.rules.specs.Table.{is-name, group, what-of, entries, levels, differ, names, table};
-ghost use Rattle.tables.specs.Entries.{format-at, letter-number, row-of, right-of, bytes-at, read-entries, Right, follows, unused, headed};
+ghost use Rattle.rules.specs.Table.{is-name, group, what-of, entries, levels, differ, names, table, fields-below};
+ghost use Rattle.rules.specs.Lists.{all};
+ghost use Rattle.rules.specs.Use.{plain, fields-to};
+ghost use Rattle.tables.specs.Entries.{format-at, letter-number, row-of, right-of, bytes-at, read-entries, Right, follows, unused, headed, Valid, entries-of, decoded, blank};
+ghost use Rattle.tables.specs.Places.{Finds, Homes, inside-at};
+ghost use Rattle.tables.specs.Groups.{group-end, Expanded, Fields-of, plain-row};
 
 // What stands in the place of a group's format.
 pub const GROUP: u8 = 5;
@@ -297,6 +301,192 @@ pub fn valid(t: &[u8]) -> bool
                 return names_differ(t, n);
             }
         }
+    }
+    false
+}
+
+// How many entries the table has.
+pub fn count(t: &[u8]) -> usize
+    requires { ⌜ Valid (now t) ⌝ }
+    ensures { λ r. ⌜ r ≡ length (entries-of (now (t .entry))) ⌝ }
+{
+    wide(t[5])
+}
+
+// Entry i.
+pub fn entry_at(t: &[u8], i: usize) -> Entry
+    requires { ⌜ Valid (now t) × (i < length (entries-of (now t))) ⌝ }
+    ensures { λ r. ⌜ r ≡ decoded (getD (entries-of (now (t .entry))) i blank) ⌝ }
+{
+    row(t, i)
+}
+
+// The number of an entry, where there is one.
+pub enum Found {
+    At(usize),
+    Nothing,
+}
+
+// The entry that has a name.
+pub fn find(t: &[u8], name: u16) -> Found
+    requires { ⌜ Valid (now t) ⌝ }
+    ensures { λ r. ⌜ Finds name (entries-of (now (t .entry))) r ⌝ }
+{
+    let n = count(t);
+    let mut i = 0;
+    while i < n {
+        if name_at(t, i) == name {
+            return Found::At(i);
+        }
+        i += 1;
+    }
+    Found::Nothing
+}
+
+// The number behind the members of entry i.
+pub fn group_end(t: &[u8], i: usize) -> usize
+    requires { ⌜ Valid (now t) × (i < length (entries-of (now t))) ⌝ }
+    ensures { λ r. ⌜ r ≡ group-end (entries-of (now (t .entry))) i ⌝ }
+{
+    let n = count(t);
+    let e = entry_at(t, i);
+    let level = e.level;
+    let mut j = i + 1;
+    while j < n {
+        let m = entry_at(t, j);
+        if m.level <= level {
+            return j;
+        }
+        j += 1;
+    }
+    j
+}
+
+// The periodic group that entry i is or lies in: the last entry of level 1 up to it, where that one is periodic.
+pub fn periodic_group(t: &[u8], i: usize) -> Found
+    requires { ⌜ Valid (now t) × (i < length (entries-of (now t))) ⌝ }
+    ensures { λ r. ⌜ Homes (entries-of (now (t .entry))) i r ⌝ }
+{
+    let mut j = i;
+    loop {
+        let e = entry_at(t, j);
+        if e.level == 1 {
+            if e.periodic {
+                return Found::At(j);
+            }
+            return Found::Nothing;
+        }
+        j -= 1;
+    }
+}
+
+// Whether entry i is a periodic group or lies in one.
+pub fn inside(t: &[u8], i: usize) -> bool
+    requires { ⌜ Valid (now t) × (i < length (entries-of (now t))) ⌝ }
+    ensures { λ r. ⌜ r ≡ inside-at (entries-of (now (t .entry))) i ⌝ }
+{
+    let home = periodic_group(t, i);
+    match home {
+        Found::At(_) => true,
+        Found::Nothing => false,
+    }
+}
+
+// Where a walk over entries stands: the next entry, and how many fields were written.
+struct Walked {
+    next: usize,
+    count: usize,
+}
+
+// Writes the numbers of the fields among the entries from at on that are deeper than level, a group's members by a call of its own.
+fn expand_from(t: &[u8], at: usize, n: usize, level: u8, out: &mut [u8; 64], count: usize) -> Walked
+    requires { ⌜ Valid (now t) × (n ≡ length (entries-of (now t))) × (at ≤ n) × (count ≤ at) ⌝ }
+    ensures { λ r. ⌜ Expanded (entries-of (now (t .entry))) level at count (now (out .entry)) (now (out .exit)) r ⌝ }
+{
+    if at == n {
+        return Walked { next: n, count };
+    }
+    let e = entry_at(t, at);
+    let deep = e.level;
+    if deep <= level {
+        return Walked { next: at, count };
+    }
+    if is_group(e) {
+        let inner = expand_from(t, at + 1, n, deep, out, count);
+        let next = inner.next;
+        let sofar = inner.count;
+        return expand_from(t, next, n, level, out, sofar);
+    }
+    out[count] = at as u8;
+    expand_from(t, at + 1, n, level, out, count + 1)
+}
+
+// Writes the entry numbers of the fields of group i, in table order; how many there are.
+pub fn expand(t: &[u8], i: usize, out: &mut [u8; 64]) -> usize
+    requires { ⌜ Valid (now t) × (i < length (entries-of (now t))) ⌝ }
+    ensures { λ r. ⌜ Fields-of (entries-of (now (t .entry))) i (now (out .entry)) (now (out .exit)) r ⌝ }
+{
+    let e = entry_at(t, i);
+    let level = e.level;
+    let walked = expand_from(t, i + 1, count(t), level, out, 0);
+    walked.count
+}
+
+// Whether an entry can stand in a group that is named.
+fn is_plain(e: Entry) -> bool
+    ensures { λ r. ⌜ r ≡ plain-row e ⌝ }
+{
+    if e.format == GROUP {
+        return true;
+    }
+    if e.multiple {
+        return false;
+    }
+    1 <= e.size
+}
+
+// Whether group i has neither an MU field nor one of variable length.
+pub fn plain_group(t: &[u8], i: usize) -> bool
+    requires { ⌜ Valid (now t) × (i < length (entries-of (now t))) ⌝ }
+    ensures { λ r. ⌜ r ≡ all plain (fields-below (getD (entries-of (now (t .entry))) i blank .level) (drop (i + 1) (entries-of (now (t .entry))))) ⌝ }
+{
+    let n = count(t);
+    let e = entry_at(t, i);
+    let level = e.level;
+    let mut j = i + 1;
+    while j < n {
+        let m = entry_at(t, j);
+        if m.level <= level {
+            return true;
+        }
+        if is_plain(m) {
+            j += 1;
+        } else {
+            return false;
+        }
+    }
+    true
+}
+
+// Whether the entries from i to j can be a series: no MU field, no periodic group, and j a field not before i.
+pub fn series(t: &[u8], i: usize, j: usize) -> bool
+    requires { ⌜ Valid (now t) × (i < length (entries-of (now t))) × (j < length (entries-of (now t))) ⌝ }
+    ensures { λ r. ⌜ r ≡ is-done (fields-to (getD (entries-of (now (t .entry))) j blank .name) (drop i (entries-of (now (t .entry))))) ⌝ }
+{
+    let n = count(t);
+    let mut k = i;
+    while k < n {
+        let e = entry_at(t, k);
+        if e.multiple {
+            return false;
+        }
+        if e.periodic {
+            return false;
+        }
+        if k == j {
+            return e.format != GROUP;
+        }
+        k += 1;
     }
     false
 }
