@@ -54,11 +54,13 @@ pub record Expanded (es : List Entry) (level at count : ℕ) (before after : Lis
   pub past : r .next ≡ at + run-below level (drop at es)
   pub counted : r .count ≡ count + length (numbers-below level at (drop at es))
   pub written : after ≡ splice count (numbers-below level at (drop at es)) before
+  pub same : length after ≡ length before
 
 -- What the expansion of group i leaves: the numbers of its fields at the front, with every other byte as it was.
 pub record Fields-of (es : List Entry) (i : ℕ) (before after : List ℕ) (r : ℕ) : Type 0 where
   pub counted : r ≡ length (numbers-below (getD es i blank .level) (i + 1) (drop (i + 1) es))
   pub written : after ≡ splice 0 (numbers-below (getD es i blank .level) (i + 1) (drop (i + 1) es)) before
+  pub same : length after ≡ length before
 
 -- Whether an entry can stand in a group that is named: a group, or a field neither MU nor of variable length.
 unfoldable pub plain-row : Row → Bool

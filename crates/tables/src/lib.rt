@@ -400,7 +400,7 @@ struct Walked {
 
 // Writes the numbers of the fields among the entries from at on that are deeper than level, a group's members by a call of its own.
 fn expand_from(t: &[u8], at: usize, n: usize, level: u8, out: &mut [u8; 64], count: usize) -> Walked
-    requires { ⌜ Valid (now t) × (n ≡ length (entries-of (now t))) × (at ≤ n) × (count ≤ at) ⌝ }
+    requires { ⌜ Valid (now t) × (n ≡ length (entries-of (now t))) × (at ≤ n) × (count ≤ at) × (length (now out) ≡ 64) ⌝ }
     ensures { λ r. ⌜ Expanded (entries-of (now (t .entry))) level at count (now (out .entry)) (now (out .exit)) r ⌝ }
 {
     if at == n {
@@ -423,7 +423,7 @@ fn expand_from(t: &[u8], at: usize, n: usize, level: u8, out: &mut [u8; 64], cou
 
 // Writes the entry numbers of the fields of group i, in table order; how many there are.
 pub fn expand(t: &[u8], i: usize, out: &mut [u8; 64]) -> usize
-    requires { ⌜ Valid (now t) × (i < length (entries-of (now t))) ⌝ }
+    requires { ⌜ Valid (now t) × (i < length (entries-of (now t))) × (length (now out) ≡ 64) ⌝ }
     ensures { λ r. ⌜ Fields-of (entries-of (now (t .entry))) i (now (out .entry)) (now (out .exit)) r ⌝ }
 {
     let e = entry_at(t, i);

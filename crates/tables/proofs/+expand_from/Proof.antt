@@ -1,4 +1,16 @@
-use Prim.Native.Nat.{ℕ, _<_}
+-- `tables::expand_from` meets its contract: a field's number before those behind it, a group's members before those behind them;
+-- the entries that remain fall. Assumes nothing.
+use mathlib.Core.Path.{_≡_, refl, sym, ap, _∙_}
+use native.Mathlib.Omega.{arith}
+use Prim.Native.Nat.{ℕ, _<_, _-_, _+_}
+use lib.Dec.{eqb}
+use lib.ListN.{getD, drop, length-set, length-drop}
+use Rattle.tables.specs.Entries.{entries-of, blank}
+use Rattle.tables.specs.declared.Entry.{Entry}
+use Rattle.tables.proofs.Nesting.{run-short, numbers-short}
+use Rattle.tables.proofs.Tables.{valid-most, is-group-number}
+use Rattle.tables.proofs.Walks.{done-none, done-stop, done-field, done-group}
+use borrow.Author.Needs.{needs}
 use borrow.Fn.Kinds.{In}
 use borrow.Fn.PlainCycle.{Measures, is, falls, and}
 use Rattle.tables.proofs.expand_from.Reads as expand-from
@@ -10,7 +22,7 @@ use Rattle.tables.proofs.+expand_from.{statement}
 use Rattle.tables.proofs.+expand_from.Tie.{close}
 
 abbrev μ-expand-from : Measures 2 expand-from-kinds.ps ℕ
-μ-expand-from κs a = ?
+μ-expand-from κs a = a .1 .1 .0 - a .1 .0
 
 abbrev expand-from-at : ℕ → In 2 expand-from-kinds.ps
 expand-from-at t =
@@ -20,7 +32,6 @@ abbrev expand-from-below : ℕ → In 2 expand-from-kinds.ps
 expand-from-below t =
     and 2 expand-from-kinds.ps (falls 2 expand-from-kinds.ps _<_ μ-expand-from t) expand-from.Pre
 
--- src/lib.rt:407:9
 expand-from-returns : (t : ℕ) → expand-from-lts.Need-returns (
   entry-at-reads.Asked,
   entry-at-reads.Learnt,
@@ -29,9 +40,10 @@ expand-from-returns : (t : ℕ) → expand-from-lts.Need-returns (
   expand-from-below t,
   expand-from.Post,
 ) (expand-from-at t) expand-from.Post
-expand-from-returns t c = ?
+expand-from-returns t c =
+    let s = c .before .before in
+    done-none (entries-of (s .args .t .now)) (s .args .level) (s .args .at) (s .args .count) (s .args .out .now) _ (omega arith) (sym (c .if1 .taken)) refl
 
--- src/lib.rt:409:9
 expand-from-entry-at-requires : (t : ℕ) → expand-from-lts.Need-entry-at-requires (
   entry-at-reads.Asked,
   entry-at-reads.Learnt,
@@ -40,9 +52,8 @@ expand-from-entry-at-requires : (t : ℕ) → expand-from-lts.Need-entry-at-requ
   expand-from-below t,
   expand-from.Post,
 ) (expand-from-at t) expand-from.Post
-expand-from-entry-at-requires t c κs = ?
+expand-from-entry-at-requires t c κs = let s = c .before .before in (s .pre .1 .0, omega arith)
 
--- src/lib.rt:412:9
 expand-from-returns-2 : (t : ℕ) → expand-from-lts.Need-returns-2 (
   entry-at-reads.Asked,
   entry-at-reads.Learnt,
@@ -51,9 +62,11 @@ expand-from-returns-2 : (t : ℕ) → expand-from-lts.Need-returns-2 (
   expand-from-below t,
   expand-from.Post,
 ) (expand-from-at t) expand-from.Post
-expand-from-returns-2 t c = ?
+expand-from-returns-2 t c =
+    let s = c .before .before .before .before in
+    let e = ap (λ (r : Entry). r .level) (c .before .entry-at .ensures) in
+    done-stop (entries-of (s .args .t .now)) (s .args .level) (s .args .at) (s .args .count) (s .args .out .now) _ (omega arith) (rw e at (c .if2 .taken)) refl refl
 
--- src/lib.rt:414:8
 expand-from-is-group-requires : (t : ℕ) → expand-from-lts.Need-is-group-requires (
   entry-at-reads.Asked,
   entry-at-reads.Learnt,
@@ -62,9 +75,8 @@ expand-from-is-group-requires : (t : ℕ) → expand-from-lts.Need-is-group-requ
   expand-from-below t,
   expand-from.Post,
 ) (expand-from-at t) expand-from.Post
-expand-from-is-group-requires t c κs = ?
+expand-from-is-group-requires t c κs = search needs
 
--- src/lib.rt:415:36
 expand-from-add-expand-from : (t : ℕ) → expand-from-lts.Need-add-expand-from (
   entry-at-reads.Asked,
   entry-at-reads.Learnt,
@@ -73,9 +85,8 @@ expand-from-add-expand-from : (t : ℕ) → expand-from-lts.Need-add-expand-from
   expand-from-below t,
   expand-from.Post,
 ) (expand-from-at t) expand-from.Post
-expand-from-add-expand-from t c = ?
+expand-from-add-expand-from t c = search needs
 
--- src/lib.rt:415:13
 expand-from-expand-from-requires : (t : ℕ) → expand-from-lts.Need-expand-from-requires (
   entry-at-reads.Asked,
   entry-at-reads.Learnt,
@@ -84,9 +95,10 @@ expand-from-expand-from-requires : (t : ℕ) → expand-from-lts.Need-expand-fro
   expand-from-below t,
   expand-from.Post,
 ) (expand-from-at t) expand-from.Post
-expand-from-expand-from-requires t c κs = ?
+expand-from-expand-from-requires t c κs =
+    let s = c .before .before .before .before .before .before .before in
+    (omega arith, (s .pre .1 .0, s .pre .1 .1, omega arith, omega arith, s .pre .1 .4))
 
--- src/lib.rt:418:9
 expand-from-expand-from-requires-2 : (t : ℕ) → expand-from-lts.Need-expand-from-requires-2 (
   entry-at-reads.Asked,
   entry-at-reads.Learnt,
@@ -95,9 +107,16 @@ expand-from-expand-from-requires-2 : (t : ℕ) → expand-from-lts.Need-expand-f
   expand-from-below t,
   expand-from.Post,
 ) (expand-from-at t) expand-from.Post
-expand-from-expand-from-requires-2 t c κs = ?
+expand-from-expand-from-requires-2 t c κs =
+    let s = c .before .before .before .before .before .before .before .before .before in
+    let x = c .before .expand-from .ensures in
+    let rest = drop (s .args .at + 1) (entries-of (s .args .t .now)) in
+    let deep = c .before .before .before .before .before .before .entry-at .result .level in
+    let m = run-short deep rest in
+    let f = numbers-short deep (s .args .at + 1) rest in
+    let d = length-drop (s .args .at + 1) (entries-of (s .args .t .now)) in
+    (omega (arith, m, d, x .past), (s .pre .1 .0, s .pre .1 .1, omega (arith, m, d, x .past), omega (arith, f, x .past, x .counted), x .same ∙ s .pre .1 .4))
 
--- src/lib.rt:418:9
 expand-from-returns-3 : (t : ℕ) → expand-from-lts.Need-returns-3 (
   entry-at-reads.Asked,
   entry-at-reads.Learnt,
@@ -106,9 +125,18 @@ expand-from-returns-3 : (t : ℕ) → expand-from-lts.Need-returns-3 (
   expand-from-below t,
   expand-from.Post,
 ) (expand-from-at t) expand-from.Post
-expand-from-returns-3 t c = ?
+expand-from-returns-3 t c =
+    let s = c .before .before .before .before .before .before .before .before .before .before in
+    let y = c .before .before .before .before .before .before .before .entry-at in
+    let e = ap (λ (r : Entry). r .level) (y .ensures) in
+    let g =
+    c .before .before .before .before .before .is-group .ensures ∙ ap (λ (r : Entry). eqb (r .format) 5) (y .ensures)
+    ∙ is-group-number (getD (entries-of (s .args .t .now)) (s .args .at) blank .what)
+    in
+    done-group (entries-of (s .args .t .now)) (s .args .level) (s .args .at) (s .args .count) (s .args .out .now) (y .result .level) (c .before .before .expand-from .result) (c .expand-from2 .result)
+    (c .before .before .expand-from .last .1 .1 .1 .1 .0) (c .expand-from2 .last .1 .1 .1 .1 .0) (omega arith) e (c .before .before .before .before .before .before .if2 .left)
+    (sym g ∙ c .before .before .before .before .if3 .taken) (omega arith) (omega (arith, valid-most (s .args .t .now) (s .pre .1 .0))) (c .before .before .expand-from .ensures) (c .expand-from2 .ensures)
 
--- src/lib.rt:420:18
 expand-from-cast-out : (t : ℕ) → expand-from-lts.Need-cast-out (
   entry-at-reads.Asked,
   entry-at-reads.Learnt,
@@ -117,9 +145,10 @@ expand-from-cast-out : (t : ℕ) → expand-from-lts.Need-cast-out (
   expand-from-below t,
   expand-from.Post,
 ) (expand-from-at t) expand-from.Post
-expand-from-cast-out t c = ?
+expand-from-cast-out t c =
+    let s = c .before .before .before .before .before .before in
+    omega (arith, valid-most (s .args .t .now) (s .pre .1 .0))
 
--- src/lib.rt:420:5
 expand-from-element-write-out : (t : ℕ) → expand-from-lts.Need-element-write-out (
   entry-at-reads.Asked,
   entry-at-reads.Learnt,
@@ -128,9 +157,10 @@ expand-from-element-write-out : (t : ℕ) → expand-from-lts.Need-element-write
   expand-from-below t,
   expand-from.Post,
 ) (expand-from-at t) expand-from.Post
-expand-from-element-write-out t c = ?
+expand-from-element-write-out t c =
+    let s = c .before .before .before .before .before .before in
+    omega (arith, valid-most (s .args .t .now) (s .pre .1 .0))
 
--- src/lib.rt:421:20
 expand-from-add-expand-from-2 : (t : ℕ) → expand-from-lts.Need-add-expand-from-2 (
   entry-at-reads.Asked,
   entry-at-reads.Learnt,
@@ -139,9 +169,8 @@ expand-from-add-expand-from-2 : (t : ℕ) → expand-from-lts.Need-add-expand-fr
   expand-from-below t,
   expand-from.Post,
 ) (expand-from-at t) expand-from.Post
-expand-from-add-expand-from-2 t c = ?
+expand-from-add-expand-from-2 t c = search needs
 
--- src/lib.rt:421:43
 expand-from-add-expand-from-3 : (t : ℕ) → expand-from-lts.Need-add-expand-from-3 (
   entry-at-reads.Asked,
   entry-at-reads.Learnt,
@@ -150,9 +179,8 @@ expand-from-add-expand-from-3 : (t : ℕ) → expand-from-lts.Need-add-expand-fr
   expand-from-below t,
   expand-from.Post,
 ) (expand-from-at t) expand-from.Post
-expand-from-add-expand-from-3 t c = ?
+expand-from-add-expand-from-3 t c = search needs
 
--- src/lib.rt:421:5
 expand-from-expand-from-requires-3 : (t : ℕ) → expand-from-lts.Need-expand-from-requires-3 (
   entry-at-reads.Asked,
   entry-at-reads.Learnt,
@@ -161,9 +189,10 @@ expand-from-expand-from-requires-3 : (t : ℕ) → expand-from-lts.Need-expand-f
   expand-from-below t,
   expand-from.Post,
 ) (expand-from-at t) expand-from.Post
-expand-from-expand-from-requires-3 t c κs = ?
+expand-from-expand-from-requires-3 t c κs =
+    let s = c .before .before .before .before .before .before .before in
+    (omega arith, (s .pre .1 .0, s .pre .1 .1, omega arith, omega arith, simp length-set (s .pre .1 .4)))
 
--- src/lib.rt:402:1
 expand-from-returns-4 : (t : ℕ) → expand-from-lts.Need-returns-4 (
   entry-at-reads.Asked,
   entry-at-reads.Learnt,
@@ -172,7 +201,16 @@ expand-from-returns-4 : (t : ℕ) → expand-from-lts.Need-returns-4 (
   expand-from-below t,
   expand-from.Post,
 ) (expand-from-at t) expand-from.Post
-expand-from-returns-4 t c = ?
+expand-from-returns-4 t c =
+    let s = c .before .before .before .before .before .before .before .before in
+    let y = c .before .before .before .before .before .entry-at in
+    let e = ap (λ (r : Entry). r .level) (y .ensures) in
+    let g =
+    c .before .before .before .is-group .ensures ∙ ap (λ (r : Entry). eqb (r .format) 5) (y .ensures)
+    ∙ is-group-number (getD (entries-of (s .args .t .now)) (s .args .at) blank .what)
+    in
+    done-field (entries-of (s .args .t .now)) (s .args .level) (s .args .at) (s .args .count) (s .args .out .now) (c .expand-from3 .result) (c .expand-from3 .last .1 .1 .1 .1 .0) (omega arith)
+    (rw e at (c .before .before .before .before .if2 .left)) (sym g ∙ c .before .before .if3 .left) (omega (arith, valid-most (s .args .t .now) (s .pre .1 .0))) (c .expand-from3 .ensures)
 
 pub +expand-from-spec : {M : Type 1} → statement M
 +expand-from-spec = close μ-expand-from λ t. expand-from-lts.spec (

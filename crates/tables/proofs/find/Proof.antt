@@ -36,9 +36,10 @@ returns : tie.Need-returns Inv-loop μ-loop
 returns c =
     let l = c .before .before .before in
     let s = l .before .before .before in
-    let q = valid-row (s .args .t .now) (s .pre) (l .loop .i) (omega arith) in
-    (omega arith,
-      sym (l .loop .inv .2) ∙ find-here (entries-of (s .args .t .now)) _ (l .loop .i) (omega arith) (sym (c .before .name-at .ensures ∙ ap (λ (r : Entry). r .name) q) ∙ c .if1 .taken))
+    let q = valid-row (s .args .t .now) (s .pre) (l .loop .i) (omega arith) in (
+      omega arith,
+      sym (l .loop .inv .2) ∙ find-here (entries-of (s .args .t .now)) _ (l .loop .i) (omega arith) (sym (c .before .name-at .ensures ∙ ap (λ (r : Entry). r .name) q) ∙ c .if1 .taken),
+    )
 
 add-i : tie.Need-add-i Inv-loop μ-loop
 add-i c = search needs

@@ -1,3 +1,13 @@
+-- `tables::group_end` meets its contract: what is left of the run ends where the whole does. Assumes nothing.
+use mathlib.Core.Path.{_≡_, refl, sym, ap, _∙_}
+use native.Mathlib.Omega.{arith}
+use Prim.Native.Nat.{_+_, _≤_, _-_}
+use lib.ListN.{length, drop}
+use Rattle.tables.specs.Entries.{entries-of}
+use Rattle.tables.specs.Groups.{run-below, group-end}
+use Rattle.tables.specs.declared.Entry.{Entry}
+use Rattle.tables.proofs.Nesting.{end-start, end-turn, end-here, end-last}
+use borrow.Author.Needs.{needs}
 use Rattle.tables.proofs.group_end.Statement.{statement}
 use Rattle.tables.proofs.group_end.Tie as tie
 use Rattle.tables.proofs.group_end.Reads as reads
@@ -6,50 +16,50 @@ use Rattle.tables.proofs.count.Reads as count-reads
 use Rattle.tables.proofs.entry_at.Reads as entry-at-reads
 
 abbrev Inv-loop : tie.InvT-loop
-Inv-loop t i n level j₀ j = ?
+Inv-loop t i n level j₀ j = (n ≡ length (entries-of t)) × (j ≤ n) × (j + run-below level (drop j (entries-of t)) ≡ group-end (entries-of t) i)
 
 abbrev μ-loop : tie.MeasureT-loop
-μ-loop t i n level j₀ j = ?
+μ-loop t i n level j₀ j = n - j
 
--- src/lib.rt:351:9
 count-requires : tie.Need-count-requires Inv-loop μ-loop
-count-requires c κs = ?
+count-requires c κs = search needs
 
--- src/lib.rt:352:9
 entry-at-requires : tie.Need-entry-at-requires Inv-loop μ-loop
-entry-at-requires c κs = ?
+entry-at-requires c κs = search needs
 
--- src/lib.rt:354:17
 add-j : tie.Need-add-j Inv-loop μ-loop
-add-j c = ?
+add-j c = search needs
 
--- src/lib.rt:355:5
 loop-holds : tie.Need-loop-holds Inv-loop μ-loop
-loop-holds c = ?
+loop-holds c =
+    let s = c .before .before .before in
+    (c .before .count .ensures, omega (arith, c .before .count .ensures, s .pre .1), end-start (entries-of (s .args .t .now)) _ (s .args .i) (ap (λ (r : Entry). r .level) (c .entry-at .ensures)))
 
--- src/lib.rt:356:13
 entry-at-requires-2 : tie.Need-entry-at-requires-2 Inv-loop μ-loop
-entry-at-requires-2 c κs = ?
+entry-at-requires-2 c κs = (c .before .before .before .before .before .pre .0, omega arith)
 
--- src/lib.rt:358:13
 returns : tie.Need-returns Inv-loop μ-loop
-returns c = ?
+returns c =
+    let l = c .before .before .before .before in
+    let q = ap (λ (r : Entry). r .level) (c .before .before .entry-at2 .ensures) in
+    end-here (entries-of (l .before .before .before .before .args .t .now)) (l .before .entry-at .result .level) (l .loop .j) (omega arith) (rw q at (c .if1 .taken)) ∙ l .loop .inv .2
 
--- src/lib.rt:360:9
 add-j-2 : tie.Need-add-j-2 Inv-loop μ-loop
-add-j-2 c = ?
+add-j-2 c = search needs
 
--- src/lib.rt:355:5
 loop-less : tie.Need-loop-less Inv-loop μ-loop
-loop-less c = ?
+loop-less c = search needs
 
--- src/lib.rt:355:5
 loop-again : tie.Need-loop-again Inv-loop μ-loop
-loop-again c = ?
+loop-again c =
+    let l = c .before .before .before .before in
+    let q = ap (λ (r : Entry). r .level) (c .before .before .entry-at2 .ensures) in
+    (l .loop .inv .0, omega arith, end-turn (entries-of (l .before .before .before .before .args .t .now)) (l .before .entry-at .result .level) (l .loop .j) (omega arith) (rw q at (c .if1 .left)) ∙ l .loop .inv .2)
 
--- src/lib.rt:347:1
 returns-2 : tie.Need-returns-2 Inv-loop μ-loop
-returns-2 c = ?
+returns-2 c =
+    let l = c .before in
+    end-last (entries-of (l .before .before .before .before .args .t .now)) (l .before .entry-at .result .level) (l .loop .j) (omega arith) ∙ l .loop .inv .2
 
 pub group-end-spec : {M : Type 1} → statement M
 group-end-spec =

@@ -1,19 +1,23 @@
+-- `tables::is_plain` meets its contract: the tests that led to each return settle the definition's. Assumes nothing.
+use borrow.Author.Tests.{ne-eqb}
+use Rattle.tables.specs.Groups.{plain-row}
+use borrow.Author.Needs.{needs}
 use Rattle.tables.proofs.is_plain.Statement.{statement}
 use Rattle.tables.proofs.is_plain.Tie as tie
 use Rattle.tables.proofs.is_plain.Reads as reads
 use Rattle.tables.proofs.is_plain.Lts as lts
 
--- src/lib.rt:440:9
 returns : tie.Need-returns
-returns c = ?
+unfolding plain-row
+returns c = rw (c .if1 .taken)
 
--- src/lib.rt:443:9
 returns-2 : tie.Need-returns-2
-returns-2 c = ?
+unfolding plain-row
+returns-2 c = rw (ne-eqb _ _ (c .before .if1 .left), c .if2 .taken)
 
--- src/lib.rt:436:1
 returns-3 : tie.Need-returns-3
-returns-3 c = ?
+unfolding plain-row
+returns-3 c = rw (ne-eqb _ _ (c .before .before .if1 .left), c .before .if2 .left)
 
 pub is-plain-spec : {M : Type 1} → statement M
 is-plain-spec = tie.close (tie.spec returns returns-2 returns-3)

@@ -1,3 +1,14 @@
+-- `tables::periodic_group` meets its contract: on the way back to level 1 nothing leaves or enters a periodic group. Assumes nothing.
+use mathlib.Core.Path.{_≡_, refl, sym, ap, _∙_}
+use native.Mathlib.Omega.{arith}
+use Prim.Native.Nat.{_+_, _≤_, _-_, _<_}
+use lib.ListN.{length}
+use Rattle.tables.specs.Entries.{entries-of}
+use Rattle.tables.specs.declared.Entry.{Entry}
+use Rattle.tables.proofs.Nesting.{level-range}
+use Rattle.tables.proofs.Climbs.{Climb, climb-start, climb-up, climb-home, climb-none, not-first}
+use Rattle.tables.proofs.Tables.{valid-levels, valid-sound}
+use borrow.Author.Needs.{needs}
 use Rattle.tables.proofs.periodic_group.Statement.{statement}
 use Rattle.tables.proofs.periodic_group.Tie as tie
 use Rattle.tables.proofs.periodic_group.Reads as reads
@@ -5,38 +16,46 @@ use Rattle.tables.proofs.periodic_group.Lts as lts
 use Rattle.tables.proofs.entry_at.Reads as entry-at-reads
 
 abbrev Inv-loop : tie.InvT-loop
-Inv-loop t i j₀ j = ?
+Inv-loop t i j₀ j = Climb (entries-of t) i j
 
 abbrev μ-loop : tie.MeasureT-loop
-μ-loop t i j₀ j = ?
+μ-loop t i j₀ j = j
 
--- src/lib.rt:371:5
 loop-holds : tie.Need-loop-holds Inv-loop μ-loop
-loop-holds c = ?
+loop-holds c = climb-start _ _
 
--- src/lib.rt:372:13
 entry-at-requires : tie.Need-entry-at-requires Inv-loop μ-loop
-entry-at-requires c κs = ?
+entry-at-requires c κs = let s = c .before .before in (s .pre .0, omega (arith, s .pre .1, c .loop .inv .upto))
 
--- src/lib.rt:375:17
 returns : tie.Need-returns Inv-loop μ-loop
-returns c = ?
+returns c =
+    let l = c .before .before .before .before in
+    let e = c .before .before .before .entry-at .ensures in
+    climb-home _ _ _ (l .loop .inv) (sym (ap (λ (r : Entry). r .level) e) ∙ c .before .if1 .taken) (sym (ap (λ (r : Entry). r .periodic) e) ∙ c .if2 .taken)
 
--- src/lib.rt:377:13
 returns-2 : tie.Need-returns-2 Inv-loop μ-loop
-returns-2 c = ?
+returns-2 c =
+    let l = c .before .before .before .before in
+    let e = c .before .before .before .entry-at .ensures in
+    climb-none _ _ _ (l .loop .inv) (sym (ap (λ (r : Entry). r .level) e) ∙ c .before .if1 .taken) (sym (ap (λ (r : Entry). r .periodic) e) ∙ c .if2 .left)
 
--- src/lib.rt:379:9
 sub-j : tie.Need-sub-j Inv-loop μ-loop
-sub-j c = ?
+sub-j c =
+    let s = c .before .before .before .before .before in
+    let e = ap (λ (r : Entry). r .level) (c .before .before .entry-at .ensures) in
+    not-first (entries-of (s .args .t .now)) (valid-levels (s .args .t .now) (s .pre .0)) _ (λ q. c .if1 .left (e ∙ q))
 
--- src/lib.rt:371:5
 loop-less : tie.Need-loop-less Inv-loop μ-loop
-loop-less c = ?
+loop-less c = omega (arith, sub-j c)
 
--- src/lib.rt:371:5
 loop-again : tie.Need-loop-again Inv-loop μ-loop
-loop-again c = ?
+loop-again c =
+    let l = c .before .before .before in
+    let s = l .before .before in
+    let e = ap (λ (r : Entry). r .level) (c .before .before .entry-at .ensures) in
+    let h : l .loop .j < length (entries-of (s .args .t .now)) = omega (arith, s .pre .1, l .loop .inv .upto) in
+    let r = level-range (entries-of (s .args .t .now)) (valid-levels (s .args .t .now) (s .pre .0)) (l .loop .j) h in
+    climb-up _ _ _ (sub-j c) h (omega (arith, r .0, e, c .if1 .left)) (valid-sound (s .args .t .now) (s .pre .0) (l .loop .j) h) (l .loop .inv)
 
 pub periodic-group-spec : {M : Type 1} → statement M
 periodic-group-spec =
