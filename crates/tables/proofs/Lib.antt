@@ -6,3 +6,6 @@ pub mod Names
 pub mod Nesting
 pub mod Walks
 pub mod Climbs
+pub mod Plains
+pub mod Serial
+pub mod Partings

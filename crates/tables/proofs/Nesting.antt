@@ -118,11 +118,11 @@ periodic-what (group p) e = ap group e
 -- ---- the run below a level
 
 module _ (l : ℕ) (e : Entry) (es : List Entry) where
-  run-deeper : l < e .level → run-below l (e ∷ es) ≡ suc (run-below l es)
+  pub run-deeper : l < e .level → run-below l (e ∷ es) ≡ suc (run-below l es)
   unfolding run-below
   run-deeper h = rw (lt-ltb l (e .level) h)
 
-  run-ends : e .level ≤ l → run-below l (e ∷ es) ≡ 0
+  pub run-ends : e .level ≤ l → run-below l (e ∷ es) ≡ 0
   unfolding run-below
   run-ends h = rw (le-ltb l (e .level) h)
 
@@ -134,7 +134,7 @@ module _ (l : ℕ) (e : Entry) (es : List Entry) where
   unfolding numbers-below
   numbers-ends at h = rw (le-ltb l (e .level) h)
 
-run-nil : (l : ℕ) → run-below l [] ≡ 0
+pub run-nil : (l : ℕ) → run-below l [] ≡ 0
 unfolding run-below
 run-nil l = refl
 

@@ -2,11 +2,13 @@
 use mathlib.Core.Path.{_≡_}
 use mathlib.Core.Bool.{Bool, true, false, cond, not, _&&_, _||_}
 use mathlib.Core.List.{List, [], _∷_}
-use Prim.Native.Nat.{ℕ, zero, suc, _+_}
+use Prim.Native.Nat.{ℕ, suc, _+_, _-_, _≤_}
 use lib.Dec.{eqb, leb, ltb}
-use lib.ListN.{length, getD, drop}
+use lib.ListN.{length, getD, take, drop}
 use Rattle.rules.specs.Values.{alpha}
 use Rattle.rules.specs.Table.{What, field, group, Field, Entry}
+use Rattle.rules.specs.Outcome.{done, is-done}
+use Rattle.rules.specs.Use.{fields-to}
 use Rattle.buffer.specs.Splice.{splice}
 use Rattle.tables.specs.Entries.{blank, group-number}
 use Rattle.tables.specs.declared.Entry.{Entry as Row}
@@ -65,3 +67,9 @@ pub record Fields-of (es : List Entry) (i : ℕ) (before after : List ℕ) (r : 
 -- Whether an entry can stand in a group that is named: a group, or a field neither MU nor of variable length.
 unfoldable pub plain-row : Row → Bool
 plain-row r = eqb (r .format) group-number || (not (r .multiple) && leb 1 (r .size))
+
+-- What is said of the series from entry i to entry j: whether it is one, and that its fields are those of the entries from i to j.
+pub record Spanned (es : List Entry) (i j : ℕ) (r : Bool) : Type 0 where
+  pub answer : r ≡ is-done (fields-to (getD es j blank .name) (drop i es))
+  pub upto : r ≡ true → i ≤ j
+  pub fields : r ≡ true → fields-to (getD es j blank .name) (drop i es) ≡ done (fields-in (take (suc j - i) (drop i es)))

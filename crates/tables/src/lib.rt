@@ -9,10 +9,10 @@ ghost use Rattle.rules.specs.Values.{allowed};
 ghost use Rattle.rules.specs.Characters.{letter, digit};
 ghost use Rattle.rules.specs.Table.{is-name, group, what-of, entries, levels, differ, names, table, fields-below};
 ghost use Rattle.rules.specs.Lists.{all};
-ghost use Rattle.rules.specs.Use.{plain, fields-to};
+ghost use Rattle.rules.specs.Use.{plain};
 ghost use Rattle.tables.specs.Entries.{format-at, letter-number, row-of, right-of, bytes-at, read-entries, Right, follows, unused, headed, Valid, entries-of, decoded, blank};
 ghost use Rattle.tables.specs.Places.{Finds, Homes, inside-at};
-ghost use Rattle.tables.specs.Groups.{group-end, Expanded, Fields-of, plain-row};
+ghost use Rattle.tables.specs.Groups.{group-end, Expanded, Fields-of, plain-row, Spanned};
 
 // What stands in the place of a group's format.
 pub const GROUP: u8 = 5;
@@ -471,7 +471,7 @@ pub fn plain_group(t: &[u8], i: usize) -> bool
 // Whether the entries from i to j can be a series: no MU field, no periodic group, and j a field not before i.
 pub fn series(t: &[u8], i: usize, j: usize) -> bool
     requires { ⌜ Valid (now t) × (i < length (entries-of (now t))) × (j < length (entries-of (now t))) ⌝ }
-    ensures { λ r. ⌜ r ≡ is-done (fields-to (getD (entries-of (now (t .entry))) j blank .name) (drop i (entries-of (now (t .entry))))) ⌝ }
+    ensures { λ r. ⌜ Spanned (entries-of (now (t .entry))) i j r ⌝ }
 {
     let n = count(t);
     let mut k = i;

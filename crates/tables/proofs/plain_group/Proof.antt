@@ -1,3 +1,17 @@
+-- `tables::plain_group` meets its contract: what is left of the group's fields answers as the whole does. Assumes nothing.
+use mathlib.Core.Path.{_≡_, refl, sym, ap, _∙_}
+use native.Mathlib.Omega.{arith}
+use Prim.Native.Nat.{_+_, _≤_, _-_}
+use lib.ListN.{length, getD, drop}
+use Rattle.rules.specs.Lists.{all}
+use Rattle.rules.specs.Table.{fields-below}
+use Rattle.rules.specs.Use.{plain}
+use Rattle.tables.specs.Entries.{entries-of, blank}
+use Rattle.tables.specs.Groups.{plain-row}
+use Rattle.tables.specs.declared.Entry.{Entry}
+use Rattle.tables.proofs.Plains.{plain-turn, plain-fails, plain-stop, plain-none}
+use Rattle.tables.proofs.Tables.{valid-most}
+use borrow.Author.Needs.{needs}
 use Rattle.tables.proofs.plain_group.Statement.{statement}
 use Rattle.tables.proofs.plain_group.Tie as tie
 use Rattle.tables.proofs.plain_group.Reads as reads
@@ -7,58 +21,69 @@ use Rattle.tables.proofs.entry_at.Reads as entry-at-reads
 use Rattle.tables.proofs.is_plain.Reads as is-plain-reads
 
 abbrev Inv-loop : tie.InvT-loop
-Inv-loop t i n level j₀ j = ?
+Inv-loop t i n level j₀ j =
+    (n ≡ length (entries-of t))
+    × (j ≤ n)
+    × (all plain (fields-below level (drop j (entries-of t))) ≡ all plain (fields-below (getD (entries-of t) i blank .level) (drop (i + 1) (entries-of t))))
 
 abbrev μ-loop : tie.MeasureT-loop
-μ-loop t i n level j₀ j = ?
+μ-loop t i n level j₀ j = n - j
 
--- src/lib.rt:453:9
 count-requires : tie.Need-count-requires Inv-loop μ-loop
-count-requires c κs = ?
+count-requires c κs = search needs
 
--- src/lib.rt:454:9
 entry-at-requires : tie.Need-entry-at-requires Inv-loop μ-loop
-entry-at-requires c κs = ?
+entry-at-requires c κs = search needs
 
--- src/lib.rt:456:17
 add-j : tie.Need-add-j Inv-loop μ-loop
-add-j c = ?
+add-j c = let s = c .before .before .before in omega (arith, valid-most (s .args .t .now) (s .pre .0), s .pre .1)
 
--- src/lib.rt:457:5
 loop-holds : tie.Need-loop-holds Inv-loop μ-loop
-loop-holds c = ?
+loop-holds c =
+    let s = c .before .before .before in
+    (c .before .count .ensures, omega (arith, c .before .count .ensures, s .pre .1), rw (ap (λ (r : Entry). r .level) (c .entry-at .ensures)))
 
--- src/lib.rt:458:13
 entry-at-requires-2 : tie.Need-entry-at-requires-2 Inv-loop μ-loop
-entry-at-requires-2 c κs = ?
+entry-at-requires-2 c κs = (c .before .before .before .before .before .pre .0, omega arith)
 
--- src/lib.rt:460:13
 returns : tie.Need-returns Inv-loop μ-loop
-returns c = ?
+returns c =
+    let l = c .before .before .before .before in
+    let q = ap (λ (r : Entry). r .level) (c .before .before .entry-at2 .ensures) in
+    plain-stop (entries-of (l .before .before .before .before .args .t .now)) (l .before .entry-at .result .level) (l .loop .j) (omega arith) (rw q at (c .if1 .taken)) ∙ l .loop .inv .2
 
--- src/lib.rt:462:12
 is-plain-requires : tie.Need-is-plain-requires Inv-loop μ-loop
-is-plain-requires c κs = ?
+is-plain-requires c κs = search needs
 
--- src/lib.rt:463:13
 add-j-2 : tie.Need-add-j-2 Inv-loop μ-loop
-add-j-2 c = ?
+add-j-2 c = search needs
 
--- src/lib.rt:457:5
 loop-less : tie.Need-loop-less Inv-loop μ-loop
-loop-less c = ?
+loop-less c = search needs
 
--- src/lib.rt:457:5
 loop-again : tie.Need-loop-again Inv-loop μ-loop
-loop-again c = ?
+loop-again c =
+    let l = c .before .before .before .before .before .before in
+    let e = c .before .before .before .before .entry-at2 .ensures in (
+      l .loop .inv .0,
+      omega arith,
+      plain-turn (entries-of (l .before .before .before .before .args .t .now)) (l .before .entry-at .result .level) (l .loop .j) (omega arith)
+          (rw (ap (λ (r : Entry). r .level) e) at (c .before .before .if1 .left)) (sym (c .before .is-plain .ensures ∙ ap plain-row e) ∙ c .if2 .taken)
+          ∙ l .loop .inv .2,
+    )
 
--- src/lib.rt:465:13
 returns-2 : tie.Need-returns-2 Inv-loop μ-loop
-returns-2 c = ?
+returns-2 c =
+    let l = c .before .before .before .before .before .before in
+    let e = c .before .before .before .before .entry-at2 .ensures in
+    plain-fails (entries-of (l .before .before .before .before .args .t .now)) (l .before .entry-at .result .level) (l .loop .j) (omega arith)
+    (rw (ap (λ (r : Entry). r .level) e) at (c .before .before .if1 .left)) (sym (c .before .is-plain .ensures ∙ ap plain-row e) ∙ c .if2 .left)
+    ∙ l .loop .inv .2
 
--- src/lib.rt:449:1
 returns-3 : tie.Need-returns-3 Inv-loop μ-loop
-returns-3 c = ?
+returns-3 c =
+    let l = c .before in
+    plain-none (entries-of (l .before .before .before .before .args .t .now)) (l .before .entry-at .result .level) (l .loop .j) (omega arith) ∙ l .loop .inv .2
 
 pub plain-group-spec : {M : Type 1} → statement M
 plain-group-spec =
