@@ -1,7 +1,7 @@
 -- The lengths that a format allows, by its number: from the least to the greatest, and F has not 3. Assumes nothing.
 use mathlib.Core.Path.{_≡_, refl, sym, _∙_}
-use mathlib.Core.Bool.{Bool, true, false, not, _&&_, _||_}
-use mathlib.Core.List.{List, [], _∷_}
+use mathlib.Core.Bool.{true, false, not, _&&_, _||_}
+use mathlib.Core.List.{[], _∷_}
 use Prim.Native.Nat.{ℕ, zero, suc, _≤_, _<_}
 use native.Mathlib.Omega.{arith}
 use borrow.Author.Tests.{le-leb, lt-leb, ne-eqb}
@@ -9,6 +9,7 @@ use lib.Dec.{eqb, leb, leb·zero}
 use lib.ListN.{getD}
 use Rattle.rules.specs.Values.{allowed}
 use Rattle.buffer.proofs.Cases.{by-order}
+use Rattle.tables.proofs.Bools.{and-true}
 use Rattle.tables.specs.Entries.{format-at}
 
 five : (P : ℕ → Type 0) → P 0 → P 1 → P 2 → P 3 → P 4 → (k : ℕ) → k < 5 → P k
@@ -25,10 +26,6 @@ least f = getD (0 ∷ 1 ∷ 2 ∷ 1 ∷ 1 ∷ []) f 0
 abbrev greatest : ℕ → ℕ
 greatest f = getD (253 ∷ 126 ∷ 4 ∷ 15 ∷ 29 ∷ []) f 0
 
-and-true : (a : Bool) → a ≡ (a && true)
-and-true true = refl
-and-true false = refl
-
 two-or-four : (n : ℕ) → (eqb n 2 || eqb n 4) ≡ (leb 2 n && leb n 4 && not (eqb n 3))
 two-or-four n = by-order n 5
     (five (λ n. (eqb n 2 || eqb n 4) ≡ (leb 2 n && leb n 4 && not (eqb n 3))) refl refl refl refl refl n)
@@ -37,7 +34,7 @@ two-or-four n = by-order n 5
 allowed-by : (n f : ℕ) → f < 5 → allowed (format-at f) n ≡ (leb (least f) n && leb n (greatest f) && not (eqb f 2 && eqb n 3))
 unfolding allowed format-at
 allowed-by n = five (λ f. allowed (format-at f) n ≡ (leb (least f) n && leb n (greatest f) && not (eqb f 2 && eqb n 3)))
-    (rw (leb·zero n) (and-true (leb n 253))) (and-true _) (two-or-four n) (and-true _) (and-true _)
+    (rw (leb·zero n) (sym (and-true (leb n 253)))) (sym (and-true _)) (two-or-four n) (sym (and-true _)) (sym (and-true _))
 
 module _ (n f : ℕ) (h : f < 5) where
   pub too-short : n < least f → false ≡ allowed (format-at f) n

@@ -1,10 +1,9 @@
 -- Levels and names, an entry at a time: what `levels` and `differ` answer of the first entry and the rest. Assumes nothing.
-use mathlib.Core.Path.{_≡_, refl, sym, ap, _∙_}
+use mathlib.Core.Path.{_≡_, refl, sym, _∙_}
 use mathlib.Core.Bool.{Bool, true, false, not, _&&_}
 use mathlib.Core.List.{List, [], _∷_}
-use Prim.Native.Nat.{ℕ, suc, _+_, _≤_, _<_}
+use Prim.Native.Nat.{ℕ, _+_, _≤_, _<_}
 use native.Mathlib.Numerals.{add-one}
-use native.Mathlib.Omega.{arith}
 use borrow.Author.Tests.{eq-eqb, ne-eqb}
 use lib.Dec.{eqb}
 use lib.ListN.{length, getD, drop, drop-of-length-le}
@@ -13,10 +12,6 @@ use Rattle.rules.specs.Lists.{all}
 use Rattle.rules.specs.Values.{alpha}
 use Rattle.rules.specs.Table.{What, field, group, Entry, levels, differ, names}
 use Rattle.tables.specs.Entries.{is-group, follows, unused, blank}
-
-pub and-both : (a b : Bool) → (a && b) ≡ true → (a ≡ true) × (b ≡ true)
-and-both true b e = (refl, e)
-and-both false b e = let z : _≡_ {A = ℕ} 0 1 = cc in absurd (omega arith)
 
 -- all that `levels` asks of the entry before is whether it is a group
 abbrev pub mark : Bool → What

@@ -1,3 +1,4 @@
+pub mod Bools
 pub mod Rows
 pub mod Lengths
 pub mod Levels
@@ -9,3 +10,4 @@ pub mod Climbs
 pub mod Plains
 pub mod Serial
 pub mod Partings
+pub mod Known

@@ -1,8 +1,8 @@
 -- Names differ, so an entry is found by its name, and by no other's. Assumes nothing.
 use mathlib.Core.Path.{_≡_, refl, sym, ap, subst, _∙_}
-use mathlib.Core.Bool.{Bool, true, false, not, _&&_}
+use mathlib.Core.Bool.{Bool, true, not}
 use mathlib.Core.List.{List, [], _∷_}
-use Prim.Native.Nat.{ℕ, zero, suc, _+_, _-_, _≤_, _<_}
+use Prim.Native.Nat.{ℕ, zero, suc, _+_, _≤_, _<_}
 use native.Mathlib.Nat.{le-of-suc-le-suc, not-suc-le-zero}
 use native.Mathlib.Numerals.{add-one}
 use native.Mathlib.Omega.{arith}
@@ -10,12 +10,13 @@ use borrow.Author.Tests.{eq-eqb, ne-eqb, eqb-false, not-true}
 use lib.Dec.{eqb}
 use lib.ListN.{length, getD, drop, drop-of-length-le}
 use lib.Seq.{drop-cons}
-use Rattle.rules.specs.Outcome.{Outcome, done, refused}
+use Rattle.rules.specs.Outcome.{done, refused}
 use Rattle.rules.specs.Table.{Entry, differ, names, is-inside}
 use Rattle.rules.specs.Use.{find, find-from}
 use Rattle.tables.specs.Entries.{blank, unused}
 use Rattle.tables.specs.Places.{inside-before, inside-at, found-at}
-use Rattle.tables.proofs.Levels.{unused-cons, differ-cons, and-both}
+use Rattle.tables.proofs.Levels.{unused-cons, differ-cons}
+use Rattle.tables.proofs.Bools.{and-both}
 
 unused-other : (n : ℕ) (es : List Entry) → unused n es ≡ true → (i : ℕ) → i < length es → getD es i blank .name ≡ n → ⊥
 unused-other n [] u i h q = not-suc-le-zero h

@@ -1,22 +1,24 @@
 -- Levels by entry number, and the run of entries below a group: its length, and its fields' numbers. Assumes nothing.
 use mathlib.Core.Path.{_≡_, refl, sym, ap, subst, _∙_}
-use mathlib.Core.Bool.{Bool, true, false, not, _&&_, _||_}
+use mathlib.Core.Bool.{Bool, true, false, _||_}
 use mathlib.Core.List.{List, [], _∷_, _++_, map}
 use Prim.Native.Nat.{ℕ, zero, suc, _+_, _-_, _≤_, _<_}
 use native.Mathlib.Nat.{le-of-suc-le-suc, not-suc-le-zero, add-zero, suc-add}
 use native.Mathlib.Numerals.{add-one}
 use native.Mathlib.Omega.{arith}
 use borrow.Author.Tests.{lt-ltb, le-ltb, leb-true, eqb-true}
-use lib.Dec.{eqb, leb, ltb}
-use lib.ListN.{length, getD, drop, drop-of-length-le, length-append}
+use lib.Dec.{eqb, leb}
+use lib.ListN.{length, getD, drop, drop-of-length-le}
 use lib.Seq.{drop-cons, drop-drop}
 use Rattle.rules.specs.Limits.{deepest-level}
-use Rattle.rules.specs.Table.{What, field, group, Field, Entry, levels, inside-of, is-inside, fields-below}
+use Rattle.rules.specs.Table.{What, field, group, Field, Entry, levels, inside-of, fields-below}
+use Rattle.rules.proofs.Steps.{by-test}
 use Rattle.buffer.proofs.Cases.{by-order}
 use Rattle.tables.specs.Entries.{blank, is-group, is-periodic, follows}
 use Rattle.tables.specs.Places.{inside-before, inside-at}
 use Rattle.tables.specs.Groups.{run-below, group-end, numbers-below, with-number, with-field, field-by, field-at}
-use Rattle.tables.proofs.Levels.{mark, levels-cons, levels-nil, and-both}
+use Rattle.tables.proofs.Levels.{mark, levels-cons, levels-nil}
+use Rattle.tables.proofs.Bools.{clash, and-true, and-false, or-false, and-both}
 use Rattle.tables.proofs.Rows.{Sound}
 
 -- ---- levels
@@ -49,9 +51,9 @@ range-from g l (e ∷ es) h v (suc i) k =
     range-from (is-group (e .what)) (e .level) es (follows-range l (e .level) g h (x .0) .1) (x .1) i (le-of-suc-le-suc k)
 
 next-of : (g : Bool) (l : ℕ) (es : List Entry) → g ≡ true → levels (mark g) l es ≡ true → (0 < length es) × (getD es 0 blank .level ≡ suc l)
-next-of true l [] e v = let z : _≡_ {A = ℕ} 0 1 = cc (levels-nil true l) in absurd (omega arith)
+next-of true l [] e v = clash (sym v ∙ levels-nil true l)
 next-of true l (x ∷ es) e v = (omega arith, follows-deeper l (x .level) (first-of true l x es v .0))
-next-of false l es e v = let z : _≡_ {A = ℕ} 0 1 = cc in absurd (omega arith)
+next-of false l es e v = clash (sym e)
 
 next-from : (g : Bool) (l : ℕ) (es : List Entry) → levels (mark g) l es ≡ true
     → (i : ℕ) → i < length es → is-group (getD es i blank .what) ≡ true → (suc i < length es) × (getD es (suc i) blank .level ≡ suc (getD es i blank .level))
@@ -79,28 +81,16 @@ module _ (es : List Entry) (v : levels (group false) 0 es ≡ true) where
 
 -- ---- inside a periodic group
 
-and-yes : (b : Bool) → (b && true) ≡ b
-and-yes true = refl
-and-yes false = refl
-
-and-none : (b : Bool) → (b && false) ≡ false
-and-none true = refl
-and-none false = refl
-
-or-none : (b : Bool) → (b || false) ≡ b
-or-none true = refl
-or-none false = refl
-
 inside-deeper : (b : Bool) (l : ℕ) (w : What) → 1 < l → Sound l w → inside-of b l w ≡ b
 unfolding inside-of
-inside-deeper b l (field f n m) h s = rw (lt-ltb 1 l h) (and-yes b)
+inside-deeper b l (field f n m) h s = rw (lt-ltb 1 l h) (and-true b)
 inside-deeper b l (group true) h s = absurd (omega (arith, s refl))
-inside-deeper b l (group false) h s = rw (lt-ltb 1 l h) (and-yes b)
+inside-deeper b l (group false) h s = rw (lt-ltb 1 l h) (and-true b)
 
 inside-top : (b : Bool) (l : ℕ) (w : What) → l ≤ 1 → inside-of b l w ≡ is-periodic w
 unfolding inside-of
-inside-top b l (field f n m) h = rw (le-ltb 1 l h) (and-none b)
-inside-top b l (group p) h = rw (le-ltb 1 l h) (ap (λ c. p || c) (and-none b) ∙ or-none p)
+inside-top b l (field f n m) h = rw (le-ltb 1 l h) (and-false b)
+inside-top b l (group p) h = rw (le-ltb 1 l h) (ap (λ c. p || c) (and-false b) ∙ or-false p)
 
 module _ (es : List Entry) (i : ℕ) where
   pub inside-up : 1 < getD es (suc i) blank .level → Sound (getD es (suc i) blank .level) (getD es (suc i) blank .what) → inside-at es (suc i) ≡ inside-at es i
@@ -112,7 +102,7 @@ module _ (es : List Entry) (i : ℕ) where
   inside-one h = inside-top (inside-before es i) (getD es i blank .level) (getD es i blank .what) h
 
 pub periodic-what : (w : What) → is-periodic w ≡ true → w ≡ group true
-periodic-what (field f n m) e = let z : _≡_ {A = ℕ} 0 1 = cc in absurd (omega arith)
+periodic-what (field f n m) e = clash (sym e)
 periodic-what (group p) e = ap group e
 
 -- ---- the run below a level
@@ -209,7 +199,7 @@ module _ (es : List Entry) (l i : ℕ) where
     where
       with-field-number : (w : What) → is-group w ≡ false → (at : ℕ) (ns : List ℕ) → with-number w at ns ≡ at ∷ ns
       with-field-number (field f s m) e at ns = refl
-      with-field-number (group p) e at ns = let z : _≡_ {A = ℕ} 0 1 = cc in absurd (omega arith)
+      with-field-number (group p) e at ns = clash e
 
   pub numbers-group : i < length es → l < getD es i blank .level → is-group (getD es i blank .what) ≡ true
       → numbers-below l i (drop i es) ≡ numbers-below l (i + 1) (drop (i + 1) es)
@@ -217,7 +207,7 @@ module _ (es : List Entry) (l i : ℕ) where
     where
       with-group-number : (w : What) → is-group w ≡ true → (at : ℕ) (ns : List ℕ) → with-number w at ns ≡ ns
       with-group-number (group p) e at ns = refl
-      with-group-number (field f s m) e at ns = let z : _≡_ {A = ℕ} 0 1 = cc in absurd (omega arith)
+      with-group-number (field f s m) e at ns = clash (sym e)
 
 module _ (es : List Entry) (l deep i next : ℕ) (h : l ≤ deep) (e : next ≡ i + run-below deep (drop i es)) where
   pub run-then : run-below l (drop i es) ≡ run-below deep (drop i es) + run-below l (drop next es)
@@ -280,6 +270,43 @@ numbers-mean es l at (x ∷ rest) e = by-order l (x .level)
 -- the numbers of a group's fields, taken as entries, are its fields
 pub numbers-fields : (es : List Entry) (l at : ℕ) → map (field-at es) (numbers-below l at (drop at es)) ≡ fields-below l (drop at es)
 numbers-fields es l at = numbers-mean es l at (drop at es) refl
+
+-- ---- each number of a group's fields
+
+-- entry m is a field among the entries from `at` on that are deeper than a level
+pub record Member (es : List Entry) (l at m : ℕ) : Type 0 where
+  pub from : at ≤ m
+  pub below : m < at + run-below l (drop at es)
+  pub field : is-group (getD es m blank .what) ≡ false
+
+later : (es : List Entry) (l at m : ℕ) → at < length es → l < getD es at blank .level → Member es l (at + 1) m → Member es l at m
+later es l at m h k x =
+    let r = run-more es l at h k in
+    record { from = omega (arith, x .from); below = omega (arith, x .below); field = x .field }
+
+first-or : (es : List Entry) (l at : ℕ) (ns : List ℕ) (k : ℕ) → Member es l at at
+    → ((j : ℕ) → j < length ns → Member es l at (getD ns j 0)) → k < length (at ∷ ns) → Member es l at (getD (at ∷ ns) k 0)
+first-or es l at ns zero x r h = x
+first-or es l at ns (suc k) x r h = r k (le-of-suc-le-suc h)
+
+each-from : (es : List Entry) (l at left k : ℕ) → at + left ≡ length es → k < length (numbers-below l at (drop at es))
+    → Member es l at (getD (numbers-below l at (drop at es)) k 0)
+each-from es l at zero k e h = absurd (not-suc-le-zero (rw (numbers-none es l at (omega arith)) at h))
+each-from es l at (suc left) k e h = by-order l (getD es at blank .level)
+    (λ deep. by-test (is-group (getD es at blank .what))
+    (λ g. subst (λ (ns : List ℕ). k < length ns → Member es l at (getD ns k 0)) (sym (numbers-group es l at inside deep g))
+    (λ q. later es l at _ inside deep (each-from es l (at + 1) left k (omega arith) q)) h)
+    (λ g. subst (λ (ns : List ℕ). k < length ns → Member es l at (getD ns k 0)) (sym (numbers-field es l at inside deep g))
+    (λ q. first-or es l at (numbers-below l (at + 1) (drop (at + 1) es)) k (record { from = omega arith; below = omega (arith, run-more es l at inside deep); field = g })
+    (λ j p. later es l at _ inside deep (each-from es l (at + 1) left j (omega arith) p)) q) h))
+    (λ stop. absurd (not-suc-le-zero (rw (numbers-stop es l at inside stop) at h)))
+  where
+    inside : at < length es
+    inside = omega arith
+
+pub numbers-each : (es : List Entry) (l at k : ℕ) → at ≤ length es → k < length (numbers-below l at (drop at es))
+    → Member es l at (getD (numbers-below l at (drop at es)) k 0)
+numbers-each es l at k h = each-from es l at (length es - at) k (omega arith)
 
 -- ---- the walk to the number behind a group's members
 module _ (es : List Entry) (l i : ℕ) where

@@ -1,20 +1,19 @@
 -- The parts of a table from entry i on: a periodic group with its members, a field alone, another group nothing. Assumes nothing.
 use mathlib.Core.Path.{_≡_, refl, sym, ap, subst, _∙_}
-use mathlib.Core.Bool.{Bool, true, false, _&&_, _||_}
+use mathlib.Core.Bool.{Bool, true, false}
 use mathlib.Core.List.{List, [], _∷_}
-use Prim.Native.Nat.{ℕ, zero, suc, _+_, _≤_, _<_}
-use native.Mathlib.Nat.{le-of-suc-le-suc}
+use Prim.Native.Nat.{ℕ, suc, _+_, _≤_, _<_}
 use native.Mathlib.Numerals.{add-one}
 use native.Mathlib.Omega.{arith}
 use borrow.Author.Tests.{lt-ltb, le-ltb}
-use lib.Dec.{ltb}
 use lib.ListN.{length, getD, drop, drop-of-length-le, length-drop}
 use lib.Seq.{drop-cons, drop-drop, getD-drop}
 use Rattle.rules.specs.Values.{Format}
-use Rattle.rules.specs.Table.{What, field, group, Field, Part, Entry, alone, is-inside, inside-of, fields-below, part-of, parts-from, parts}
+use Rattle.rules.specs.Table.{What, field, group, Entry, alone, is-inside, inside-of, fields-below, part-of, parts-from}
 use Rattle.buffer.proofs.Cases.{by-order}
 use Rattle.tables.specs.Entries.{blank}
-use Rattle.tables.specs.Groups.{run-below, group-end, field-by, field-at}
+use Rattle.tables.specs.Places.{inside-before, inside-at}
+use Rattle.tables.specs.Groups.{run-below, group-end}
 use Rattle.tables.proofs.Rows.{Sound}
 use Rattle.tables.proofs.Nesting.{end-start, run-nil, run-deeper, run-ends}
 
@@ -61,6 +60,14 @@ leaves n l (field f s m) es h = rw (le-ltb 1 l h)
 leaves n l (group true) es h = refl
 leaves n l (group false) es h = rw (le-ltb 1 l h)
 
+-- an entry that is not inside starts what it starts outside
+outside : (b : Bool) (n l : ℕ) (w : What) (es : List Entry) → inside-of b l w ≡ false
+    → parts-from b (record { name = n; level = l; what = w } ∷ es) ≡ parts-from false (record { name = n; level = l; what = w } ∷ es)
+unfolding parts-from part-of inside-of
+outside b n l (field f s m) es e = rw e
+outside b n l (group true) es e = refl
+outside b n l (group false) es e = rw e
+
 members-pass : (es : List Entry) → ((k : ℕ) → k < length es → Sound (getD es k blank .level) (getD es k blank .what))
     → parts-from true es ≡ parts-from false (drop (run-below 1 es) es)
 members-pass [] s = rw (run-nil 1, parts-nil true) (sym (parts-nil false))
@@ -77,6 +84,13 @@ module _ (es : List Entry) (i : ℕ) where
     starts : (b : Bool) (w : What) → getD es i blank .what ≡ w
         → parts-from b (drop i es) ≡ parts-from b (record { name = getD es i blank .name; level = getD es i blank .level; what = w } ∷ drop (i + 1) es)
     starts b w e = rw (add-one, drop-cons es i blank h) (ap (λ (v : What). parts-from b (record { name = getD es i blank .name; level = getD es i blank .level; what = v } ∷ drop (suc i) es)) e)
+
+    -- where entry i is outside periodic groups, it does not matter whether the entry before it is
+    pub parts-outside : inside-at es i ≡ false → parts-from (inside-before es i) (drop i es) ≡ parts-from false (drop i es)
+    unfolding inside-at inside-before
+    parts-outside e =
+        rw (drop-cons es i blank h)
+        (outside (inside-before es i) (getD es i blank .name) (getD es i blank .level) (getD es i blank .what) (drop (suc i) es) e)
 
     -- a periodic group: its part, with its members
     pub parts-periodic : (b : Bool) → getD es i blank .what ≡ group true

@@ -3,11 +3,11 @@
 use mathlib.Core.Path.{_≡_, refl, sym, ap, subst, _∙_}
 use mathlib.Core.Bool.{Bool, true, false, not, _&&_, _||_}
 use mathlib.Core.List.{List, [], _∷_}
-use mathlib.Core.Option.{Option, none, some}
+use mathlib.Core.Option.{none, some}
 use Prim.Native.Nat.{ℕ, zero, suc, _+_, _*_, _-_, _≤_, _<_}
 use native.Mathlib.Omega.{arith}
 use native.Mathlib.Nat.{add-zero, le-of-suc-le-suc, not-suc-le-zero}
-use borrow.Author.Tests.{le-leb, leb-true, eqb-true, ne-eqb}
+use borrow.Author.Tests.{leb-true, eqb-true, ne-eqb}
 use lib.Dec.{T, eqb, leb}
 use lib.ListN.{length, getD, drop, length-drop, drop-of-length-le}
 use lib.Seq.{drop-drop, getD-drop}
@@ -16,8 +16,9 @@ use Rattle.rules.specs.Lists.{Bytes, look-up}
 use Rattle.rules.specs.Characters.{space, letter, digit, letter-A, letter-B, letter-E, letter-F, letter-P, letter-U}
 use Rattle.rules.specs.Values.{Format, alpha, binary, fixed, packed, unpacked, allowed}
 use Rattle.rules.specs.Table.{What, field, group, Entry, format-of, format-letters, is-name, name-of, what-of, entries}
-use Rattle.rules.proofs.Steps.{from-bind, from-need, done-inj, not-done, by-option, by-test, T-true, and-left, and-right}
-use Rattle.tables.specs.Entries.{listed, blank, format-at, number-of, group-number, letter-number, decoded, row-of, right-of, format-number, size-of, is-multiple, is-periodic, bytes-at}
+use Rattle.tables.proofs.Bools.{and-true, and-false, or-true, or-false}
+use Rattle.rules.proofs.Steps.{from-bind, from-need, done-inj, not-done, by-option, T-true, and-left, and-right}
+use Rattle.tables.specs.Entries.{blank, format-at, number-of, letter-number, decoded, row-of, right-of, format-number, size-of, is-multiple, is-periodic, bytes-at}
 use Rattle.tables.specs.declared.Entry.{Entry as Row}
 
 -- ---- formats by number
@@ -80,26 +81,14 @@ letter-other b a₁ a₂ a₃ a₄ a₅ = letter-none b (none-of b a₁ a₂ a�
 -- ---- names
 
 -- by the answers that decide it: b a digit, b no digit, a no letter
-or-true : (x y : Bool) → (x || true) && not (y && true) ≡ not y
-or-true false false = refl
-or-true false true = refl
-or-true true false = refl
-or-true true true = refl
-
-or-false : (x y : Bool) → (x || false) && not (y && false) ≡ x
-or-false false false = refl
-or-false false true = refl
-or-false true false = refl
-or-false true true = refl
-
 module _ (a b : ℕ) where
   pub name-digit : letter a ≡ true → digit b ≡ true → is-name a b ≡ not (eqb a letter-E)
   unfolding is-name
-  name-digit e d = rw (e, d) (or-true (letter b) (eqb a letter-E))
+  name-digit e d = rw (e, d, or-true (letter b), and-true (eqb a letter-E))
 
   pub name-letter : letter a ≡ true → digit b ≡ false → is-name a b ≡ letter b
   unfolding is-name
-  name-letter e d = rw (e, d) (or-false (letter b) (eqb a letter-E))
+  name-letter e d = rw (e, d, or-false (letter b), and-false (eqb a letter-E)) (and-true (letter b))
 
   pub name-neither : letter a ≡ false → is-name a b ≡ false
   unfolding is-name
@@ -107,16 +96,12 @@ module _ (a b : ℕ) where
 
 -- ---- what an entry is
 
-or-none : (b : Bool) → (b || false) ≡ b
-or-none true = refl
-or-none false = refl
-
 need-is : {A : Type 0} (b : Bool) (n : ℕ) (a : A) → is-done (need b n >>= λ (_ : Unit {0}). done a) ≡ b
 need-is true n a = refl
 need-is false n a = refl
 
 pub option-zero : (o l : ℕ) → (o ≡ 2 → ⊥) → (eqb o 0 || (eqb o 2 && eqb l 1)) ≡ eqb o 0
-option-zero o l h = rw (ne-eqb o 2 h) (or-none (eqb o 0))
+option-zero o l h = rw (ne-eqb o 2 h) (or-false (eqb o 0))
 
 module _ (level letter size option : ℕ) where
   pub what-field : (f : Format) → format-of letter ≡ some f
@@ -276,7 +261,7 @@ entry-sound (suc n) bs es (suc i) p h =
 
 -- ---- a turn of the loop over the entries
 
-is-done-then : {A B : Type 0} (m : Outcome A) (f : A → B) → is-done (m >>= λ a. done (f a)) ≡ is-done m
+pub is-done-then : {A B : Type 0} (m : Outcome A) (f : A → B) → is-done (m >>= λ a. done (f a)) ≡ is-done m
 is-done-then (done a) f = refl
 is-done-then (refused n) f = refl
 

@@ -3,7 +3,7 @@
 use mathlib.Core.Path.{_≡_, refl, sym, ap, subst, _∙_}
 use mathlib.Core.Bool.{Bool, true, false, not}
 use mathlib.Core.List.{List, [], _∷_}
-use Prim.Native.Nat.{ℕ, zero, suc, _+_, _-_, _≤_, _<_}
+use Prim.Native.Nat.{ℕ, suc, _+_, _-_, _≤_, _<_}
 use native.Mathlib.Numerals.{add-one}
 use native.Mathlib.Omega.{arith}
 use borrow.Author.Tests.{eq-eqb, ne-eqb, eqb-true}
@@ -17,10 +17,9 @@ use Rattle.rules.specs.Use.{fields-to}
 use Rattle.rules.proofs.Steps.{by-test, from-bind, done-inj, not-done}
 use Rattle.tables.specs.Entries.{blank, is-group, is-multiple, is-periodic}
 use Rattle.tables.specs.Groups.{with-field, fields-in, Spanned}
+use Rattle.tables.proofs.Bools.{clash}
 use Rattle.tables.proofs.Names.{one-name}
-
-clash : {C : Type 0} → true ≡ false → C
-clash e = let z : _≡_ {A = ℕ} 0 1 = cc in absurd (omega arith)
+use Rattle.tables.proofs.Rows.{is-done-then}
 
 -- ---- the first entry of those of a series, by what it is
 module _ (n m l : ℕ) (es : List Entry) where
@@ -73,11 +72,7 @@ module _ (n m l : ℕ) (es : List Entry) where
   other-goes-on : (w : What) → is-multiple w ≡ false → is-periodic w ≡ false → (m ≡ n → ⊥)
       → is-done (fields-to n (record { name = m; level = l; what = w } ∷ es)) ≡ is-done (fields-to n es)
   other-goes-on (field f s true) e p q = clash e
-  other-goes-on (field f s false) e p q = ap is-done (to-more n m l es f s (ne-eqb m n q)) ∙ done-then (fields-to n es) _
-    where
-      done-then : {A B : Type 0} (o : Outcome A) (g : A → B) → is-done (o >>= λ a. done (g a)) ≡ is-done o
-      done-then (done a) g = refl
-      done-then (refused k) g = refl
+  other-goes-on (field f s false) e p q = ap is-done (to-more n m l es f s (ne-eqb m n q)) ∙ is-done-then (fields-to n es) _
   other-goes-on (group true) e p q = clash p
   other-goes-on (group false) e p q = ap is-done (to-group n m l es (ne-eqb m n q))
 

@@ -1,26 +1,26 @@
 -- What a table's being valid means, and what it says of its entries. Assumes nothing.
 use mathlib.Core.Path.{_≡_, refl, sym, ap, subst, _∙_}
-use mathlib.Core.Bool.{Bool, true, false, not, _&&_}
-use mathlib.Core.List.{List, [], _∷_}
-use Prim.Native.Nat.{ℕ, suc, _+_, _*_, _-_, _≤_, _<_}
+use mathlib.Core.Bool.{Bool, true, false, _&&_}
+use mathlib.Core.List.{List}
+use Prim.Native.Nat.{ℕ, _+_, _*_, _≤_, _<_}
 use native.Mathlib.Omega.{arith}
 use borrow.Author.Tests.{le-leb, leb-true, eq-eqb, eqb-true}
-use lib.Dec.{T, eqb, leb}
+use lib.Dec.{eqb, leb}
 use lib.ListN.{length, getD, take, drop, length-drop}
 use lib.Seq.{drop-drop}
 use Rattle.rules.specs.Outcome.{Outcome, done, refused, _>>=_, need, is-done}
 use Rattle.rules.specs.Limits.{most-entries}
 use Rattle.rules.specs.Lists.{Bytes, same}
-use Rattle.rules.specs.Values.{Format, alpha, binary, fixed, packed, unpacked}
+use Rattle.rules.specs.Values.{alpha, binary, fixed, packed, unpacked}
 use Rattle.rules.specs.Table.{What, field, group, Entry, entries, levels, differ, names, table-head, table}
 use Rattle.rules.proofs.Steps.{by-test, from-bind, from-need}
-use Rattle.tables.specs.Entries.{listed, Valid, entries-of, read-entries, blank, format-at, number-of, format-number, decoded, what-by, entry-of, row-of, bytes-at, Right, headed, group-number, is-group}
-use Rattle.tables.proofs.Levels.{and-both}
+use Rattle.tables.specs.Entries.{listed, Valid, entries-of, read-entries, blank, format-at, format-number, decoded, what-by, entry-of, row-of, bytes-at, Right, headed, group-number, is-group}
+use Rattle.tables.proofs.Bools.{clash, and-true, and-both, and-four}
 use Rattle.tables.proofs.Rows.{Sound, entries-length, entry-row, entry-sound}
 
 done-listed : (m : Outcome (List Entry)) → is-done m ≡ true → m ≡ done (listed m)
 done-listed (done es) e = refl
-done-listed (refused n) e = let z : _≡_ {A = ℕ} 0 1 = cc in absurd (omega arith)
+done-listed (refused n) e = clash (sym e)
 
 -- ---- entries that are right by themselves
 module _ (n : ℕ) (t : Bytes) (v : Right n t) where
@@ -62,10 +62,6 @@ need-then false n m = refl
 then-need : (m : Outcome (List Entry)) (f : List Entry → Bool) (n : ℕ)
     → is-done (m >>= λ es. need (f es) n >>= λ (_ : Unit {0}). done es) ≡ (is-done m && f (listed m))
 then-need (done es) f n = need-then (f es) n (done es) ∙ and-true (f es)
-  where
-    and-true : (b : Bool) → (b && true) ≡ b
-    and-true true = refl
-    and-true false = refl
 then-need (refused k) f n = refl
 
 abbrev right-names : List Entry → Bool
@@ -91,13 +87,6 @@ pub record Tabled (t : Bytes) : Type 0 where
   pub right : Right (getD t 5 0) t
   pub levelled : levels (group false) 0 (read-entries (getD t 5 0) t) ≡ true
   pub differing : differ (names (read-entries (getD t 5 0) t)) ≡ true
-
-and-four : (a b c d : Bool) → (a && b && c && d) ≡ true → (a ≡ true) × (b ≡ true) × (c ≡ true) × (d ≡ true)
-and-four a b c d e =
-    let x = and-both (a && b && c) d e in
-    let y = and-both (a && b) c (x .0) in
-    let z = and-both a b (y .0) in
-    (z .0, z .1, y .1, x .1)
 
 pub tabled : (t : Bytes) → Valid t → Tabled t
 tabled t v =

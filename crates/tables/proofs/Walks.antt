@@ -1,13 +1,12 @@
 -- What a walk over the entries below a group leaves, at each of its ends. Assumes nothing.
-use mathlib.Core.Path.{_≡_, refl, sym, ap, _∙_}
-use mathlib.Core.Bool.{Bool, true, false}
-use mathlib.Core.List.{List, [], _∷_, _++_}
-use Prim.Native.Nat.{ℕ, suc, _+_, _≤_, _<_}
+use mathlib.Core.Path.{_≡_, refl, sym, _∙_}
+use mathlib.Core.Bool.{true, false}
+use mathlib.Core.List.{List, [], _∷_}
+use Prim.Native.Nat.{ℕ, _+_, _≤_, _<_}
 use native.Mathlib.Nat.{le-of-lt}
 use native.Mathlib.Omega.{arith}
 use lib.ListN.{length, getD, drop, set, length-set, length-append, length-drop}
 use Rattle.rules.specs.Table.{Entry}
-use Rattle.buffer.specs.Splice.{splice}
 use Rattle.buffer.proofs.Laws.{splice-nil, splice-then, set-splice}
 use Rattle.tables.specs.Entries.{blank, is-group}
 use Rattle.tables.specs.Groups.{run-below, numbers-below, Expanded}

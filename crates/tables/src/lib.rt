@@ -17,6 +17,11 @@ ghost use Rattle.tables.specs.Groups.{group-end, Expanded, Fields-of, pl
 // What stands in the place of a group's format.
 pub const GROUP: u8 = 5;
 
+// Characters in EBCDIC.
+const SPACE: u8 = 0x40;
+
+const LETTER_E: u8 = 0xc5;
+
 // A decoded entry. A format is its number: A 0, B 1, F 2, P 3, U 4; a group has GROUP.
 pub struct Entry {
     pub name: u16,
@@ -50,6 +55,7 @@ pub fn length_allowed(format: u8, size: u8) -> bool
     true
 }
 
+// A to I, J to R, S to Z.
 fn is_letter(b: u8) -> bool
     ensures { λ r. ⌜ r ≡ letter b ⌝ }
 {
@@ -86,14 +92,14 @@ fn is_name(a: u8, b: u8) -> bool
 {
     if is_letter(a) {
         if is_digit(b) {
-            return a != 0xc5;
+            return a != LETTER_E;
         }
         return is_letter(b);
     }
     false
 }
 
-// The number of a format letter, or GROUP.
+// The number of a format letter, being A, B, F, P or U; GROUP for any other.
 fn format_number(letter: u8) -> u8
     ensures { λ r. ⌜ (r ≡ letter-number letter) × (r ≤ 5) ⌝ }
 {
@@ -112,7 +118,7 @@ fn group_right(level: u8, letter: u8, size: u8, option: u8) -> bool
     requires { ⌜ letter-number letter ≡ 5 ⌝ }
     ensures { λ r. ⌜ r ≡ is-done (what-of level letter size option) ⌝ }
 {
-    if letter != 0x40 {
+    if letter != SPACE {
         return false;
     }
     if size != 0 {
@@ -166,6 +172,7 @@ fn entries_right(t: &[u8], n: usize) -> bool
     true
 }
 
+// A byte as a number.
 fn wide(b: u8) -> usize
     ensures { λ r. ⌜ (r ≡ b) × (r < 256) ⌝ }
 {
@@ -181,6 +188,7 @@ fn name_at(t: &[u8], i: usize) -> u16
     (wide(t[p]) * 256 + wide(t[p + 1])) as u16
 }
 
+// The six bytes of entry i, decoded, whether or not they are right.
 fn row(t: &[u8], i: usize) -> Entry
     requires { ⌜ i * 6 + 12 ≤ length (now t) ⌝ }
     ensures { λ r. ⌜ r ≡ row-of (bytes-at (now (t .entry)) i) ⌝ }
@@ -196,6 +204,7 @@ fn row(t: &[u8], i: usize) -> Entry
     }
 }
 
+// Whether a decoded entry is a group.
 fn is_group(e: Entry) -> bool
     ensures { λ r. ⌜ r ≡ eqb (e .format) 5 ⌝ }
 {
@@ -445,7 +454,7 @@ fn is_plain(e: Entry) -> bool
     1 <= e.size
 }
 
-// Whether group i has neither an MU field nor one of variable length.
+// Whether group i can be named: it has neither an MU field nor one of variable length.
 pub fn plain_group(t: &[u8], i: usize) -> bool
     requires { ⌜ Valid (now t) × (i < length (entries-of (now t))) ⌝ }
     ensures { λ r. ⌜ r ≡ all plain (fields-below (getD (entries-of (now (t .entry))) i blank .level) (drop (i + 1) (entries-of (now (t .entry))))) ⌝ }

@@ -1,6 +1,6 @@
 -- `tables::expand_from` meets its contract: a field's number before those behind it, a group's members before those behind them;
 -- the entries that remain fall. Assumes nothing.
-use mathlib.Core.Path.{_≡_, refl, sym, ap, _∙_}
+use mathlib.Core.Path.{refl, sym, ap, _∙_}
 use native.Mathlib.Omega.{arith}
 use Prim.Native.Nat.{ℕ, _<_, _-_, _+_}
 use lib.Dec.{eqb}

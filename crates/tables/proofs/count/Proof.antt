@@ -5,9 +5,6 @@ use Rattle.tables.proofs.Tables.{valid-count, valid-length, tabled}
 use borrow.Author.Needs.{needs}
 use Rattle.tables.proofs.count.Statement.{statement}
 use Rattle.tables.proofs.count.Tie as tie
-use Rattle.tables.proofs.count.Reads as reads
-use Rattle.tables.proofs.count.Lts as lts
-use Rattle.tables.proofs.wide.Reads as wide-reads
 
 shared-slice-read-wide : tie.Need-shared-slice-read-wide
 shared-slice-read-wide c = let s = c .before .before in omega (arith, valid-length (s .args .t .now) (s .pre), tabled (s .args .t .now) (s .pre) .some)

@@ -1,5 +1,5 @@
 -- `tables::entries_right` meets its contract: what is left to read answers as the whole does. Assumes nothing.
-use mathlib.Core.Path.{_≡_, refl, sym, _∙_}
+use mathlib.Core.Path.{_≡_, sym, _∙_}
 use native.Mathlib.Omega.{arith}
 use native.Mathlib.Nat.{sub-zero}
 use Prim.Native.Nat.{_≤_, _-_}
@@ -11,9 +11,6 @@ use Rattle.tables.proofs.Rows.{right-turn, wrong-turn, last-turn}
 use borrow.Author.Needs.{needs}
 use Rattle.tables.proofs.entries_right.Statement.{statement}
 use Rattle.tables.proofs.entries_right.Tie as tie
-use Rattle.tables.proofs.entries_right.Reads as reads
-use Rattle.tables.proofs.entries_right.Lts as lts
-use Rattle.tables.proofs.entry_right.Reads as entry-right-reads
 
 abbrev Inv-loop : tie.InvT-loop
 Inv-loop t n i₀ i = (i ≤ n) × (is-done (entries (n - i) (bytes-at t i)) ≡ is-done (entries n (drop 6 t)))

@@ -1,12 +1,8 @@
 -- `tables::entry_at` meets its contract: a valid table's bytes are its entries. Assumes nothing.
 use mathlib.Core.Path.{_∙_}
 use Rattle.tables.proofs.Tables.{valid-reach, valid-row}
-use borrow.Author.Needs.{needs}
 use Rattle.tables.proofs.entry_at.Statement.{statement}
 use Rattle.tables.proofs.entry_at.Tie as tie
-use Rattle.tables.proofs.entry_at.Reads as reads
-use Rattle.tables.proofs.entry_at.Lts as lts
-use Rattle.tables.proofs.row.Reads as row-reads
 
 row-requires : tie.Need-row-requires
 row-requires c κs = let s = c .before in valid-reach (s .args .t .now) (s .pre .0) (s .args .i) (s .pre .1)

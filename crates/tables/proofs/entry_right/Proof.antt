@@ -4,10 +4,6 @@ use Rattle.tables.proofs.Rows.{right-at}
 use borrow.Author.Needs.{needs}
 use Rattle.tables.proofs.entry_right.Statement.{statement}
 use Rattle.tables.proofs.entry_right.Tie as tie
-use Rattle.tables.proofs.entry_right.Reads as reads
-use Rattle.tables.proofs.entry_right.Lts as lts
-use Rattle.tables.proofs.is_name.Reads as is-name-reads
-use Rattle.tables.proofs.what_right.Reads as what-right-reads
 
 mul-p : tie.Need-mul-p
 mul-p c = search needs

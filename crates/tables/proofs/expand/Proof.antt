@@ -1,16 +1,11 @@
 -- `tables::expand` meets its contract: the walk from the entry behind the group writes its fields from the front on. Assumes nothing.
-use mathlib.Core.Path.{_≡_, sym, ap, _∙_}
+use mathlib.Core.Path.{ap}
 use native.Mathlib.Omega.{arith}
 use Rattle.tables.specs.declared.Entry.{Entry}
 use Rattle.tables.proofs.Tables.{valid-most}
 use borrow.Author.Needs.{needs}
 use Rattle.tables.proofs.expand.Statement.{statement}
 use Rattle.tables.proofs.expand.Tie as tie
-use Rattle.tables.proofs.expand.Reads as reads
-use Rattle.tables.proofs.expand.Lts as lts
-use Rattle.tables.proofs.count.Reads as count-reads
-use Rattle.tables.proofs.entry_at.Reads as entry-at-reads
-use Rattle.tables.proofs.expand_from.Reads as expand-from-reads
 
 entry-at-requires : tie.Need-entry-at-requires
 entry-at-requires c κs = search needs

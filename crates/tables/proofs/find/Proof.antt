@@ -1,5 +1,5 @@
 -- `tables::find` meets its contract: what is left of the entries finds the same as the whole. Assumes nothing.
-use mathlib.Core.Path.{_≡_, refl, sym, ap, _∙_}
+use mathlib.Core.Path.{_≡_, sym, ap, _∙_}
 use native.Mathlib.Omega.{arith}
 use Prim.Native.Nat.{_≤_, _-_}
 use lib.ListN.{length, drop}
@@ -12,10 +12,6 @@ use Rattle.tables.proofs.Tables.{valid-reach, valid-row}
 use borrow.Author.Needs.{needs}
 use Rattle.tables.proofs.find.Statement.{statement}
 use Rattle.tables.proofs.find.Tie as tie
-use Rattle.tables.proofs.find.Reads as reads
-use Rattle.tables.proofs.find.Lts as lts
-use Rattle.tables.proofs.count.Reads as count-reads
-use Rattle.tables.proofs.name_at.Reads as name-at-reads
 
 abbrev Inv-loop : tie.InvT-loop
 Inv-loop t name n i₀ i = (n ≡ length (entries-of t)) × (i ≤ n) × (find-from (inside-before (entries-of t) i) name (drop i (entries-of t)) ≡ find name (entries-of t))

@@ -5,11 +5,8 @@ use Rattle.tables.proofs.Rows.{letter-other}
 use Rattle.rules.specs.Lists.{look-up}
 use Rattle.rules.specs.Table.{format-of, format-letters}
 use Rattle.tables.specs.Entries.{letter-number}
-use borrow.Author.Needs.{needs}
 use Rattle.tables.proofs.format_number.Statement.{statement}
 use Rattle.tables.proofs.format_number.Tie as tie
-use Rattle.tables.proofs.format_number.Reads as reads
-use Rattle.tables.proofs.format_number.Lts as lts
 
 returns : tie.Need-returns
 unfolding letter-number format-of look-up format-letters

@@ -1,5 +1,5 @@
 -- `tables::group_end` meets its contract: what is left of the run ends where the whole does. Assumes nothing.
-use mathlib.Core.Path.{_≡_, refl, sym, ap, _∙_}
+use mathlib.Core.Path.{_≡_, ap, _∙_}
 use native.Mathlib.Omega.{arith}
 use Prim.Native.Nat.{_+_, _≤_, _-_}
 use lib.ListN.{length, drop}
@@ -10,10 +10,6 @@ use Rattle.tables.proofs.Nesting.{end-start, end-turn, end-here, end-la
 use borrow.Author.Needs.{needs}
 use Rattle.tables.proofs.group_end.Statement.{statement}
 use Rattle.tables.proofs.group_end.Tie as tie
-use Rattle.tables.proofs.group_end.Reads as reads
-use Rattle.tables.proofs.group_end.Lts as lts
-use Rattle.tables.proofs.count.Reads as count-reads
-use Rattle.tables.proofs.entry_at.Reads as entry-at-reads
 
 abbrev Inv-loop : tie.InvT-loop
 Inv-loop t i n level j₀ j = (n ≡ length (entries-of t)) × (j ≤ n) × (j + run-below level (drop j (entries-of t)) ≡ group-end (entries-of t) i)

@@ -2,11 +2,8 @@
 use mathlib.Core.Path.{sym, _∙_}
 use borrow.Author.Tests.{ne-eqb}
 use Rattle.tables.proofs.Rows.{letter-group, what-group, option-zero}
-use borrow.Author.Needs.{needs}
 use Rattle.tables.proofs.group_right.Statement.{statement}
 use Rattle.tables.proofs.group_right.Tie as tie
-use Rattle.tables.proofs.group_right.Reads as reads
-use Rattle.tables.proofs.group_right.Lts as lts
 
 returns : tie.Need-returns
 returns c = let a = c .before in sym (what-group _ _ _ _ (letter-group _ (a .pre)) ∙ rw (ne-eqb _ _ (c .if1 .taken)))

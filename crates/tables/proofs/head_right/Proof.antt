@@ -1,16 +1,10 @@
 -- `tables::head_right` meets its contract: the tests that led to each return settle the definition's. Assumes nothing.
-use mathlib.Core.Path.{sym, _∙_}
-use native.Mathlib.Omega.{arith}
 use borrow.Author.Tests.{le-leb, lt-leb}
 use Rattle.rules.specs.Table.{table-head}
 use Rattle.tables.specs.Entries.{headed}
 use borrow.Author.Needs.{needs}
 use Rattle.tables.proofs.head_right.Statement.{statement}
 use Rattle.tables.proofs.head_right.Tie as tie
-use Rattle.tables.proofs.head_right.Reads as reads
-use Rattle.tables.proofs.head_right.Lts as lts
-use Rattle.buffer.proofs.stands_at.Reads as stands-at-reads
-use Rattle.tables.proofs.wide.Reads as wide-reads
 
 returns : tie.Need-returns
 unfolding headed table-head

@@ -1,13 +1,10 @@
 -- `tables::inside` meets its contract: there is a periodic group for entry i, or there is none. Assumes nothing.
-use mathlib.Core.Path.{_≡_, sym, subst, _∙_}
+use mathlib.Core.Path.{sym, subst}
 use Rattle.tables.specs.Entries.{entries-of}
 use Rattle.tables.specs.Places.{Homes}
 use borrow.Author.Needs.{needs}
 use Rattle.tables.proofs.inside.Statement.{statement}
 use Rattle.tables.proofs.inside.Tie as tie
-use Rattle.tables.proofs.inside.Reads as reads
-use Rattle.tables.proofs.inside.Lts as lts
-use Rattle.tables.proofs.periodic_group.Reads as periodic-group-reads
 
 periodic-group-requires : tie.Need-periodic-group-requires
 periodic-group-requires c κs = search needs

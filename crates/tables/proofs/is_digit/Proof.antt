@@ -1,11 +1,8 @@
 -- `tables::is_digit` meets its contract: the tests that led to each return settle the definition's. Assumes nothing.
 use borrow.Author.Tests.{le-leb, lt-leb}
 use Rattle.rules.specs.Characters.{digit}
-use borrow.Author.Needs.{needs}
 use Rattle.tables.proofs.is_digit.Statement.{statement}
 use Rattle.tables.proofs.is_digit.Tie as tie
-use Rattle.tables.proofs.is_digit.Reads as reads
-use Rattle.tables.proofs.is_digit.Lts as lts
 
 returns : tie.Need-returns
 unfolding digit

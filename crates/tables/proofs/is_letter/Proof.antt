@@ -2,11 +2,8 @@
 use native.Mathlib.Omega.{arith}
 use borrow.Author.Tests.{le-leb, lt-leb}
 use Rattle.rules.specs.Characters.{letter}
-use borrow.Author.Needs.{needs}
 use Rattle.tables.proofs.is_letter.Statement.{statement}
 use Rattle.tables.proofs.is_letter.Tie as tie
-use Rattle.tables.proofs.is_letter.Reads as reads
-use Rattle.tables.proofs.is_letter.Lts as lts
 
 returns : tie.Need-returns
 unfolding letter

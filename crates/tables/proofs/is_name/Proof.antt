@@ -4,10 +4,6 @@ use Rattle.tables.proofs.Rows.{name-digit, name-letter, name-neither}
 use borrow.Author.Needs.{needs}
 use Rattle.tables.proofs.is_name.Statement.{statement}
 use Rattle.tables.proofs.is_name.Tie as tie
-use Rattle.tables.proofs.is_name.Reads as reads
-use Rattle.tables.proofs.is_name.Lts as lts
-use Rattle.tables.proofs.is_digit.Reads as is-digit-reads
-use Rattle.tables.proofs.is_letter.Reads as is-letter-reads
 
 is-letter-requires : tie.Need-is-letter-requires
 is-letter-requires c κs = search needs

@@ -1,11 +1,8 @@
 -- `tables::is_plain` meets its contract: the tests that led to each return settle the definition's. Assumes nothing.
 use borrow.Author.Tests.{ne-eqb}
 use Rattle.tables.specs.Groups.{plain-row}
-use borrow.Author.Needs.{needs}
 use Rattle.tables.proofs.is_plain.Statement.{statement}
 use Rattle.tables.proofs.is_plain.Tie as tie
-use Rattle.tables.proofs.is_plain.Reads as reads
-use Rattle.tables.proofs.is_plain.Lts as lts
 
 returns : tie.Need-returns
 unfolding plain-row

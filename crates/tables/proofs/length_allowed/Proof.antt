@@ -3,8 +3,6 @@ use Rattle.tables.proofs.Lengths.{too-short, too-long, fixed-length, ot
 use borrow.Author.Needs.{needs}
 use Rattle.tables.proofs.length_allowed.Statement.{statement}
 use Rattle.tables.proofs.length_allowed.Tie as tie
-use Rattle.tables.proofs.length_allowed.Reads as reads
-use Rattle.tables.proofs.length_allowed.Lts as lts
 
 array-read-if1 : tie.Need-array-read-if1
 array-read-if1 c = search needs

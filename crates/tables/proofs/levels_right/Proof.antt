@@ -1,23 +1,18 @@
 -- `tables::levels_right` meets its contract: what is left of the levels answers as the whole does. Assumes nothing.
 use mathlib.Core.Path.{_≡_, refl, sym, ap, _∙_}
-use mathlib.Core.Bool.{true, false}
+use mathlib.Core.Bool.{false}
 use native.Mathlib.Omega.{arith}
 use Prim.Native.Nat.{_≤_, _-_}
 use lib.Dec.{eqb}
 use lib.ListN.{getD, drop}
 use Rattle.rules.specs.Table.{levels, group}
-use Rattle.tables.specs.Entries.{read-entries, decoded, blank}
+use Rattle.tables.specs.Entries.{read-entries, blank}
 use Rattle.tables.specs.declared.Entry.{Entry}
 use Rattle.tables.proofs.Levels.{mark, levels-turn, levels-stop, levels-end}
 use Rattle.tables.proofs.Tables.{read-count, read-reach, read-row, is-group-number}
 use borrow.Author.Needs.{needs}
 use Rattle.tables.proofs.levels_right.Statement.{statement}
 use Rattle.tables.proofs.levels_right.Tie as tie
-use Rattle.tables.proofs.levels_right.Reads as reads
-use Rattle.tables.proofs.levels_right.Lts as lts
-use Rattle.tables.proofs.is_group.Reads as is-group-reads
-use Rattle.tables.proofs.may_follow.Reads as may-follow-reads
-use Rattle.tables.proofs.row.Reads as row-reads
 
 abbrev Inv-loop : tie.InvT-loop
 Inv-loop t n after-group₀ before₀ i₀ after-group before i = (i ≤ n) × (levels (mark after-group) before (drop i (read-entries n t)) ≡ levels (group false) 0 (read-entries n t))

@@ -1,15 +1,12 @@
 -- `tables::may_follow` meets its contract: the tests that led to each return settle the definition's. Assumes nothing.
-use mathlib.Core.Path.{_≡_, sym, _∙_}
+use mathlib.Core.Path.{_≡_}
 use mathlib.Core.Bool.{Bool, true, false}
 use Prim.Native.Nat.{ℕ, suc, _<_}
 use native.Mathlib.Omega.{arith}
 use borrow.Author.Tests.{eq-eqb, ne-eqb, le-leb, lt-leb}
 use Rattle.tables.specs.Entries.{follows}
-use borrow.Author.Needs.{needs}
 use Rattle.tables.proofs.may_follow.Statement.{statement}
 use Rattle.tables.proofs.may_follow.Tie as tie
-use Rattle.tables.proofs.may_follow.Reads as reads
-use Rattle.tables.proofs.may_follow.Lts as lts
 
 level-zero : (g : Bool) (b l : ℕ) → l < 1 → false ≡ follows g b l
 unfolding follows

@@ -1,13 +1,10 @@
 -- `tables::name_at` meets its contract: the two bytes are entry i's first. Assumes nothing.
-use mathlib.Core.Path.{sym, _∙_}
+use mathlib.Core.Path.{sym}
 use Rattle.rules.specs.Table.{name-of}
 use Rattle.tables.proofs.Rows.{name-at-is}
 use borrow.Author.Needs.{needs}
 use Rattle.tables.proofs.name_at.Statement.{statement}
 use Rattle.tables.proofs.name_at.Tie as tie
-use Rattle.tables.proofs.name_at.Reads as reads
-use Rattle.tables.proofs.name_at.Lts as lts
-use Rattle.tables.proofs.wide.Reads as wide-reads
 
 mul-p : tie.Need-mul-p
 mul-p c = search needs

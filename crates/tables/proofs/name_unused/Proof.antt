@@ -1,5 +1,5 @@
 -- `tables::name_unused` meets its contract: what is left of the names answers as the whole does. Assumes nothing.
-use mathlib.Core.Path.{_≡_, refl, sym, ap, _∙_}
+use mathlib.Core.Path.{_≡_, refl, ap, _∙_}
 use native.Mathlib.Omega.{arith}
 use Prim.Native.Nat.{_≤_, _-_}
 use lib.ListN.{drop}
@@ -10,9 +10,6 @@ use Rattle.tables.proofs.Tables.{read-count, read-reach, read-row}
 use borrow.Author.Needs.{needs}
 use Rattle.tables.proofs.name_unused.Statement.{statement}
 use Rattle.tables.proofs.name_unused.Tie as tie
-use Rattle.tables.proofs.name_unused.Reads as reads
-use Rattle.tables.proofs.name_unused.Lts as lts
-use Rattle.tables.proofs.name_at.Reads as name-at-reads
 
 abbrev Inv-loop : tie.InvT-loop
 Inv-loop t n from name i₀ i = (i ≤ n) × (unused name (drop i (read-entries n t)) ≡ unused name (drop from (read-entries n t)))

@@ -11,10 +11,6 @@ use Rattle.tables.proofs.Tables.{read-count, read-reach, read-row}
 use borrow.Author.Needs.{needs}
 use Rattle.tables.proofs.names_differ.Statement.{statement}
 use Rattle.tables.proofs.names_differ.Tie as tie
-use Rattle.tables.proofs.names_differ.Reads as reads
-use Rattle.tables.proofs.names_differ.Lts as lts
-use Rattle.tables.proofs.name_at.Reads as name-at-reads
-use Rattle.tables.proofs.name_unused.Reads as name-unused-reads
 
 abbrev Inv-loop : tie.InvT-loop
 Inv-loop t n i₀ i = (i ≤ n) × (differ (names (drop i (read-entries n t))) ≡ differ (names (read-entries n t)))

@@ -1,19 +1,15 @@
 -- `tables::periodic_group` meets its contract: on the way back to level 1 nothing leaves or enters a periodic group. Assumes nothing.
-use mathlib.Core.Path.{_≡_, refl, sym, ap, _∙_}
+use mathlib.Core.Path.{sym, ap, _∙_}
 use native.Mathlib.Omega.{arith}
-use Prim.Native.Nat.{_+_, _≤_, _-_, _<_}
+use Prim.Native.Nat.{_<_}
 use lib.ListN.{length}
 use Rattle.tables.specs.Entries.{entries-of}
 use Rattle.tables.specs.declared.Entry.{Entry}
 use Rattle.tables.proofs.Nesting.{level-range}
 use Rattle.tables.proofs.Climbs.{Climb, climb-start, climb-up, climb-home, climb-none, not-first}
 use Rattle.tables.proofs.Tables.{valid-levels, valid-sound}
-use borrow.Author.Needs.{needs}
 use Rattle.tables.proofs.periodic_group.Statement.{statement}
 use Rattle.tables.proofs.periodic_group.Tie as tie
-use Rattle.tables.proofs.periodic_group.Reads as reads
-use Rattle.tables.proofs.periodic_group.Lts as lts
-use Rattle.tables.proofs.entry_at.Reads as entry-at-reads
 
 abbrev Inv-loop : tie.InvT-loop
 Inv-loop t i j₀ j = Climb (entries-of t) i j

@@ -1,5 +1,5 @@
 -- `tables::plain_group` meets its contract: what is left of the group's fields answers as the whole does. Assumes nothing.
-use mathlib.Core.Path.{_≡_, refl, sym, ap, _∙_}
+use mathlib.Core.Path.{_≡_, sym, ap, _∙_}
 use native.Mathlib.Omega.{arith}
 use Prim.Native.Nat.{_+_, _≤_, _-_}
 use lib.ListN.{length, getD, drop}
@@ -14,11 +14,6 @@ use Rattle.tables.proofs.Tables.{valid-most}
 use borrow.Author.Needs.{needs}
 use Rattle.tables.proofs.plain_group.Statement.{statement}
 use Rattle.tables.proofs.plain_group.Tie as tie
-use Rattle.tables.proofs.plain_group.Reads as reads
-use Rattle.tables.proofs.plain_group.Lts as lts
-use Rattle.tables.proofs.count.Reads as count-reads
-use Rattle.tables.proofs.entry_at.Reads as entry-at-reads
-use Rattle.tables.proofs.is_plain.Reads as is-plain-reads
 
 abbrev Inv-loop : tie.InvT-loop
 Inv-loop t i n level j₀ j =

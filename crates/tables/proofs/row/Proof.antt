@@ -4,10 +4,6 @@ use Rattle.tables.proofs.Rows.{row-is}
 use borrow.Author.Needs.{needs}
 use Rattle.tables.proofs.row.Statement.{statement}
 use Rattle.tables.proofs.row.Tie as tie
-use Rattle.tables.proofs.row.Reads as reads
-use Rattle.tables.proofs.row.Lts as lts
-use Rattle.tables.proofs.format_number.Reads as format-number-reads
-use Rattle.tables.proofs.name_at.Reads as name-at-reads
 
 mul-p : tie.Need-mul-p
 mul-p c = search needs

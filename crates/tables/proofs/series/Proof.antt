@@ -3,7 +3,7 @@
 use mathlib.Core.Path.{_≡_, refl, sym, ap, _∙_}
 use mathlib.Core.Bool.{not}
 use native.Mathlib.Omega.{arith}
-use Prim.Native.Nat.{_+_, _≤_, _-_, _<_}
+use Prim.Native.Nat.{_≤_, _-_}
 use lib.Dec.{eqb}
 use lib.ListN.{length, getD, drop}
 use Rattle.rules.specs.Outcome.{is-done}
@@ -16,10 +16,6 @@ use Rattle.tables.proofs.Tables.{valid-names, is-group-number}
 use borrow.Author.Needs.{needs}
 use Rattle.tables.proofs.series.Statement.{statement}
 use Rattle.tables.proofs.series.Tie as tie
-use Rattle.tables.proofs.series.Reads as reads
-use Rattle.tables.proofs.series.Lts as lts
-use Rattle.tables.proofs.count.Reads as count-reads
-use Rattle.tables.proofs.entry_at.Reads as entry-at-reads
 
 abbrev Inv-loop : tie.InvT-loop
 Inv-loop t i j n k₀ k =

@@ -1,19 +1,10 @@
 -- `tables::valid` meets its contract: the answers that led to each return are the definition's tests, in its order. Assumes nothing.
-use mathlib.Core.Path.{_≡_, refl, sym, ap, _∙_}
-use mathlib.Core.Bool.{Bool, true, false}
+use mathlib.Core.Path.{sym, _∙_}
 use native.Mathlib.Omega.{arith}
-use lib.ListN.{drop}
 use Rattle.tables.proofs.Tables.{headed-long, headed-length, valid-by, headless}
 use borrow.Author.Needs.{needs}
 use Rattle.tables.proofs.valid.Statement.{statement}
 use Rattle.tables.proofs.valid.Tie as tie
-use Rattle.tables.proofs.valid.Reads as reads
-use Rattle.tables.proofs.valid.Lts as lts
-use Rattle.tables.proofs.entries_right.Reads as entries-right-reads
-use Rattle.tables.proofs.head_right.Reads as head-right-reads
-use Rattle.tables.proofs.levels_right.Reads as levels-right-reads
-use Rattle.tables.proofs.names_differ.Reads as names-differ-reads
-use Rattle.tables.proofs.wide.Reads as wide-reads
 
 head-right-requires : tie.Need-head-right-requires
 head-right-requires c κs = search needs

@@ -5,11 +5,6 @@ use Rattle.tables.proofs.Rows.{letter-format, what-field}
 use borrow.Author.Needs.{needs}
 use Rattle.tables.proofs.what_right.Statement.{statement}
 use Rattle.tables.proofs.what_right.Tie as tie
-use Rattle.tables.proofs.what_right.Reads as reads
-use Rattle.tables.proofs.what_right.Lts as lts
-use Rattle.tables.proofs.format_number.Reads as format-number-reads
-use Rattle.tables.proofs.group_right.Reads as group-right-reads
-use Rattle.tables.proofs.length_allowed.Reads as length-allowed-reads
 
 format-number-requires : tie.Need-format-number-requires
 format-number-requires c κs = search needs
