@@ -1,0 +1,13 @@
+pub mod Bools
+pub mod Rows
+pub mod Lengths
+pub mod Levels
+pub mod Tables
+pub mod Names
+pub mod Nesting
+pub mod Walks
+pub mod Climbs
+pub mod Plains
+pub mod Serial
+pub mod Partings
+pub mod Known

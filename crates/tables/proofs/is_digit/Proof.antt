@@ -1,0 +1,16 @@
+-- `tables::is_digit` meets its contract: the tests that led to each return settle the definition's. Assumes nothing.
+use borrow.Author.Tests.{le-leb, lt-leb}
+use Rattle.rules.specs.Characters.{digit}
+use Rattle.tables.proofs.is_digit.Statement.{statement}
+use Rattle.tables.proofs.is_digit.Tie as tie
+
+returns : tie.Need-returns
+unfolding digit
+returns c = rw (lt-leb _ _ (c .if1 .taken))
+
+returns-2 : tie.Need-returns-2
+unfolding digit
+returns-2 c = rw (le-leb _ _ (c .if1 .left))
+
+pub is-digit-spec : {M : Type 1} → statement M
+is-digit-spec = tie.close (tie.spec returns returns-2)

@@ -1,0 +1,33 @@
+-- `tables::is_letter` meets its contract: the tests that led to each return settle the definition's. Assumes nothing.
+use native.Mathlib.Omega.{arith}
+use borrow.Author.Tests.{le-leb, lt-leb}
+use Rattle.rules.specs.Characters.{letter}
+use Rattle.tables.proofs.is_letter.Statement.{statement}
+use Rattle.tables.proofs.is_letter.Tie as tie
+
+returns : tie.Need-returns
+unfolding letter
+returns c = let b = c .before .args .b in rw (lt-leb 0xC1 b (omega arith), lt-leb 0xD1 b (omega arith), lt-leb 0xE2 b (omega arith))
+
+returns-2 : tie.Need-returns-2
+unfolding letter
+returns-2 c = let b = c .before .before .args .b in rw (le-leb 0xC1 b (omega arith), le-leb b 0xC9 (omega arith))
+
+returns-3 : tie.Need-returns-3
+unfolding letter
+returns-3 c = let b = c .before .before .before .args .b in rw (lt-leb b 0xC9 (omega arith), le-leb 0xC1 b (omega arith), lt-leb 0xD1 b (omega arith), lt-leb 0xE2 b (omega arith))
+
+returns-4 : tie.Need-returns-4
+unfolding letter
+returns-4 c = let b = c .before .before .before .before .args .b in rw (lt-leb b 0xC9 (omega arith), le-leb 0xC1 b (omega arith), le-leb 0xD1 b (omega arith), le-leb b 0xD9 (omega arith))
+
+returns-5 : tie.Need-returns-5
+unfolding letter
+returns-5 c = let b = c .before .before .before .before .before .args .b in rw (lt-leb b 0xC9 (omega arith), le-leb 0xC1 b (omega arith), lt-leb b 0xD9 (omega arith), le-leb 0xD1 b (omega arith), lt-leb 0xE2 b (omega arith))
+
+returns-6 : tie.Need-returns-6
+unfolding letter
+returns-6 c = let b = c .before .before .before .before .before .args .b in rw (lt-leb b 0xC9 (omega arith), le-leb 0xC1 b (omega arith), lt-leb b 0xD9 (omega arith), le-leb 0xD1 b (omega arith), le-leb 0xE2 b (omega arith))
+
+pub is-letter-spec : {M : Type 1} → statement M
+is-letter-spec = tie.close (tie.spec returns returns-2 returns-3 returns-4 returns-5 returns-6)

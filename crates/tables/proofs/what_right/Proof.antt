@@ -1,0 +1,44 @@
+-- `tables::what_right` meets its contract: a group by `group_right`, a field by its length and its option. Assumes nothing.
+use mathlib.Core.Path.{sym, _∙_}
+use native.Mathlib.Omega.{arith}
+use Rattle.tables.proofs.Rows.{letter-format, what-field}
+use borrow.Author.Needs.{needs}
+use Rattle.tables.proofs.what_right.Statement.{statement}
+use Rattle.tables.proofs.what_right.Tie as tie
+
+format-number-requires : tie.Need-format-number-requires
+format-number-requires c κs = search needs
+
+group-right-requires : tie.Need-group-right-requires
+group-right-requires c κs = sym (c .before .format-number .ensures .0) ∙ c .if1 .taken
+
+returns : tie.Need-returns
+returns c = search needs
+
+length-allowed-requires : tie.Need-length-allowed-requires
+length-allowed-requires c κs = omega arith
+
+returns-2 : tie.Need-returns-2
+returns-2 c =
+    let n = c .before .before .before .format-number in
+    sym
+    (what-field _ _ _ _ _ (letter-format _ (λ e. c .before .before .if1 .left (n .ensures .0 ∙ e)))
+    ∙ rw (← n .ensures .0, ← c .before .length-allowed .ensures, c .if2 .taken))
+
+returns-3 : tie.Need-returns-3
+returns-3 c =
+    let n = c .before .before .before .format-number in
+    sym
+    (what-field _ _ _ _ _ (letter-format _ (λ e. c .before .before .if1 .left (n .ensures .0 ∙ e)))
+    ∙ rw (← n .ensures .0, ← c .before .length-allowed .ensures, c .if2 .left))
+
+pub what-right-spec : {M : Type 1} → statement M
+what-right-spec =
+    tie.close
+    (tie.spec
+    format-number-requires
+    group-right-requires
+    returns
+    length-allowed-requires
+    returns-2
+    returns-3)

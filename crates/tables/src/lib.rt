@@ -1,0 +1,501 @@
+// The field definition table: whether a slice is one, and what the layers above ask of one.
+ghost use mathlib.Core.Path.{_≡_};
+ghost use mathlib.Core.Bool.{false};
+ghost use Prim.Native.Nat.{_<_, _≤_, _+_, _*_};
+ghost use lib.ListN.{length, getD, drop};
+ghost use lib.Dec.{eqb};
+ghost use Rattle.rules.specs.Outcome.{is-done};
+ghost use Rattle.rules.specs.Values.{allowed};
+ghost use Rattle.rules.specs.Characters.{letter, digit};
+ghost use Rattle.rules.specs.Table.{is-name, group, what-of, entries, levels, differ, names, table, fields-below};
+ghost use Rattle.rules.specs.Lists.{all};
+ghost use Rattle.rules.specs.Use.{plain};
+ghost use Rattle.tables.specs.Entries.{format-at, letter-number, row-of, right-of, bytes-at, read-entries, Right, follows, unused, headed, Valid, entries-of, decoded, blank};
+ghost use Rattle.tables.specs.Places.{Finds, Homes, inside-at};
+ghost use Rattle.tables.specs.Groups.{group-end, Expanded, Fields-of, plain-row, Spanned};
+
+// What stands in the place of a group's format.
+pub const GROUP: u8 = 5;
+
+// Characters in EBCDIC.
+const SPACE: u8 = 0x40;
+
+const LETTER_E: u8 = 0xc5;
+
+// A decoded entry. A format is its number: A 0, B 1, F 2, P 3, U 4; a group has GROUP.
+pub struct Entry {
+    pub name: u16,
+    pub level: u8,
+    pub format: u8,
+    pub size: u8,
+    pub multiple: bool,
+    pub periodic: bool,
+}
+
+// The least and the greatest length of each format, by its number.
+const LEAST: [u8; 5] = [0, 1, 2, 1, 1];
+
+const GREATEST: [u8; 5] = [253, 126, 4, 15, 29];
+
+// Whether a format allows a length: F has 2 and 4 alone.
+pub fn length_allowed(format: u8, size: u8) -> bool
+    requires { ⌜ format < 5 ⌝ }
+    ensures { λ r. ⌜ r ≡ allowed (format-at format) size ⌝ }
+{
+    let f = format as usize;
+    if size < LEAST[f] {
+        return false;
+    }
+    if GREATEST[f] < size {
+        return false;
+    }
+    if format == 2 {
+        return size != 3;
+    }
+    true
+}
+
+// A to I, J to R, S to Z.
+fn is_letter(b: u8) -> bool
+    ensures { λ r. ⌜ r ≡ letter b ⌝ }
+{
+    if b < 0xc1 {
+        return false;
+    }
+    if b <= 0xc9 {
+        return true;
+    }
+    if b < 0xd1 {
+        return false;
+    }
+    if b <= 0xd9 {
+        return true;
+    }
+    if b < 0xe2 {
+        return false;
+    }
+    b <= 0xe9
+}
+
+fn is_digit(b: u8) -> bool
+    ensures { λ r. ⌜ r ≡ digit b ⌝ }
+{
+    if b < 0xf0 {
+        return false;
+    }
+    b <= 0xf9
+}
+
+// A letter, then a letter or a digit, and none of E0 to E9.
+fn is_name(a: u8, b: u8) -> bool
+    ensures { λ r. ⌜ r ≡ is-name a b ⌝ }
+{
+    if is_letter(a) {
+        if is_digit(b) {
+            return a != LETTER_E;
+        }
+        return is_letter(b);
+    }
+    false
+}
+
+// The number of a format letter, being A, B, F, P or U; GROUP for any other.
+fn format_number(letter: u8) -> u8
+    ensures { λ r. ⌜ (r ≡ letter-number letter) × (r ≤ 5) ⌝ }
+{
+    match letter {
+        0xc1 => 0,
+        0xc2 => 1,
+        0xc6 => 2,
+        0xd7 => 3,
+        0xe4 => 4,
+        _ => GROUP,
+    }
+}
+
+// Whether a group's level, format letter, length and option go together.
+fn group_right(level: u8, letter: u8, size: u8, option: u8) -> bool
+    requires { ⌜ letter-number letter ≡ 5 ⌝ }
+    ensures { λ r. ⌜ r ≡ is-done (what-of level letter size option) ⌝ }
+{
+    if letter != SPACE {
+        return false;
+    }
+    if size != 0 {
+        return false;
+    }
+    if option == 2 {
+        return level == 1;
+    }
+    option == 0
+}
+
+// The same of any entry.
+fn what_right(level: u8, letter: u8, size: u8, option: u8) -> bool
+    ensures { λ r. ⌜ r ≡ is-done (what-of level letter size option) ⌝ }
+{
+    let format = format_number(letter);
+    if format == GROUP {
+        return group_right(level, letter, size, option);
+    }
+    if length_allowed(format, size) {
+        return option <= 1;
+    }
+    false
+}
+
+// Whether entry i is right by itself.
+fn entry_right(t: &[u8], i: usize) -> bool
+    requires { ⌜ i * 6 + 12 ≤ length (now t) ⌝ }
+    ensures { λ r. ⌜ r ≡ right-of (bytes-at (now (t .entry)) i) ⌝ }
+{
+    let p = i * 6 + 6;
+    if is_name(t[p], t[p + 1]) {
+        return what_right(t[p + 2], t[p + 3], t[p + 4], t[p + 5]);
+    }
+    false
+}
+
+// Whether each of the n entries is right by itself.
+fn entries_right(t: &[u8], n: usize) -> bool
+    requires { ⌜ n * 6 + 6 ≡ length (now t) ⌝ }
+    ensures { λ r. ⌜ r ≡ is-done (entries n (drop 6 (now (t .entry)))) ⌝ }
+{
+    let mut i = 0;
+    while i < n {
+        if entry_right(t, i) {
+            i += 1;
+        } else {
+            return false;
+        }
+    }
+    true
+}
+
+// A byte as a number.
+fn wide(b: u8) -> usize
+    ensures { λ r. ⌜ (r ≡ b) × (r < 256) ⌝ }
+{
+    b as usize
+}
+
+// The name of entry i, as one number.
+fn name_at(t: &[u8], i: usize) -> u16
+    requires { ⌜ i * 6 + 12 ≤ length (now t) ⌝ }
+    ensures { λ r. ⌜ r ≡ row-of (bytes-at (now (t .entry)) i) .name ⌝ }
+{
+    let p = i * 6 + 6;
+    (wide(t[p]) * 256 + wide(t[p + 1])) as u16
+}
+
+// The six bytes of entry i, decoded, whether or not they are right.
+fn row(t: &[u8], i: usize) -> Entry
+    requires { ⌜ i * 6 + 12 ≤ length (now t) ⌝ }
+    ensures { λ r. ⌜ r ≡ row-of (bytes-at (now (t .entry)) i) ⌝ }
+{
+    let p = i * 6 + 6;
+    Entry {
+        name: name_at(t, i),
+        level: t[p + 2],
+        format: format_number(t[p + 3]),
+        size: t[p + 4],
+        multiple: t[p + 5] == 1,
+        periodic: t[p + 5] == 2,
+    }
+}
+
+// Whether a decoded entry is a group.
+fn is_group(e: Entry) -> bool
+    ensures { λ r. ⌜ r ≡ eqb (e .format) 5 ⌝ }
+{
+    e.format == GROUP
+}
+
+// Whether a level may follow that of a group, or of a field.
+fn may_follow(group: bool, before: u8, level: u8) -> bool
+    ensures { λ r. ⌜ r ≡ follows group before level ⌝ }
+{
+    if level < 1 {
+        return false;
+    }
+    if group {
+        if level - 1 == before {
+            return level <= rules::DEEPEST_LEVEL;
+        }
+        return false;
+    }
+    level <= before
+}
+
+// Whether the levels of the n entries are right, and the last entry is a field.
+fn levels_right(t: &[u8], n: usize) -> bool
+    requires { ⌜ Right n (now t) ⌝ }
+    ensures { λ r. ⌜ r ≡ levels (group false) 0 (read-entries n (now (t .entry))) ⌝ }
+{
+    let mut after_group = true;
+    let mut before = 0;
+    let mut i = 0;
+    while i < n {
+        let e = row(t, i);
+        if may_follow(after_group, before, e.level) {
+            after_group = is_group(e);
+            before = e.level;
+            i += 1;
+        } else {
+            return false;
+        }
+    }
+    !after_group
+}
+
+// Whether no entry from the one given on has a name.
+fn name_unused(t: &[u8], n: usize, from: usize, name: u16) -> bool
+    requires { ⌜ Right n (now t) × (from ≤ n) ⌝ }
+    ensures { λ r. ⌜ r ≡ unused name (drop from (read-entries n (now (t .entry)))) ⌝ }
+{
+    let mut i = from;
+    while i < n {
+        if name_at(t, i) == name {
+            return false;
+        }
+        i += 1;
+    }
+    true
+}
+
+// Whether the names of the n entries differ.
+fn names_differ(t: &[u8], n: usize) -> bool
+    requires { ⌜ Right n (now t) ⌝ }
+    ensures { λ r. ⌜ r ≡ differ (names (read-entries n (now (t .entry)))) ⌝ }
+{
+    let mut i = 0;
+    while i < n {
+        if name_unused(t, n, i + 1, name_at(t, i)) {
+            i += 1;
+        } else {
+            return false;
+        }
+    }
+    true
+}
+
+// Whether the head, the number of entries and the length of the slice are a table's.
+fn head_right(t: &[u8]) -> bool
+    ensures { λ r. ⌜ r ≡ headed (now (t .entry)) ⌝ }
+{
+    if t.len() < 6 {
+        return false;
+    }
+    if buffer::stands_at(t, 0, b"\xe5\xc6\xe3\x00\x01") {
+        let n = wide(t[5]);
+        if n < 1 {
+            return false;
+        }
+        if rules::MOST_ENTRIES < n {
+            return false;
+        }
+        return t.len() == n * 6 + 6;
+    }
+    false
+}
+
+// Whether the slice is a field definition table.
+pub fn valid(t: &[u8]) -> bool
+    ensures { λ r. ⌜ r ≡ is-done (table (now (t .entry))) ⌝ }
+{
+    if head_right(t) {
+        let n = wide(t[5]);
+        if entries_right(t, n) {
+            if levels_right(t, n) {
+                return names_differ(t, n);
+            }
+        }
+    }
+    false
+}
+
+// How many entries the table has.
+pub fn count(t: &[u8]) -> usize
+    requires { ⌜ Valid (now t) ⌝ }
+    ensures { λ r. ⌜ r ≡ length (entries-of (now (t .entry))) ⌝ }
+{
+    wide(t[5])
+}
+
+// Entry i.
+pub fn entry_at(t: &[u8], i: usize) -> Entry
+    requires { ⌜ Valid (now t) × (i < length (entries-of (now t))) ⌝ }
+    ensures { λ r. ⌜ r ≡ decoded (getD (entries-of (now (t .entry))) i blank) ⌝ }
+{
+    row(t, i)
+}
+
+// The number of an entry, where there is one.
+pub enum Found {
+    At(usize),
+    Nothing,
+}
+
+// The entry that has a name.
+pub fn find(t: &[u8], name: u16) -> Found
+    requires { ⌜ Valid (now t) ⌝ }
+    ensures { λ r. ⌜ Finds name (entries-of (now (t .entry))) r ⌝ }
+{
+    let n = count(t);
+    let mut i = 0;
+    while i < n {
+        if name_at(t, i) == name {
+            return Found::At(i);
+        }
+        i += 1;
+    }
+    Found::Nothing
+}
+
+// The number behind the members of entry i.
+pub fn group_end(t: &[u8], i: usize) -> usize
+    requires { ⌜ Valid (now t) × (i < length (entries-of (now t))) ⌝ }
+    ensures { λ r. ⌜ r ≡ group-end (entries-of (now (t .entry))) i ⌝ }
+{
+    let n = count(t);
+    let e = entry_at(t, i);
+    let level = e.level;
+    let mut j = i + 1;
+    while j < n {
+        let m = entry_at(t, j);
+        if m.level <= level {
+            return j;
+        }
+        j += 1;
+    }
+    j
+}
+
+// The periodic group that entry i is or lies in: the last entry of level 1 up to it, where that one is periodic.
+pub fn periodic_group(t: &[u8], i: usize) -> Found
+    requires { ⌜ Valid (now t) × (i < length (entries-of (now t))) ⌝ }
+    ensures { λ r. ⌜ Homes (entries-of (now (t .entry))) i r ⌝ }
+{
+    let mut j = i;
+    loop {
+        let e = entry_at(t, j);
+        if e.level == 1 {
+            if e.periodic {
+                return Found::At(j);
+            }
+            return Found::Nothing;
+        }
+        j -= 1;
+    }
+}
+
+// Whether entry i is a periodic group or lies in one.
+pub fn inside(t: &[u8], i: usize) -> bool
+    requires { ⌜ Valid (now t) × (i < length (entries-of (now t))) ⌝ }
+    ensures { λ r. ⌜ r ≡ inside-at (entries-of (now (t .entry))) i ⌝ }
+{
+    let home = periodic_group(t, i);
+    match home {
+        Found::At(_) => true,
+        Found::Nothing => false,
+    }
+}
+
+// Where a walk over entries stands: the next entry, and how many fields were written.
+struct Walked {
+    next: usize,
+    count: usize,
+}
+
+// Writes the numbers of the fields among the entries from at on that are deeper than level, a group's members by a call of its own.
+fn expand_from(t: &[u8], at: usize, n: usize, level: u8, out: &mut [u8; 64], count: usize) -> Walked
+    requires { ⌜ Valid (now t) × (n ≡ length (entries-of (now t))) × (at ≤ n) × (count ≤ at) × (length (now out) ≡ 64) ⌝ }
+    ensures { λ r. ⌜ Expanded (entries-of (now (t .entry))) level at count (now (out .entry)) (now (out .exit)) r ⌝ }
+{
+    if at == n {
+        return Walked { next: n, count };
+    }
+    let e = entry_at(t, at);
+    let deep = e.level;
+    if deep <= level {
+        return Walked { next: at, count };
+    }
+    if is_group(e) {
+        let inner = expand_from(t, at + 1, n, deep, out, count);
+        let next = inner.next;
+        let sofar = inner.count;
+        return expand_from(t, next, n, level, out, sofar);
+    }
+    out[count] = at as u8;
+    expand_from(t, at + 1, n, level, out, count + 1)
+}
+
+// Writes the entry numbers of the fields of group i, in table order; how many there are.
+pub fn expand(t: &[u8], i: usize, out: &mut [u8; 64]) -> usize
+    requires { ⌜ Valid (now t) × (i < length (entries-of (now t))) × (length (now out) ≡ 64) ⌝ }
+    ensures { λ r. ⌜ Fields-of (entries-of (now (t .entry))) i (now (out .entry)) (now (out .exit)) r ⌝ }
+{
+    let e = entry_at(t, i);
+    let level = e.level;
+    let walked = expand_from(t, i + 1, count(t), level, out, 0);
+    walked.count
+}
+
+// Whether an entry can stand in a group that is named.
+fn is_plain(e: Entry) -> bool
+    ensures { λ r. ⌜ r ≡ plain-row e ⌝ }
+{
+    if e.format == GROUP {
+        return true;
+    }
+    if e.multiple {
+        return false;
+    }
+    1 <= e.size
+}
+
+// Whether group i can be named: it has neither an MU field nor one of variable length.
+pub fn plain_group(t: &[u8], i: usize) -> bool
+    requires { ⌜ Valid (now t) × (i < length (entries-of (now t))) ⌝ }
+    ensures { λ r. ⌜ r ≡ all plain (fields-below (getD (entries-of (now (t .entry))) i blank .level) (drop (i + 1) (entries-of (now (t .entry))))) ⌝ }
+{
+    let n = count(t);
+    let e = entry_at(t, i);
+    let level = e.level;
+    let mut j = i + 1;
+    while j < n {
+        let m = entry_at(t, j);
+        if m.level <= level {
+            return true;
+        }
+        if is_plain(m) {
+            j += 1;
+        } else {
+            return false;
+        }
+    }
+    true
+}
+
+// Whether the entries from i to j can be a series: no MU field, no periodic group, and j a field not before i.
+pub fn series(t: &[u8], i: usize, j: usize) -> bool
+    requires { ⌜ Valid (now t) × (i < length (entries-of (now t))) × (j < length (entries-of (now t))) ⌝ }
+    ensures { λ r. ⌜ Spanned (entries-of (now (t .entry))) i j r ⌝ }
+{
+    let n = count(t);
+    let mut k = i;
+    while k < n {
+        let e = entry_at(t, k);
+        if e.multiple {
+            return false;
+        }
+        if e.periodic {
+            return false;
+        }
+        if k == j {
+            return e.format != GROUP;
+        }
+        k += 1;
+    }
+    false
+}
