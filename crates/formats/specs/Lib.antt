@@ -1,0 +1,4 @@
+pub mod Part
+pub mod Elements
+pub mod Numbers
+pub mod Pieces
