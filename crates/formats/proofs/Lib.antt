@@ -1,3 +1,5 @@
 pub mod Tests
 pub mod Parts
 pub mod Digits
+pub mod Names
+pub mod Answers

@@ -71,3 +71,63 @@ bare-name n = record {
   lettered = false;
   letter = 0;
 }
+
+abbrev pub with-occurrences : Named → ℕ → ℕ → Named
+with-occurrences n from upto = record {
+  name = n .name;
+  indexed = true;
+  from = from;
+  upto = upto;
+  bracketed = n .bracketed;
+  first = n .first;
+  last = n .last;
+  sized = n .sized;
+  length = n .length;
+  lettered = n .lettered;
+  letter = n .letter;
+}
+
+abbrev pub with-values : Named → ℕ → ℕ → Named
+with-values n first last = record {
+  name = n .name;
+  indexed = n .indexed;
+  from = n .from;
+  upto = n .upto;
+  bracketed = true;
+  first = first;
+  last = last;
+  sized = n .sized;
+  length = n .length;
+  lettered = n .lettered;
+  letter = n .letter;
+}
+
+abbrev pub with-length : Named → ℕ → Named
+with-length n size = record {
+  name = n .name;
+  indexed = n .indexed;
+  from = n .from;
+  upto = n .upto;
+  bracketed = n .bracketed;
+  first = n .first;
+  last = n .last;
+  sized = true;
+  length = size;
+  lettered = n .lettered;
+  letter = n .letter;
+}
+
+abbrev pub with-format : Named → ℕ → Named
+with-format n letter = record {
+  name = n .name;
+  indexed = n .indexed;
+  from = n .from;
+  upto = n .upto;
+  bracketed = n .bracketed;
+  first = n .first;
+  last = n .last;
+  sized = n .sized;
+  length = n .length;
+  lettered = true;
+  letter = letter;
+}
