@@ -3,3 +3,4 @@ pub mod Parts
 pub mod Digits
 pub mod Names
 pub mod Answers
+pub mod Texts

@@ -45,7 +45,7 @@ closing-open r (b ∷ bs) e = rw e refl
 -- A parenthesis is a range and its end.
 range-then : (k c : ℕ) (cs : Bytes)
     → elim (eqb c hyphen) [ true ↦ number-first cs >>= (λ l. closing (range k (l .0)) (l .1)) | false ↦ closing (range k k) (c ∷ cs) ]
-      ≡ (range-end k (c ∷ cs) >>= λ l. closing (range k (l .0)) (l .1))
+    ≡ (range-end k (c ∷ cs) >>= λ l. closing (range k (l .0)) (l .1))
 unfolding range-end
 range-then k c cs = by-test (eqb c hyphen) (λ h. rw (h, range-end) refl) (λ h. rw (h, range-end) refl)
 

@@ -1,3 +1,8 @@
+-- `after_number` meets its contract: a length, blanks, or neither.
+use mathlib.Core.Path.{refl, sym, ap, _∙_}
+use native.Mathlib.Omega.{arith}
+use Rattle.formats.proofs.Texts.{number-large, number-length, number-zero, number-blanks, number-other}
+use Rattle.formats.proofs.Answers.{pieced-bad}
 use borrow.Author.Needs.{needs}
 use Rattle.formats.proofs.pieces.after_number.Statement.{statement}
 use Rattle.formats.proofs.pieces.after_number.Tie as tie
@@ -5,33 +10,37 @@ use Rattle.formats.proofs.pieces.after_number.Reads as reads
 use Rattle.formats.proofs.pieces.after_number.Lts as lts
 use Rattle.formats.proofs.numbers.alone.Reads as alone-reads
 
--- src/pieces.rt:144:9
 returns : tie.Need-returns
-returns c = ?
+returns c = pieced-bad (number-large (c .before .before .args .n) _ (c .if1 .taken))
 
--- src/pieces.rt:147:9
 returns-2 : tie.Need-returns-2
-returns-2 c = ?
+returns-2 c =
+    let a = c .before .before .before .args in
+    record { answer = number-length (a .n) (a .f .now) (a .at) (a .upto) (c .if2 .taken) (c .before .if1 .left); sound = c .before .if1 .left }
 
--- src/pieces.rt:150:9
 returns-3 : tie.Need-returns-3
-returns-3 c = ?
+returns-3 c =
+    let a = c .before .before .before .before .args in
+    pieced-bad (number-zero (a .n) (a .f .now) (a .at) (a .upto) (omega arith) (omega arith) (c .if3 .taken))
 
--- src/pieces.rt:152:8
 alone-requires : tie.Need-alone-requires
 alone-requires c κs = search needs
 
--- src/pieces.rt:153:40
 cast-t8 : tie.Need-cast-t8
 cast-t8 c = search needs
 
--- src/pieces.rt:139:1
 returns-4 : tie.Need-returns-4
-returns-4 c = ?
+returns-4 c =
+    let a = c .before .before .before .before .before .before .args in
+    record {
+      answer = number-blanks (a .n) (a .f .now) (a .at) (a .upto) (omega arith) (omega arith) (sym (c .before .alone .ensures) ∙ c .if4 .taken) (omega arith) (omega arith);
+      sound = (omega arith, tt);
+    }
 
--- src/pieces.rt:139:1
 returns-5 : tie.Need-returns-5
-returns-5 c = ?
+returns-5 c =
+    let a = c .before .before .before .before .before .before .args in
+    pieced-bad (number-other (a .n) (a .f .now) (a .at) (a .upto) (omega arith) (omega arith) (sym (c .before .alone .ensures) ∙ c .if4 .left))
 
 pub after-number-spec : {M : Type 1} → statement M
 after-number-spec =
