@@ -3,4 +3,5 @@ pub mod Parts
 pub mod Digits
 pub mod Names
 pub mod Answers
-pub mod Texts
+pub mod PieceLaws
+pub mod Scans

@@ -2,3 +2,4 @@ pub mod Part
 pub mod Elements
 pub mod Numbers
 pub mod Pieces
+pub mod Texts

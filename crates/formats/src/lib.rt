@@ -2,6 +2,8 @@
 pub mod characters;
 pub mod numbers;
 pub mod pieces;
+pub mod syntax;
+pub mod texts;
 
 ghost use mathlib.Core.Path.{_≡_};
 ghost use Rattle.formats.specs.Elements.{bare-name, with-occurrences, with-values, with-length, with-format};

@@ -1,7 +1,7 @@
 -- `after_number` meets its contract: a length, blanks, or neither.
 use mathlib.Core.Path.{refl, sym, ap, _∙_}
 use native.Mathlib.Omega.{arith}
-use Rattle.formats.proofs.Texts.{number-large, number-length, number-zero, number-blanks, number-other}
+use Rattle.formats.proofs.PieceLaws.{number-large, number-length, number-zero, number-blanks, number-other}
 use Rattle.formats.proofs.Answers.{pieced-bad}
 use borrow.Author.Needs.{needs}
 use Rattle.formats.proofs.pieces.after_number.Statement.{statement}

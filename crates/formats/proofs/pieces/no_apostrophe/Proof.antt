@@ -5,7 +5,7 @@ use native.Mathlib.Omega.{arith}
 use borrow.Author.Needs.{needs}
 use Rattle.formats.specs.Part.{part}
 use Rattle.formats.specs.Pieces.{no-apostrophe}
-use Rattle.formats.proofs.Texts.{none-left, none-turn, none-stop}
+use Rattle.formats.proofs.PieceLaws.{none-left, none-turn, none-stop}
 use Rattle.formats.proofs.pieces.no_apostrophe.Statement.{statement}
 use Rattle.formats.proofs.pieces.no_apostrophe.Tie as tie
 use Rattle.formats.proofs.pieces.no_apostrophe.Reads as reads

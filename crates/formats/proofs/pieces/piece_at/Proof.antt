@@ -1,7 +1,7 @@
 -- `piece_at` meets its contract: the first bytes choose the rule, and its function answers.
 use mathlib.Core.Path.{refl, sym, _∙_}
 use native.Mathlib.Omega.{arith}
-use Rattle.formats.proofs.Texts.{piece-nothing, piece-one, piece-text, piece-number, piece-name}
+use Rattle.formats.proofs.PieceLaws.{piece-nothing, piece-one, piece-text, piece-number, piece-name}
 use Rattle.formats.proofs.Answers.{pieced-bad, pieced-from}
 use borrow.Author.Needs.{needs}
 use Rattle.formats.proofs.pieces.piece_at.Statement.{statement}

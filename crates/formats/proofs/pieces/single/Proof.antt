@@ -2,7 +2,7 @@
 use mathlib.Core.Path.{refl, sym, _∙_}
 use native.Mathlib.Omega.{arith}
 use Rattle.formats.proofs.Digits.{digit-bounds}
-use Rattle.formats.proofs.Texts.{single-digit, single-format, single-bad}
+use Rattle.formats.proofs.PieceLaws.{single-digit, single-format, single-bad}
 use borrow.Author.Needs.{needs}
 use Rattle.formats.proofs.pieces.single.Statement.{statement}
 use Rattle.formats.proofs.pieces.single.Tie as tie

@@ -1,7 +1,7 @@
 -- `text_piece` meets its contract: the last byte, the length and the bytes between are tested as the rule says.
 use mathlib.Core.Path.{refl, sym, _∙_}
 use native.Mathlib.Omega.{arith}
-use Rattle.formats.proofs.Texts.{text-unclosed, text-empty, text-long, text-broken, text-is}
+use Rattle.formats.proofs.PieceLaws.{text-unclosed, text-empty, text-long, text-broken, text-is}
 use Rattle.formats.proofs.Answers.{pieced-bad}
 use borrow.Author.Needs.{needs}
 use Rattle.formats.proofs.pieces.text_piece.Statement.{statement}
