@@ -5,3 +5,5 @@ pub mod Names
 pub mod Answers
 pub mod PieceLaws
 pub mod Scans
+pub mod Threes
+pub mod Joins
