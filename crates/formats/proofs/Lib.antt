@@ -7,3 +7,5 @@ pub mod PieceLaws
 pub mod Scans
 pub mod Threes
 pub mod Joins
+pub mod Puts
+pub mod StepLaws

@@ -115,7 +115,7 @@ three-put (element e) p = three-bind (completed e p) _ (three-completed e p) (λ
 three-put (length-piece n) p = three-need (absent (p .size)) _ tt
 three-put (format-piece b) p = three-need (settled p) _ tt
 
-three-assembled : (ts : List Bytes) → Three (assembled ts)
+pub three-assembled : (ts : List Bytes) → Three (assembled ts)
 unfolding assembled
 three-assembled [] = tt
 three-assembled (t ∷ ts) =

@@ -3,3 +3,4 @@ pub mod Elements
 pub mod Numbers
 pub mod Pieces
 pub mod Texts
+pub mod Syntax

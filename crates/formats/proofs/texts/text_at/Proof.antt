@@ -39,7 +39,7 @@ returns-2 c =
     let t = trim-at (a .f .now) (a .at) (e .result) (s .result) (l .result) (l .ensures .answer) (s .ensures .answer) in
     record {
       answer =
-        pending-some (a .f .now) (a .at) (e .result) (e .ensures .0) (omega arith) (c .piece-at .result) (ap rules.piece t ∙ c .piece-at .ensures .answer);
+          pending-some (a .f .now) (a .at) (e .result) (e .ensures .0) (omega arith) (c .piece-at .result) (ap rules.piece t ∙ c .piece-at .ensures .answer);
       place = reached-any (a .f .now) (a .at) (e .result) (c .piece-at .result) (omega arith) (omega arith);
       sound = c .piece-at .ensures .sound;
     }
