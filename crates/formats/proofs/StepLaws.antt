@@ -15,7 +15,7 @@ use Rattle.rules.specs.Lists.{Bytes, absent}
 use Rattle.rules.specs.Format as rules
 use Rattle.rules.specs.Format.{texts, Pending, settled, completed, put-before, assembled}
 use Rattle.rules.proofs.Steps.{by-test}
-use Rattle.formats.specs.Elements.{optional, element-of, named-of}
+use Rattle.formats.specs.Elements.{optional, element-of, named-of, sound, with-length, with-format}
 use Rattle.formats.specs.Pieces.{piece-of}
 use Rattle.formats.specs.Texts.{pending, rest, none-pending, Looked}
 use Rattle.formats.specs.Syntax.{parsed, before, by-step, step-place, Stepped, then-settled, then-format, then-completed}
@@ -209,3 +209,24 @@ elements-long f h = rw (lt-leb _ _ h) refl
 pub is-done-before : (x : rules.Element) (o : Outcome (List rules.Element)) → is-done (before x o) ≡ is-done o
 is-done-before x (done es) = refl
 is-done-before x (refused n) = refl
+
+pub stepped-last : {f : Bytes} {at : ℕ} {o : Outcome (List rules.Element)} {y : rules.Element} {e : Element} → o ≡ done (y ∷ []) → y ≡ element-of f e
+    → sound f e → Stepped f at o (Last e)
+stepped-last h q s = record { answer = h ∙ ap (λ x. done (x ∷ [])) q; place = s }
+
+pub stepped-more : {f : Bytes} {at next : ℕ} {o : Outcome (List rules.Element)} {y : rules.Element} {e : Element} → o ≡ before y (parsed (drop next f))
+    → y ≡ element-of f e → at < next → next ≤ length f → sound f e → Stepped f at o (More e next)
+stepped-more {f} {at} {next} h q a b s = record { answer = h ∙ ap (λ x. before x (parsed (drop next f))) q; place = (a, b, s) }
+
+-- A name to which a length or a format was given.
+pub name-given-length : (f : Bytes) (n : Named) {m : Named} {size : ℕ} → m ≡ with-length n size → n .lettered ≡ false
+    → named-of n (some size) none ≡ element-of f (code.Named m)
+name-given-length f n {m} {size} e l = sym (ap (λ x. element-of f (code.Named x)) e ∙ name-at-length n (some size) l)
+
+pub name-given-format : (f : Bytes) (n : Named) {m : Named} {b : ℕ} → m ≡ with-format n b → n .sized ≡ false
+    → named-of n none (some b) ≡ element-of f (code.Named m)
+name-given-format f n {m} {b} e s = sym (ap (λ x. element-of f (code.Named x)) e ∙ name-at-format f n s (some b))
+
+pub name-given-both : (f : Bytes) (n : Named) {m o : Named} {size b : ℕ} → m ≡ with-length n size → o ≡ with-format m b
+    → named-of n (some size) (some b) ≡ element-of f (code.Named o)
+name-given-both f n {m} {o} {size} {b} e h = sym (ap (λ x. element-of f (code.Named x)) (h ∙ ap (λ x. with-format x b) e))

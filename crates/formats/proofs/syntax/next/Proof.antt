@@ -1,3 +1,6 @@
+-- `next` meets its contract: the piece at the place begins an element, or the syntax is bad.
+use native.Mathlib.Omega.{arith}
+use Rattle.formats.proofs.StepLaws.{looked-as, stepped-later, stepped-bad, first-element, first-length, first-format, first-bad}
 use borrow.Author.Needs.{needs}
 use Rattle.formats.proofs.syntax.next.Statement.{statement}
 use Rattle.formats.proofs.syntax.next.Tie as tie
@@ -6,45 +9,46 @@ use Rattle.formats.proofs.syntax.next.Lts as lts
 use Rattle.formats.proofs.syntax.completed.Reads as completed-reads
 use Rattle.formats.proofs.texts.text_at.Reads as text-at-reads
 
--- src/syntax.rt:92:9
 text-at-requires : tie.Need-text-at-requires
 text-at-requires c κs = search needs
 
--- src/syntax.rt:95:24
 enum-known-piece : tie.Need-enum-known-piece
 enum-known-piece c = search needs
 
--- src/syntax.rt:95:30
 completed-requires : tie.Need-completed-requires
-completed-requires c κs = ?
+completed-requires c κs =
+    let w = looked-as (c .before .before .before .text-at .ensures) (c .before .piece .given .1) in
+    (w .place .1, w .sound .0, w .sound .1)
 
--- src/syntax.rt:96:29
 enum-told : tie.Need-enum-told
 enum-told c = search needs
 
--- src/syntax.rt:97:29
 enum-told-2 : tie.Need-enum-told-2
 enum-told-2 c = search needs
 
--- src/syntax.rt:98:23
 enum-told-3 : tie.Need-enum-told-3
 enum-told-3 c = search needs
 
--- src/syntax.rt:88:1
 returns : tie.Need-returns
-returns c = ?
+returns c =
+    let a = c .before .before .before .before .before .before .args in
+    let w = looked-as (c .before .before .before .before .text-at .ensures) (c .before .before .piece .given .1) in
+    stepped-later (first-element (a .f .now) (a .at) _ _ w) (w .place .0) (c .completed .ensures)
 
--- src/syntax.rt:88:1
 returns-2 : tie.Need-returns-2
-returns-2 c = ?
+returns-2 c =
+    let a = c .before .before .before .before .args in
+    stepped-bad (first-length (a .f .now) (a .at) _ _ (looked-as (c .before .before .text-at .ensures) (c .enum-told .given .1)))
 
--- src/syntax.rt:88:1
 returns-3 : tie.Need-returns-3
-returns-3 c = ?
+returns-3 c =
+    let a = c .before .before .before .before .args in
+    stepped-bad (first-format (a .f .now) (a .at) _ _ (looked-as (c .before .before .text-at .ensures) (c .enum-told2 .given .1)))
 
--- src/syntax.rt:88:1
 returns-4 : tie.Need-returns-4
-returns-4 c = ?
+returns-4 c =
+    let a = c .before .before .before .before .args in
+    stepped-bad (first-bad (a .f .now) (a .at) _ (looked-as (c .before .before .text-at .ensures) (c .enum-told3 .given .1)))
 
 pub next-spec : {M : Type 1} → statement M
 next-spec =
