@@ -230,3 +230,17 @@ name-given-format f n {m} {b} e s = sym (ap (λ x. element-of f (code.Named x)) 
 pub name-given-both : (f : Bytes) (n : Named) {m o : Named} {size b : ℕ} → m ≡ with-length n size → o ≡ with-format m b
     → named-of n (some size) (some b) ≡ element-of f (code.Named o)
 name-given-both f n {m} {o} {size} {b} e h = sym (ap (λ x. element-of f (code.Named x)) (h ∙ ap (λ x. with-format x b) e))
+
+-- Whether the elements from a place on are good, once the step from there is known.
+module _ {f : Bytes} {at : ℕ} {r : Step} (w : Stepped f at (parsed (drop at f)) r) where
+  pub good-more : (e : Element) (next : ℕ) → r ≡ More e next → is-done (parsed (drop next f)) ≡ is-done (parsed (drop at f))
+  good-more e next q = sym (ap is-done (w .answer ∙ ap (by-step f) q) ∙ is-done-before (element-of f e) (parsed (drop next f)))
+
+  pub more-later : (e : Element) (next : ℕ) → r ≡ More e next → (at < next) × (next ≤ length f) × sound f e
+  more-later e next q = rw q at (w .place)
+
+  pub good-last : (e : Element) → r ≡ Last e → true ≡ is-done (parsed (drop at f))
+  good-last e q = sym (ap is-done (w .answer ∙ ap (by-step f) q))
+
+  pub good-bad : r ≡ Bad → false ≡ is-done (parsed (drop at f))
+  good-bad q = sym (ap is-done (w .answer ∙ ap (by-step f) q))
