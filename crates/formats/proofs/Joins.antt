@@ -1,0 +1,120 @@
+-- The first text of a format and what stands behind it: a walk from left to right puts the pieces together as the definition does.
+use mathlib.Core.Path.{_≡_, refl, sym, ap, _∙_}
+use mathlib.Core.Bool.{Bool, true, false}
+use mathlib.Core.List.{List, [], _∷_}
+use mathlib.Core.Option.{Option, none, some}
+use Prim.Native.Nat.{ℕ, suc, _+_, _-_, _≤_, _<_}
+use native.Mathlib.Numerals.{add-one}
+use native.Mathlib.Omega.{arith}
+use lib.Dec.{eqb}
+use lib.ListN.{length, take, drop, getD, drop-of-length-le}
+use lib.Seq.{drop-cons, drop-drop}
+use borrow.Author.Tests.{eq-eqb, ne-eqb}
+use Rattle.rules.specs.Outcome.{Outcome, done, refused, _>>=_, need}
+use Rattle.rules.specs.Characters.{period}
+use Rattle.rules.specs.Lists.{Bytes}
+use Rattle.rules.specs.Values.{strip}
+use Rattle.rules.specs.Format as rules
+use Rattle.rules.specs.Format.{turned, ends, onto, texts, skip-spaces, trim, Pending, assembled, put-before}
+use Rattle.rules.proofs.Steps.{by-test}
+use Rattle.formats.specs.Part.{part}
+use Rattle.formats.specs.Pieces.{piece-of}
+use Rattle.formats.specs.Texts.{extent, pending, rest, none-pending, reached}
+use Rattle.formats.specs.declared.pieces.Piece.{Piece}
+use Rattle.formats.specs.declared.pieces.Piece.the-variants as piece
+use Rattle.formats.proofs.Threes.{Three, three-texts, three-piece}
+
+-- A text, and the texts behind the comma or the period that ends it.
+unfoldable then : Bytes → Bytes → Outcome (List Bytes)
+then t [] = refused 3
+then t (b ∷ bs) = elim (eqb b period) [ true ↦ done (t ∷ []) | false ↦ texts false bs >>= (λ ts. done (t ∷ ts)) ]
+
+onto-then : (b : ℕ) (t s : Bytes) → (then t s >>= λ ts. done (onto b ts)) ≡ then (b ∷ t) s
+unfolding then onto
+onto-then b t [] = refl
+onto-then b t (c ∷ s) = by-test (eqb c period) (λ e. rw (e, then) refl) (λ e. rw (e, then) (over (texts false s)))
+  where
+    over : (m : Outcome (List Bytes)) → ((m >>= λ ts. done (t ∷ ts)) >>= λ ts. done (onto b ts)) ≡ (m >>= λ ts. done ((b ∷ t) ∷ ts))
+    over (done ts) = refl
+    over (refused n) = refl
+
+texts-first : (q : Bool) (s : Bytes) → texts q s ≡ then (take (extent q s) s) (drop (extent q s) s)
+unfolding texts extent then
+texts-first q [] = refl
+texts-first q (b ∷ s) =
+    by-test (ends q b)
+    (λ e. rw (e, texts, extent) refl)
+    (λ e. rw (e, texts, extent)
+    (ap (λ m. m >>= λ ts. done (onto b ts)) (texts-first (turned q b) s)
+    ∙ onto-then b (take (extent (turned q b) s) s) (drop (extent (turned q b) s) s)))
+
+then-period : (t : Bytes) (b : ℕ) (bs : Bytes) → eqb b period ≡ true → then t (b ∷ bs) ≡ done (t ∷ [])
+unfolding then
+then-period t b bs e = rw (e, then) refl
+
+then-comma : (t : Bytes) (b : ℕ) (bs : Bytes) → eqb b period ≡ false → then t (b ∷ bs) ≡ (texts false bs >>= λ ts. done (t ∷ ts))
+unfolding then
+then-comma t b bs e = rw (e, then) refl
+
+-- The piece of a text, put before what stands behind it.
+abbrev behind : Bytes → Outcome Pending → Outcome Pending
+behind t o = rules.piece (trim t) >>= λ q. o >>= put-before q
+
+last-joins : (t : Bytes) → assembled (t ∷ []) ≡ behind t (done none-pending)
+unfolding assembled
+last-joins t = refl
+
+-- Both ways of a refusal are the same, for it is 3.
+comma-joins : (t : Bytes) (m : Outcome (List Bytes)) → Three m → ((m >>= λ ts. done (t ∷ ts)) >>= assembled) ≡ behind t (m >>= assembled)
+unfolding assembled
+comma-joins t (done ts) w = refl
+comma-joins t (refused n) w = both (rules.piece (trim t)) (three-piece (trim t))
+  where
+    both : (o : Outcome rules.Piece) → Three o → _≡_ {A = Outcome Pending} (refused n) (o >>= λ q. refused n)
+    both (done q) v = refl
+    both (refused k) v = rw (w, v) refl
+
+pub rest-period : (f : Bytes) (end : ℕ) → eqb (getD f end 0) period ≡ true → rest f end ≡ done none-pending
+unfolding rest
+rest-period f end e = rw (e, rest) refl
+
+pub rest-comma : (f : Bytes) (end : ℕ) → eqb (getD f end 0) period ≡ false → rest f end ≡ pending (drop (end + 1) f)
+unfolding rest
+rest-comma f end e = rw (e, rest) refl
+
+rest-texts : (f : Bytes) (end : ℕ) → eqb (getD f end 0) period ≡ false → rest f end ≡ (texts false (drop (suc end) f) >>= assembled)
+unfolding pending
+rest-texts f end e = rest-comma f end e ∙ rw add-one refl
+
+-- The same by places of the slice.
+module _ (f : Bytes) (at end : ℕ) (e : end ≡ at + extent false (drop at f)) where
+  texts-at : texts false (drop at f) ≡ then (part f at end) (drop end f)
+  unfolding part
+  texts-at =
+      let x : end - at ≡ extent false (drop at f) = omega arith in
+      let d : drop (extent false (drop at f)) (drop at f) ≡ drop end f = drop-drop (extent false (drop at f)) at f ∙ rw e refl in
+      texts-first false (drop at f) ∙ rw (x, d) refl
+
+  pub pending-none : length f ≤ end → pending (drop at f) ≡ refused 3
+  unfolding pending then
+  pending-none h = rw (texts-at, drop-of-length-le f h) refl
+
+  module _ (h : end < length f) (r : Piece) (p : rules.piece (trim (part f at end)) ≡ piece-of f r) where
+    pub pending-some : pending (drop at f) ≡ (piece-of f r >>= λ q. rest f end >>= put-before q)
+    unfolding pending
+    pending-some =
+        rw (texts-at, drop-cons f end 0 h, ← p) (by-test (eqb (getD f end 0) period)
+        (λ d. rw (then-period (part f at end) (getD f end 0) (drop (suc end) f) d) (last-joins (part f at end) ∙ ap (behind (part f at end)) (sym (rest-period f end d))))
+        (λ d. rw (then-comma (part f at end) (getD f end 0) (drop (suc end) f) d)
+        (comma-joins (part f at end) (texts false (drop (suc end) f)) (three-texts false (drop (suc end) f)) ∙ ap (behind (part f at end)) (sym (rest-texts f end d)))))
+
+pub trim-at : (f : Bytes) (at end first last : ℕ) → part f at last ≡ strip (part f at end) → part f first last ≡ skip-spaces (part f at last)
+    → trim (part f at end) ≡ part f first last
+unfolding trim
+trim-at f at end first last e h = rw (← e) (sym h)
+
+pub reached-any : (f : Bytes) (at end : ℕ) (r : Piece) → at ≤ end → end < length f → reached f at end r
+reached-any f at end (piece.Element e) h k = (h, k)
+reached-any f at end (piece.Length n) h k = (h, k)
+reached-any f at end (piece.Format b) h k = (h, k)
+reached-any f at end piece.Bad h k = tt

@@ -1,0 +1,11 @@
+pub mod Tests
+pub mod Parts
+pub mod Digits
+pub mod Names
+pub mod Answers
+pub mod PieceLaws
+pub mod Scans
+pub mod Threes
+pub mod Joins
+pub mod Puts
+pub mod StepLaws

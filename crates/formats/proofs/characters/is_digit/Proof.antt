@@ -1,0 +1,18 @@
+-- `is_digit` meets its contract: a digit is a byte between two bounds.
+use Rattle.rules.specs.Characters.{digit}
+use borrow.Author.Needs.{needs}
+use Rattle.formats.proofs.characters.is_digit.Statement.{statement}
+use Rattle.formats.proofs.characters.is_digit.Tie as tie
+use Rattle.formats.proofs.characters.is_digit.Reads as reads
+use Rattle.formats.proofs.characters.is_digit.Lts as lts
+use Rattle.formats.proofs.characters.between.Reads as between-reads
+
+between-requires : tie.Need-between-requires
+between-requires c κs = search needs
+
+returns : tie.Need-returns
+unfolding digit
+returns c = c .between .ensures
+
+pub is-digit-spec : {M : Type 1} → statement M
+is-digit-spec = tie.close (tie.spec between-requires returns)

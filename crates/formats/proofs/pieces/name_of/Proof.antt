@@ -1,0 +1,21 @@
+-- `name_of` meets its contract: it computes as the definition does.
+use mathlib.Core.Path.{refl}
+use Rattle.rules.specs.Table.{name-of}
+use borrow.Author.Needs.{needs}
+use Rattle.formats.proofs.pieces.name_of.Statement.{statement}
+use Rattle.formats.proofs.pieces.name_of.Tie as tie
+use Rattle.formats.proofs.pieces.name_of.Reads as reads
+use Rattle.formats.proofs.pieces.name_of.Lts as lts
+
+mul-result : tie.Need-mul-result
+mul-result c = search needs
+
+add-result : tie.Need-add-result
+add-result c = search needs
+
+returns : tie.Need-returns
+unfolding name-of
+returns c = refl
+
+pub name-of-spec : {M : Type 1} → statement M
+name-of-spec = tie.close (tie.spec mul-result add-result returns)

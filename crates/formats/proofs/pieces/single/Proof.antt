@@ -1,0 +1,40 @@
+-- `single` meets its contract: a digit, a letter of a format, or neither.
+use mathlib.Core.Path.{refl, sym, _∙_}
+use native.Mathlib.Omega.{arith}
+use Rattle.formats.proofs.Digits.{digit-bounds}
+use Rattle.formats.proofs.PieceLaws.{single-digit, single-format, single-bad}
+use borrow.Author.Needs.{needs}
+use Rattle.formats.proofs.pieces.single.Statement.{statement}
+use Rattle.formats.proofs.pieces.single.Tie as tie
+use Rattle.formats.proofs.pieces.single.Reads as reads
+use Rattle.formats.proofs.pieces.single.Lts as lts
+use Rattle.formats.proofs.characters.is_digit.Reads as is-digit-reads
+use Rattle.formats.proofs.characters.is_override.Reads as is-override-reads
+
+is-digit-requires : tie.Need-is-digit-requires
+is-digit-requires c κs = search needs
+
+sub-t3 : tie.Need-sub-t3
+sub-t3 c = omega (arith, digit-bounds (c .before .before .args .b) (sym (c .before .is-digit .ensures) ∙ c .if1 .taken))
+
+cast-t4 : tie.Need-cast-t4
+cast-t4 c = search needs
+
+returns : tie.Need-returns
+returns c =
+    let d = sym (c .before .is-digit .ensures) ∙ c .if1 .taken in
+    λ f. record { answer = single-digit (c .before .before .args .b) d; sound = omega (arith, digit-bounds (c .before .before .args .b) d) }
+
+is-override-requires : tie.Need-is-override-requires
+is-override-requires c κs = search needs
+
+returns-2 : tie.Need-returns-2
+returns-2 c = λ f. record { answer = single-format (c .before .before .before .before .args .b) (sym (c .before .before .before .is-digit .ensures) ∙ c .before .before .if1 .left) (sym (c .before .is-override .ensures) ∙ c .if2 .taken); sound = tt }
+
+returns-3 : tie.Need-returns-3
+returns-3 c = λ f. record { answer = single-bad (c .before .before .before .before .args .b) (sym (c .before .before .before .is-digit .ensures) ∙ c .before .before .if1 .left) (sym (c .before .is-override .ensures) ∙ c .if2 .left); sound = tt }
+
+pub single-spec : {M : Type 1} → statement M
+single-spec =
+    tie.close
+    (tie.spec is-digit-requires sub-t3 cast-t4 returns is-override-requires returns-2 returns-3)

@@ -1,0 +1,73 @@
+-- `syntax` meets its contract: the elements from each place on are good just where the whole format is.
+use mathlib.Core.Path.{_≡_, refl, sym, ap, _∙_}
+use Prim.Native.Nat.{_≤_, _-_}
+use native.Mathlib.Omega.{arith}
+use borrow.Author.Needs.{needs}
+use lib.ListN.{length, drop}
+use Rattle.rules.specs.Outcome.{is-done}
+use Rattle.rules.specs.Format.{elements}
+use Rattle.formats.specs.Syntax.{parsed}
+use Rattle.formats.proofs.StepLaws.{elements-parsed, elements-long, good-more, more-later, good-last, good-bad}
+use Rattle.formats.proofs.syntax.syntax.Statement.{statement}
+use Rattle.formats.proofs.syntax.syntax.Tie as tie
+use Rattle.formats.proofs.syntax.syntax.Reads as reads
+use Rattle.formats.proofs.syntax.syntax.Lts as lts
+use Rattle.formats.proofs.syntax.next.Reads as next-reads
+
+abbrev Inv-loop : tie.InvT-loop
+Inv-loop f at₀ at = (at ≤ length f) × (is-done (parsed (drop at f)) ≡ is-done (elements f))
+
+abbrev μ-loop : tie.MeasureT-loop
+μ-loop f at₀ at = length f - at
+
+returns : tie.Need-returns Inv-loop μ-loop
+returns c = sym (ap is-done (elements-long (c .before .before .args .f .now) (c .if1 .taken)))
+
+loop-holds : tie.Need-loop-holds Inv-loop μ-loop
+loop-holds c = (omega arith, sym (ap is-done (elements-parsed (c .before .before .args .f .now) (c .if1 .left))))
+
+next-requires : tie.Need-next-requires Inv-loop μ-loop
+next-requires c κs = search needs
+
+enum-known-place : tie.Need-enum-known-place Inv-loop μ-loop
+enum-known-place c = search needs
+
+loop-less : tie.Need-loop-less Inv-loop μ-loop
+loop-less c =
+    let m = more-later (c .before .before .before .next .ensures) _ _ (c .before .place .given .1) in
+    omega (arith, m)
+
+loop-again : tie.Need-loop-again Inv-loop μ-loop
+loop-again c =
+    let n = c .before .before .before .next .ensures in
+    let q = c .before .place .given .1 in
+    (more-later n _ _ q .1, good-more n _ _ q ∙ c .before .before .before .before .loop .inv .1)
+
+enum-told : tie.Need-enum-told Inv-loop μ-loop
+enum-told c = search needs
+
+returns-2 : tie.Need-returns-2 Inv-loop μ-loop
+returns-2 c = good-last (c .before .before .next .ensures) _ (c .enum-told .given .1) ∙ c .before .before .before .loop .inv .1
+
+enum-told-2 : tie.Need-enum-told-2 Inv-loop μ-loop
+enum-told-2 c = search needs
+
+returns-3 : tie.Need-returns-3 Inv-loop μ-loop
+returns-3 c = good-bad (c .before .before .next .ensures) (c .enum-told2 .given .1) ∙ c .before .before .before .loop .inv .1
+
+pub syntax-spec : {M : Type 1} → statement M
+syntax-spec =
+    tie.close
+    (tie.spec
+    Inv-loop
+    μ-loop
+    returns
+    loop-holds
+    next-requires
+    enum-known-place
+    loop-less
+    loop-again
+    enum-told
+    returns-2
+    enum-told-2
+    returns-3)

@@ -1,0 +1,57 @@
+-- The elements of a format, one at a time.
+use mathlib.Core.Path.{_≡_}
+use mathlib.Core.Bool.{Bool, true, false}
+use mathlib.Core.List.{List, [], _∷_}
+use mathlib.Core.Option.{Option, none, some}
+use Prim.Native.Nat.{ℕ, _≤_, _<_}
+use lib.ListN.{length, drop}
+use Rattle.rules.specs.Outcome.{Outcome, done, refused, _>>=_, need}
+use Rattle.rules.specs.Lists.{Bytes, absent}
+use Rattle.rules.specs.Format as rules
+use Rattle.rules.specs.Format.{texts, Pending, settled, completed, assembled}
+use Rattle.formats.specs.Elements.{element-of, named-of, sound}
+use Rattle.formats.specs.Texts.{rest}
+use Rattle.formats.specs.declared.Named.{Named}
+use Rattle.formats.specs.declared.Element.{Element}
+use Rattle.formats.specs.declared.syntax.Step.{Step}
+use Rattle.formats.specs.declared.syntax.Step.the-variants.{More, Last, Bad}
+
+-- The elements of some bytes, up to a period: `elements` of `rules` without the limit on all the bytes.
+unfoldable pub parsed : Bytes → Outcome (List rules.Element)
+parsed bs = do
+  ts ← texts false bs
+  p ← assembled ts
+  _ ← need (settled p) 3
+  done (p .elements)
+
+-- An element before others.
+abbrev pub before : rules.Element → Outcome (List rules.Element) → Outcome (List rules.Element)
+before e o = o >>= λ es. done (e ∷ es)
+
+-- The elements from a place on, by a step of the code: an element and those behind it, or the last.
+abbrev pub by-step : Bytes → Step → Outcome (List rules.Element)
+by-step f (More e next) = before (element-of f e) (parsed (drop next f))
+by-step f (Last e) = done (element-of f e ∷ [])
+by-step f Bad = refused 3
+
+abbrev pub step-place : Bytes → ℕ → Step → Type 0
+step-place f at (More e next) = (at < next) × (next ≤ length f) × sound f e
+step-place f at (Last e) = sound f e
+step-place f at Bad = Unit {0}
+
+-- The elements are as o says, and a next step is at a later place.
+pub record Stepped (f : Bytes) (at : ℕ) (o : Outcome (List rules.Element)) (r : Step) : Type 0 where
+  pub answer : o ≡ by-step f r
+  pub place : step-place f at r
+
+-- An element behind which neither a length nor a format may stand, and the elements behind the comma or period at a place.
+unfoldable pub then-settled : Bytes → ℕ → rules.Element → Outcome (List rules.Element)
+then-settled f end e = rest f end >>= λ p. need (settled p) 3 >>= λ _. done (e ∷ p .elements)
+
+-- A name at a length, behind which a format may stand.
+unfoldable pub then-format : Bytes → ℕ → Named → ℕ → Outcome (List rules.Element)
+then-format f end n size = rest f end >>= λ p. need (absent (p .size)) 3 >>= λ _. done (named-of n (some size) (p .format) ∷ p .elements)
+
+-- An element, behind which stands what may.
+unfoldable pub then-completed : Bytes → ℕ → rules.Element → Outcome (List rules.Element)
+then-completed f end e = rest f end >>= λ p. completed e p >>= λ x. done (x ∷ p .elements)

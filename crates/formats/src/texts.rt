@@ -1,0 +1,105 @@
+// The texts of a format, parted by commas and ended by a period, and the piece that each is without the spaces around it.
+use super::characters::APOSTROPHE;
+use super::characters::COMMA;
+use super::characters::PERIOD;
+use super::characters::SPACE;
+use super::pieces::Piece;
+use super::pieces::piece_at;
+ghost use mathlib.Core.Path.{_≡_};
+ghost use mathlib.Core.Bool.{false};
+ghost use Prim.Native.Nat.{_+_, _≤_};
+ghost use lib.ListN.{length, drop};
+ghost use Rattle.rules.specs.Values.{strip};
+ghost use Rattle.rules.specs.Format.{turned, ends, skip-spaces};
+ghost use Rattle.formats.specs.Part.{part};
+ghost use Rattle.formats.specs.Texts.{extent, Narrowed, Looked};
+
+// The piece of the text from a place on, and where its comma or period stands.
+pub struct Ahead {
+    pub piece: Piece,
+    pub end: usize,
+}
+
+fn turn(inside: bool, b: u8) -> bool
+    ensures { λ r. ⌜ r ≡ turned inside b ⌝ }
+{
+    if b == APOSTROPHE { !inside } else { inside }
+}
+
+fn is_end(inside: bool, b: u8) -> bool
+    ensures { λ r. ⌜ r ≡ ends inside b ⌝ }
+{
+    if inside {
+        return false;
+    }
+    if b == COMMA {
+        return true;
+    }
+    b == PERIOD
+}
+
+// Where the text from `at` on ends: at a comma or a period outside apostrophes, or at the end of the slice.
+fn text_end(f: &[u8], at: usize) -> usize
+    requires { ⌜ at ≤ length (now f) ⌝ }
+    ensures { λ r. ⌜ (r ≡ at + extent false (drop at (now (f .entry)))) × (r ≤ length (now (f .entry))) ⌝ }
+{
+    let mut inside = false;
+    let mut i = at;
+    while i < f.len() {
+        let b = f[i];
+        if is_end(inside, b) {
+            return i;
+        }
+        inside = turn(inside, b);
+        i += 1;
+    }
+    i
+}
+
+// The place behind the last byte that is no space.
+fn last_place(f: &[u8], at: usize, upto: usize) -> usize
+    requires { ⌜ (at ≤ upto) × (upto ≤ length (now f)) ⌝ }
+    ensures { λ r. ⌜ Narrowed at upto r (strip (part (now (f .entry)) at upto)) (part (now (f .entry)) at r) ⌝ }
+{
+    let mut i = upto;
+    while at < i {
+        let before = i - 1;
+        if f[before] != SPACE {
+            return i;
+        }
+        i = before;
+    }
+    i
+}
+
+// The place of the first byte that is no space.
+fn first_place(f: &[u8], at: usize, upto: usize) -> usize
+    requires { ⌜ (at ≤ upto) × (upto ≤ length (now f)) ⌝ }
+    ensures { λ r. ⌜ Narrowed at upto r (skip-spaces (part (now (f .entry)) at upto)) (part (now (f .entry)) r upto) ⌝ }
+{
+    let mut i = at;
+    while i < upto {
+        if f[i] != SPACE {
+            return i;
+        }
+        i += 1;
+    }
+    i
+}
+
+pub fn text_at(f: &[u8], at: usize) -> Ahead
+    requires { ⌜ at ≤ length (now f) ⌝ }
+    ensures { λ r. ⌜ Looked (now (f .entry)) at r ⌝ }
+{
+    let end = text_end(f, at);
+    if end == f.len() {
+        return Ahead {
+            piece: Piece::Bad,
+            end,
+        };
+    }
+    let last = last_place(f, at, end);
+    let first = first_place(f, at, last);
+    let piece = piece_at(f, first, last);
+    Ahead { piece, end }
+}
