@@ -23,7 +23,7 @@ use Rattle.tables.specs.declared.Entry.{Entry as Row}
 
 -- ---- formats by number
 
-number-back : (f : Format) → format-at (number-of f) ≡ f
+pub number-back : (f : Format) → format-at (number-of f) ≡ f
 unfolding format-at
 number-back alpha = refl
 number-back binary = refl
@@ -31,7 +31,7 @@ number-back fixed = refl
 number-back packed = refl
 number-back unpacked = refl
 
-number-small : (f : Format) → number-of f < 5
+pub number-small : (f : Format) → number-of f < 5
 number-small alpha = omega arith
 number-small binary = omega arith
 number-small fixed = omega arith
