@@ -127,16 +127,6 @@ six (a ∷ b ∷ l ∷ f ∷ []) h = absurd (omega arith)
 six (a ∷ b ∷ l ∷ f ∷ s ∷ []) h = absurd (omega arith)
 six (a ∷ b ∷ l ∷ f ∷ s ∷ o ∷ bs) h = refl
 
-long : (n : ℕ) (bs : Bytes) (es : List Entry) → entries (suc n) bs ≡ done es → 6 ≤ length bs
-unfolding entries
-long n [] es p = absurd (not-done p)
-long n (a ∷ []) es p = absurd (not-done p)
-long n (a ∷ b ∷ []) es p = absurd (not-done p)
-long n (a ∷ b ∷ l ∷ []) es p = absurd (not-done p)
-long n (a ∷ b ∷ l ∷ f ∷ []) es p = absurd (not-done p)
-long n (a ∷ b ∷ l ∷ f ∷ s ∷ []) es p = absurd (not-done p)
-long n (a ∷ b ∷ l ∷ f ∷ s ∷ o ∷ bs) es p = omega arith
-
 -- what an entry's level, length and option say of a field, and of a group
 abbrev pub Sound : ℕ → What → Type 0
 Sound l (field g n m) = allowed g n ≡ true
