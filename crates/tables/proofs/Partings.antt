@@ -9,7 +9,7 @@ use borrow.Author.Tests.{lt-ltb, le-ltb}
 use lib.ListN.{length, getD, drop, drop-of-length-le, length-drop}
 use lib.Seq.{drop-cons, drop-drop, getD-drop}
 use Rattle.rules.specs.Values.{Format}
-use Rattle.rules.specs.Table.{What, field, group, Entry, alone, is-inside, inside-of, fields-below, part-of, parts-from}
+use Rattle.rules.specs.Table.{What, field, group, Entry, alone, inside-of, fields-below, part-of, parts-from}
 use Rattle.buffer.proofs.Cases.{by-order}
 use Rattle.tables.specs.Entries.{blank}
 use Rattle.tables.specs.Places.{inside-before, inside-at}
@@ -20,11 +20,6 @@ use Rattle.tables.proofs.Nesting.{end-start, run-nil, run-deeper, run-e
 parts-nil : (b : Bool) → parts-from b [] ≡ []
 unfolding parts-from
 parts-nil b = refl
-
-parts-cons : (b : Bool) (e : Entry) (es : List Entry)
-    → parts-from b (e ∷ es) ≡ part-of (is-inside b e) (e .name) (e .what) es (parts-from (is-inside b e) es)
-unfolding parts-from
-parts-cons b e es = refl
 
 -- ---- the first entry, by what it is
 module _ (n l : ℕ) (es : List Entry) where

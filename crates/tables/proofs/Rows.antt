@@ -23,7 +23,7 @@ use Rattle.tables.specs.declared.Entry.{Entry as Row}
 
 -- ---- formats by number
 
-number-back : (f : Format) → format-at (number-of f) ≡ f
+pub number-back : (f : Format) → format-at (number-of f) ≡ f
 unfolding format-at
 number-back alpha = refl
 number-back binary = refl
@@ -31,7 +31,7 @@ number-back fixed = refl
 number-back packed = refl
 number-back unpacked = refl
 
-number-small : (f : Format) → number-of f < 5
+pub number-small : (f : Format) → number-of f < 5
 number-small alpha = omega arith
 number-small binary = omega arith
 number-small fixed = omega arith
@@ -126,16 +126,6 @@ six (a ∷ b ∷ l ∷ []) h = absurd (omega arith)
 six (a ∷ b ∷ l ∷ f ∷ []) h = absurd (omega arith)
 six (a ∷ b ∷ l ∷ f ∷ s ∷ []) h = absurd (omega arith)
 six (a ∷ b ∷ l ∷ f ∷ s ∷ o ∷ bs) h = refl
-
-long : (n : ℕ) (bs : Bytes) (es : List Entry) → entries (suc n) bs ≡ done es → 6 ≤ length bs
-unfolding entries
-long n [] es p = absurd (not-done p)
-long n (a ∷ []) es p = absurd (not-done p)
-long n (a ∷ b ∷ []) es p = absurd (not-done p)
-long n (a ∷ b ∷ l ∷ []) es p = absurd (not-done p)
-long n (a ∷ b ∷ l ∷ f ∷ []) es p = absurd (not-done p)
-long n (a ∷ b ∷ l ∷ f ∷ s ∷ []) es p = absurd (not-done p)
-long n (a ∷ b ∷ l ∷ f ∷ s ∷ o ∷ bs) es p = omega arith
 
 -- what an entry's level, length and option say of a field, and of a group
 abbrev pub Sound : ℕ → What → Type 0

@@ -1,17 +1,17 @@
 -- What a walk over the entries below a group leaves, at each of its ends. Assumes nothing.
-use mathlib.Core.Path.{_≡_, refl, sym, _∙_}
+use mathlib.Core.Path.{_≡_, refl, sym, ap, _∙_}
 use mathlib.Core.Bool.{true, false}
-use mathlib.Core.List.{List, [], _∷_}
+use mathlib.Core.List.{List, [], _∷_, map}
 use Prim.Native.Nat.{ℕ, _+_, _≤_, _<_}
 use native.Mathlib.Nat.{le-of-lt}
 use native.Mathlib.Omega.{arith}
-use lib.ListN.{length, getD, drop, set, length-set, length-append, length-drop}
+use lib.ListN.{length, getD, take, drop, set, length-set, length-append, length-drop}
 use Rattle.rules.specs.Table.{Entry}
-use Rattle.buffer.proofs.Laws.{splice-nil, splice-then, set-splice}
+use Rattle.buffer.proofs.Laws.{splice-nil, splice-then, set-splice, take-splice}
 use Rattle.tables.specs.Entries.{blank, is-group}
-use Rattle.tables.specs.Groups.{run-below, numbers-below, Expanded}
+use Rattle.tables.specs.Groups.{run-below, numbers-below, field-at, Expanded, Fields-of}
 use Rattle.tables.specs.declared.Walked.{Walked}
-use Rattle.tables.proofs.Nesting.{run-short, run-more, run-stop, run-none, numbers-short, numbers-stop, numbers-none, numbers-field, numbers-group, run-then, numbers-then}
+use Rattle.tables.proofs.Nesting.{run-short, run-more, run-stop, run-none, numbers-short, numbers-stop, numbers-none, numbers-field, numbers-group, run-then, numbers-then, numbers-fields}
 
 module _ (es : List Entry) (level at count : ℕ) (before : List ℕ) where
   empty : (r : Walked) → run-below level (drop at es) ≡ 0 → numbers-below level at (drop at es) ≡ [] → r .next ≡ at → r .count ≡ count
@@ -65,3 +65,18 @@ module _ (es : List Entry) (level at count : ℕ) (before : List ℕ) where
             ∙ rw (x .written) (splice-then count (numbers-below deep (at + 1) (drop (at + 1) es)) _ before (i .count) (x .counted) (omega (arith, q, b, length-drop (at + 1) es))));
         same = y .same ∙ x .same;
       }
+
+-- the walk from the entry behind group i, as its expansion
+pub expanded : (es : List Entry) (i : ℕ) (before after : List ℕ) (r : Walked) → Expanded es (getD es i blank .level) (i + 1) 0 before after r
+    → Fields-of es i before after (r .count)
+expanded es i before after r x =
+    let ns = numbers-below (getD es i blank .level) (i + 1) (drop (i + 1) es) in
+    let n : r .count ≡ length ns = omega (arith, x .counted) in
+    record {
+      counted = n;
+      written = x .written;
+      same = x .same;
+      fields =
+          ap (λ (l : List ℕ). map (field-at es) l) (ap (take (r .count)) (x .written) ∙ take-splice ns before (r .count) n)
+          ∙ numbers-fields es (getD es i blank .level) (i + 1);
+    }

@@ -1,12 +1,12 @@
 -- A group's members and fields by their entry numbers, and the fields of a series.
 use mathlib.Core.Path.{_≡_}
 use mathlib.Core.Bool.{Bool, true, false, cond, not, _&&_, _||_}
-use mathlib.Core.List.{List, [], _∷_}
+use mathlib.Core.List.{List, [], _∷_, map}
 use Prim.Native.Nat.{ℕ, suc, _+_, _-_, _≤_}
 use lib.Dec.{eqb, leb, ltb}
 use lib.ListN.{length, getD, take, drop}
 use Rattle.rules.specs.Values.{alpha}
-use Rattle.rules.specs.Table.{What, field, group, Field, Entry}
+use Rattle.rules.specs.Table.{What, field, group, Field, Entry, fields-below}
 use Rattle.rules.specs.Outcome.{done, is-done}
 use Rattle.rules.specs.Use.{fields-to}
 use Rattle.buffer.specs.Splice.{splice}
@@ -58,11 +58,13 @@ pub record Expanded (es : List Entry) (level at count : ℕ) (before after : Lis
   pub written : after ≡ splice count (numbers-below level at (drop at es)) before
   pub same : length after ≡ length before
 
--- What the expansion of group i leaves: the numbers of its fields at the front, with every other byte as it was.
+-- What the expansion of group i leaves: the numbers of its fields at the front, with every other byte as it was. Taken as entries,
+-- those numbers are the group's fields.
 pub record Fields-of (es : List Entry) (i : ℕ) (before after : List ℕ) (r : ℕ) : Type 0 where
   pub counted : r ≡ length (numbers-below (getD es i blank .level) (i + 1) (drop (i + 1) es))
   pub written : after ≡ splice 0 (numbers-below (getD es i blank .level) (i + 1) (drop (i + 1) es)) before
   pub same : length after ≡ length before
+  pub fields : map (field-at es) (take r after) ≡ fields-below (getD es i blank .level) (drop (i + 1) es)
 
 -- Whether an entry can stand in a group that is named: a group, or a field neither MU nor of variable length.
 unfoldable pub plain-row : Row → Bool

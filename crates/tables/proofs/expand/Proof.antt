@@ -3,6 +3,7 @@ use mathlib.Core.Path.{ap}
 use native.Mathlib.Omega.{arith}
 use Rattle.tables.specs.declared.Entry.{Entry}
 use Rattle.tables.proofs.Tables.{valid-most}
+use Rattle.tables.proofs.Walks.{expanded}
 use borrow.Author.Needs.{needs}
 use Rattle.tables.proofs.expand.Statement.{statement}
 use Rattle.tables.proofs.expand.Tie as tie
@@ -20,10 +21,7 @@ expand-from-requires : tie.Need-expand-from-requires
 expand-from-requires c κs = search needs
 
 returns : tie.Need-returns
-returns c =
-    let q = ap (λ (r : Entry). r .level) (c .before .before .before .entry-at .ensures) in
-    let x = rw q at (c .expand-from .ensures) in
-    record { counted = omega (arith, x .counted); written = x .written; same = x .same }
+returns c = expanded _ _ _ _ _ (rw (ap (λ (r : Entry). r .level) (c .before .before .before .entry-at .ensures)) at (c .expand-from .ensures))
 
 pub expand-spec : {M : Type 1} → statement M
 expand-spec =

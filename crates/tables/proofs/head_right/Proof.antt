@@ -1,5 +1,7 @@
 -- `tables::head_right` meets its contract: the tests that led to each return settle the definition's. Assumes nothing.
+use native.Mathlib.Omega.{arith}
 use borrow.Author.Tests.{le-leb, lt-leb}
+use Rattle.rules.specs.Limits.{most-entries}
 use Rattle.rules.specs.Table.{table-head}
 use Rattle.tables.specs.Entries.{headed}
 use borrow.Author.Needs.{needs}
@@ -32,7 +34,8 @@ returns-3 : tie.Need-returns-3
 unfolding headed table-head
 returns-3 c =
     let b = c .before .before .before .before in
-    rw (le-leb _ _ (b .before .before .before .if1 .left), ← b .before .stands-at .ensures, b .if2 .taken, ← c .before .before .wide .ensures .0, le-leb _ _ (c .before .if3 .left), lt-leb _ _ (c .if4 .taken))
+    let n = c .before .before .wide in
+    rw (le-leb _ _ (b .before .before .before .if1 .left), ← b .before .stands-at .ensures, b .if2 .taken, ← n .ensures .0, le-leb 1 (n .result) (omega arith), lt-leb (n .result) most-entries (omega arith))
 
 mul-result : tie.Need-mul-result
 mul-result c = search needs
@@ -44,7 +47,8 @@ returns-4 : tie.Need-returns-4
 unfolding headed table-head
 returns-4 c =
     let b = c .before .before .before .before in
-    rw (le-leb _ _ (b .before .before .before .if1 .left), ← b .before .stands-at .ensures, b .if2 .taken, ← c .before .before .wide .ensures .0, le-leb _ _ (c .before .if3 .left), le-leb _ _ (c .if4 .left))
+    let n = c .before .before .wide in
+    rw (le-leb _ _ (b .before .before .before .if1 .left), ← b .before .stands-at .ensures, b .if2 .taken, ← n .ensures .0, le-leb 1 (n .result) (omega arith), le-leb (n .result) most-entries (omega arith))
 
 returns-5 : tie.Need-returns-5
 unfolding headed table-head
