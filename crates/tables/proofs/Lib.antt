@@ -1,6 +1,5 @@
 pub mod Bools
 pub mod Rows
-pub mod Lengths
 pub mod Levels
 pub mod Tables
 pub mod Names

@@ -11,6 +11,7 @@ use Rattle.rules.specs.Limits.{most-entries, deepest-level}
 use Rattle.rules.specs.Lists.{Bytes, same, all}
 use Rattle.rules.specs.Values.{Format, alpha, binary, fixed, packed, unpacked}
 use Rattle.rules.specs.Table.{What, field, group, Entry, format-of, is-name, name-of, what-of, entries, names, table-head, table}
+unfoldable pub use Rattle.kinds.specs.Formats.{format-at}
 use Rattle.tables.specs.declared.Entry.{Entry as Row}
 
 -- The entries of an outcome: none where it was refused.
@@ -32,10 +33,6 @@ read-entries n t = listed (entries n (drop 6 t))
 -- What stands past the last entry.
 unfoldable pub blank : Entry
 blank = record { name = 0; level = 0; what = group false }
-
--- A format by its number in the code: A 0, B 1, F 2, P 3, U 4.
-unfoldable pub format-at : ℕ → Format
-format-at n = getD (alpha ∷ binary ∷ fixed ∷ packed ∷ unpacked ∷ []) n alpha
 
 abbrev pub number-of : Format → ℕ
 number-of alpha = 0

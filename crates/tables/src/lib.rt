@@ -5,12 +5,11 @@ ghost use Prim.Native.Nat.{_<_, _≤_, _+_, _*_};
 ghost use lib.ListN.{length, getD, drop};
 ghost use lib.Dec.{eqb};
 ghost use Rattle.rules.specs.Outcome.{is-done};
-ghost use Rattle.rules.specs.Values.{allowed};
 ghost use Rattle.rules.specs.Characters.{letter, digit};
 ghost use Rattle.rules.specs.Table.{is-name, group, what-of, entries, levels, differ, names, table, fields-below};
 ghost use Rattle.rules.specs.Lists.{all};
 ghost use Rattle.rules.specs.Use.{plain};
-ghost use Rattle.tables.specs.Entries.{format-at, letter-number, row-of, right-of, bytes-at, read-entries, Right, follows, unused, headed, Valid, entries-of, decoded, blank};
+ghost use Rattle.tables.specs.Entries.{letter-number, row-of, right-of, bytes-at, read-entries, Right, follows, unused, headed, Valid, entries-of, decoded, blank};
 ghost use Rattle.tables.specs.Places.{Finds, Homes, inside-at};
 ghost use Rattle.tables.specs.Groups.{group-end, Expanded, Fields-of, plain-row, Spanned};
 
@@ -30,29 +29,6 @@ pub struct Entry {
     pub size: u8,
     pub multiple: bool,
     pub periodic: bool,
-}
-
-// The least and the greatest length of each format, by its number.
-const LEAST: [u8; 5] = [0, 1, 2, 1, 1];
-
-const GREATEST: [u8; 5] = [253, 126, 4, 15, 29];
-
-// Whether a format allows a length: F has 2 and 4 alone.
-pub fn length_allowed(format: u8, size: u8) -> bool
-    requires { ⌜ format < 5 ⌝ }
-    ensures { λ r. ⌜ r ≡ allowed (format-at format) size ⌝ }
-{
-    let f = format as usize;
-    if size < LEAST[f] {
-        return false;
-    }
-    if GREATEST[f] < size {
-        return false;
-    }
-    if format == 2 {
-        return size != 3;
-    }
-    true
 }
 
 // A to I, J to R, S to Z.
@@ -138,7 +114,7 @@ fn what_right(level: u8, letter: u8, size: u8, option: u8) -> bool
     if format == GROUP {
         return group_right(level, letter, size, option);
     }
-    if length_allowed(format, size) {
+    if kinds::allowed(format as usize, size as usize) {
         return option <= 1;
     }
     false

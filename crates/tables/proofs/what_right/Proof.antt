@@ -1,6 +1,5 @@
 -- `tables::what_right` meets its contract: a group by `group_right`, a field by its length and its option. Assumes nothing.
 use mathlib.Core.Path.{sym, _∙_}
-use native.Mathlib.Omega.{arith}
 use Rattle.tables.proofs.Rows.{letter-format, what-field}
 use borrow.Author.Needs.{needs}
 use Rattle.tables.proofs.what_right.Statement.{statement}
@@ -10,27 +9,30 @@ format-number-requires : tie.Need-format-number-requires
 format-number-requires c κs = search needs
 
 group-right-requires : tie.Need-group-right-requires
-group-right-requires c κs = sym (c .before .format-number .ensures .0) ∙ c .if1 .taken
+group-right-requires c κs = search needs
 
 returns : tie.Need-returns
 returns c = search needs
 
-length-allowed-requires : tie.Need-length-allowed-requires
-length-allowed-requires c κs = omega arith
+cast-allowed : tie.Need-cast-allowed
+cast-allowed c = search needs
+
+allowed-requires : tie.Need-allowed-requires
+allowed-requires c κs = search needs
 
 returns-2 : tie.Need-returns-2
 returns-2 c =
     let n = c .before .before .before .format-number in
     sym
     (what-field _ _ _ _ _ (letter-format _ (λ e. c .before .before .if1 .left (n .ensures .0 ∙ e)))
-    ∙ rw (← n .ensures .0, ← c .before .length-allowed .ensures, c .if2 .taken))
+    ∙ rw (← n .ensures .0, ← c .before .allowed .ensures, c .if2 .taken))
 
 returns-3 : tie.Need-returns-3
 returns-3 c =
     let n = c .before .before .before .format-number in
     sym
     (what-field _ _ _ _ _ (letter-format _ (λ e. c .before .before .if1 .left (n .ensures .0 ∙ e)))
-    ∙ rw (← n .ensures .0, ← c .before .length-allowed .ensures, c .if2 .left))
+    ∙ rw (← n .ensures .0, ← c .before .allowed .ensures, c .if2 .left))
 
 pub what-right-spec : {M : Type 1} → statement M
 what-right-spec =
@@ -39,6 +41,7 @@ what-right-spec =
     format-number-requires
     group-right-requires
     returns
-    length-allowed-requires
+    cast-allowed
+    allowed-requires
     returns-2
     returns-3)
