@@ -30,6 +30,11 @@ pub three-pick : {B : Type 0} (t : Bool) (x y : Outcome B) → Three x → Three
 three-pick true x y k l = k
 three-pick false x y k l = l
 
+three-list : {B : Type 0} (bs : Bytes) (x : Outcome B) (g : ℕ → Bytes → Outcome B) → Three x → ((b : ℕ) (cs : Bytes) → Three (g b cs))
+    → Three {A = B} (elim bs [ [] ↦ x | b ∷ cs ↦ g b cs ])
+three-list [] x g k l = k
+three-list (b ∷ cs) x g k l = l b cs
+
 three-number : (bs : Bytes) → Three (number-first bs)
 unfolding number-first
 three-number bs =
@@ -42,18 +47,10 @@ three-closing r (b ∷ bs) = three-need (eqb b close-parenthesis && nothing bs) 
 
 three-parenthesis : (bs : Bytes) → Three (parenthesis bs)
 unfolding parenthesis
-three-parenthesis bs = three-bind (number-first bs) _ (three-number bs) (λ k. behind (k .0) (k .1))
-  where
-    behind : (k : ℕ) (bs : Bytes) → Three {A = Range} (elim bs [
-      | [] ↦ refused 3
-      | b ∷ cs ↦ elim (eqb b hyphen) [
-        | true ↦ number-first cs >>= (λ l. closing (record { from = k; upto = l .0 }) (l .1))
-        | false ↦ closing (record { from = k; upto = k }) (b ∷ cs)
-      ]
-    ])
-    behind k [] = refl
-    behind k (b ∷ cs) =
-        three-pick (eqb b hyphen) _ _ (three-bind (number-first cs) _ (three-number cs) (λ l. three-closing _ (l .1))) (three-closing _ (b ∷ cs))
+three-parenthesis bs =
+    three-bind (number-first bs) _ (three-number bs)
+    (λ k. three-list (k .1) _ _ refl
+    (λ b cs. three-pick (eqb b hyphen) _ _ (three-bind (number-first cs) _ (three-number cs) (λ l. three-closing _ (l .1))) (three-closing _ (b ∷ cs))))
 
 three-range : (n : ℕ) (r : Range) (bs : Bytes) → Three (after-range n r bs)
 unfolding after-range
