@@ -1,8 +1,8 @@
 -- The rules of a number, of a text and of a piece, step by step as the code takes them.
-use mathlib.Core.Path.{_≡_, refl, sym, ap, _∙_}
+use mathlib.Core.Path.{_≡_, refl, ap, _∙_}
 use mathlib.Core.Bool.{Bool, true, false, not, _&&_}
-use mathlib.Core.List.{List, [], _∷_, _++_}
-use Prim.Native.Nat.{ℕ, zero, suc, _+_, _-_, _≤_, _<_}
+use mathlib.Core.List.{[], _∷_, _++_}
+use Prim.Native.Nat.{ℕ, _+_, _-_, _≤_, _<_}
 use native.Mathlib.Omega.{arith}
 use lib.Dec.{eqb, leb}
 use lib.ListN.{length, getD}
@@ -10,9 +10,9 @@ use borrow.Author.Tests.{le-leb, lt-leb, ne-eqb, eq-eqb}
 use Rattle.rules.specs.Outcome.{Outcome, done, refused, _>>=_, need}
 use Rattle.rules.specs.Limits.{greatest-length, longest-blanks, longest-text}
 use Rattle.rules.specs.Characters.{digit, digit-0, apostrophe, letter-X}
-use Rattle.rules.specs.Lists.{Bytes, nothing, all, last, but-last}
+use Rattle.rules.specs.Lists.{Bytes, all, last, but-last}
 use Rattle.rules.specs.Table.{is-name, name-of}
-use Rattle.rules.specs.Format.{Piece, element, length-piece, format-piece, blanks, quoted, number-first, after-number, after-name, text-piece, piece, is-override}
+use Rattle.rules.specs.Format.{Piece, element, length-piece, format-piece, blanks, quoted, after-number, after-name, text-piece, piece, is-override}
 use Rattle.formats.specs.Part.{part}
 use Rattle.formats.specs.Numbers.{alone}
 use Rattle.formats.specs.Pieces.{no-apostrophe, as-piece, number-piece}

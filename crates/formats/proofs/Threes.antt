@@ -2,7 +2,6 @@
 use mathlib.Core.Path.{_≡_, refl}
 use mathlib.Core.Bool.{Bool, true, false, not, _&&_}
 use mathlib.Core.List.{List, [], _∷_}
-use mathlib.Core.Option.{Option, none, some}
 use Prim.Native.Nat.{ℕ}
 use lib.Dec.{eqb, leb}
 use lib.ListN.{length}
@@ -12,7 +11,6 @@ use Rattle.rules.specs.Characters.{digit, period, hyphen, apostrophe, open-pare
 use Rattle.rules.specs.Lists.{Bytes, nothing, absent, all, last, but-last}
 use Rattle.rules.specs.Table.{is-name, name-of}
 use Rattle.rules.specs.Format.{Range, Element, named, blanks, quoted, count, series, Piece, element, length-piece, format-piece, Pending, turned, ends, texts, trim, leading-digits, number-first, closing, parenthesis, after-range, after-index, series-to, after-name, is-override, after-number, text-piece, piece, settled, completed, put-before, assembled}
-use Rattle.rules.proofs.Steps.{by-test}
 
 abbrev pub Three : {A : Type 0} → Outcome A → Type 0
 Three (done a) = Unit {0}

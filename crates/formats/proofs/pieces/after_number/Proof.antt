@@ -6,9 +6,6 @@ use Rattle.formats.proofs.Answers.{pieced-bad}
 use borrow.Author.Needs.{needs}
 use Rattle.formats.proofs.pieces.after_number.Statement.{statement}
 use Rattle.formats.proofs.pieces.after_number.Tie as tie
-use Rattle.formats.proofs.pieces.after_number.Reads as reads
-use Rattle.formats.proofs.pieces.after_number.Lts as lts
-use Rattle.formats.proofs.numbers.alone.Reads as alone-reads
 
 returns : tie.Need-returns
 returns c =

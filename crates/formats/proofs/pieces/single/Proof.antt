@@ -7,11 +7,6 @@ use Rattle.formats.proofs.PieceLaws.{single-digit, single-format, singl
 use borrow.Author.Needs.{needs}
 use Rattle.formats.proofs.pieces.single.Statement.{statement}
 use Rattle.formats.proofs.pieces.single.Tie as tie
-use Rattle.formats.proofs.pieces.single.Reads as reads
-use Rattle.formats.proofs.pieces.single.Lts as lts
-use Rattle.formats.proofs.characters.is_digit.Reads as is-digit-reads
-use Rattle.formats.proofs.characters.is_override.Reads as is-override-reads
-use Rattle.formats.proofs.numbers.digit_of.Reads as digit-of-reads
 
 is-digit-requires : tie.Need-is-digit-requires
 is-digit-requires c κs = search needs
