@@ -1,14 +1,13 @@
 -- The records of what the code answers: how a piece is made, and what is known once an answer is.
-use mathlib.Core.Path.{_≡_, refl, sym, ap, _∙_}
-use mathlib.Core.Bool.{Bool, true, false}
+use mathlib.Core.Path.{_≡_, refl, ap, _∙_}
 use Prim.Native.Nat.{ℕ, _≤_, _<_}
 use native.Mathlib.Omega.{arith}
-use Rattle.rules.specs.Outcome.{Outcome, done, refused, _>>=_}
+use Rattle.rules.specs.Outcome.{Outcome, done, refused}
 use Rattle.rules.specs.Limits.{greatest-length}
 use Rattle.rules.specs.Lists.{Bytes}
 use Rattle.rules.specs.Format as rules
 use Rattle.formats.specs.Elements.{element-of, sound, range, number-bound, Small, bare-name, with-occurrences, with-values, with-length, with-format}
-use Rattle.formats.specs.Pieces.{Bracketed, bracket-of, Pieced, piece-of, as-piece, unfinished}
+use Rattle.formats.specs.Pieces.{Bracketed, bracket-of, Pieced, as-piece, unfinished}
 use Rattle.formats.specs.declared.Named.{Named}
 use Rattle.formats.specs.declared.Element.{Element}
 use Rattle.formats.specs.declared.pieces.Bracket.{Bracket}

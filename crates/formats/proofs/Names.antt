@@ -1,19 +1,19 @@
 -- The rules of a name and what stands behind it, step by step as the code takes them.
-use mathlib.Core.Path.{_≡_, refl, sym, ap, _∙_}
-use mathlib.Core.Bool.{Bool, true, false, not, _&&_}
-use mathlib.Core.List.{List, [], _∷_}
-use mathlib.Core.Option.{Option, none, some}
-use Prim.Native.Nat.{ℕ, zero, suc, _+_, _-_, _≤_, _<_}
+use mathlib.Core.Path.{_≡_, refl, ap, _∙_}
+use mathlib.Core.Bool.{true, false}
+use mathlib.Core.List.{[], _∷_}
+use mathlib.Core.Option.{none, some}
+use Prim.Native.Nat.{ℕ, _+_, _-_, _≤_, _<_}
 use native.Mathlib.Omega.{arith}
-use lib.Dec.{eqb, leb}
+use lib.Dec.{eqb}
 use lib.ListN.{length, getD}
-use borrow.Author.Tests.{le-leb, lt-leb, ne-eqb, eq-eqb}
+use borrow.Author.Tests.{ne-eqb}
 use Rattle.buffer.proofs.Cases.{by-order}
 use Rattle.rules.specs.Outcome.{Outcome, done, refused, _>>=_, need}
-use Rattle.rules.specs.Characters.{digit, digit-0, hyphen, open-parenthesis, close-parenthesis, letter-C}
+use Rattle.rules.specs.Characters.{hyphen, open-parenthesis, close-parenthesis, letter-C}
 use Rattle.rules.specs.Lists.{Bytes, nothing}
 use Rattle.rules.specs.Table.{is-name, name-of}
-use Rattle.rules.specs.Format.{Range, Element, named, count, series, number-first, closing, parenthesis, after-range, after-index, series-to, after-name}
+use Rattle.rules.specs.Format.{Range, named, count, series, number-first, closing, parenthesis, after-range, after-index, series-to, after-name}
 use Rattle.rules.proofs.Steps.{by-test}
 use Rattle.formats.specs.Part.{part}
 use Rattle.formats.specs.Elements.{range, number-bound}

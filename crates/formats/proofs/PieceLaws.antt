@@ -1,8 +1,8 @@
 -- The rules of a number, of a text and of a piece, step by step as the code takes them.
-use mathlib.Core.Path.{_≡_, refl, sym, ap, _∙_}
+use mathlib.Core.Path.{_≡_, refl, ap, _∙_}
 use mathlib.Core.Bool.{Bool, true, false, not, _&&_}
-use mathlib.Core.List.{List, [], _∷_, _++_}
-use Prim.Native.Nat.{ℕ, zero, suc, _+_, _-_, _≤_, _<_}
+use mathlib.Core.List.{[], _∷_, _++_}
+use Prim.Native.Nat.{ℕ, _+_, _-_, _≤_, _<_}
 use native.Mathlib.Omega.{arith}
 use lib.Dec.{eqb, leb}
 use lib.ListN.{length, getD}
@@ -10,9 +10,9 @@ use borrow.Author.Tests.{le-leb, lt-leb, ne-eqb, eq-eqb}
 use Rattle.rules.specs.Outcome.{Outcome, done, refused, _>>=_, need}
 use Rattle.rules.specs.Limits.{greatest-length, longest-blanks, longest-text}
 use Rattle.rules.specs.Characters.{digit, digit-0, apostrophe, letter-X}
-use Rattle.rules.specs.Lists.{Bytes, nothing, all, last, but-last}
+use Rattle.rules.specs.Lists.{Bytes, all, last, but-last}
 use Rattle.rules.specs.Table.{is-name, name-of}
-use Rattle.rules.specs.Format.{Piece, element, length-piece, format-piece, blanks, quoted, number-first, after-number, after-name, text-piece, piece, is-override}
+use Rattle.rules.specs.Format.{Piece, element, length-piece, format-piece, blanks, quoted, after-number, after-name, text-piece, piece, is-override}
 use Rattle.formats.specs.Part.{part}
 use Rattle.formats.specs.Numbers.{alone}
 use Rattle.formats.specs.Pieces.{no-apostrophe, as-piece, number-piece}
@@ -20,32 +20,33 @@ use Rattle.formats.proofs.Parts.{part-nil, part-cons, part-snoc, length
 use Rattle.formats.proofs.Tests.{and-false-right}
 
 -- Behind a number.
-module _ (n : ℕ) where
-  pub number-large : (bs : Bytes) → greatest-length < n → after-number n bs ≡ refused 3
+module _ (n : ℕ) (f : Bytes) (at upto : ℕ) where
+  pub number-length : at ≡ upto → n ≤ greatest-length → after-number n (part f at upto) ≡ done (length-piece n)
   unfolding after-number
-  number-large [] h = rw (lt-leb _ _ h) refl
-  number-large (b ∷ bs) h = rw (lt-leb _ _ h) (simp and-false-right)
+  number-length e h = rw (part-nil f at upto (omega arith), le-leb _ _ h) refl
 
-  module _ (f : Bytes) (at upto : ℕ) where
-    pub number-length : at ≡ upto → n ≤ greatest-length → after-number n (part f at upto) ≡ done (length-piece n)
-    unfolding after-number
-    number-length e h = rw (part-nil f at upto (omega arith), le-leb _ _ h) refl
+  pub number-large : at ≡ upto → greatest-length < n → after-number n (part f at upto) ≡ refused 3
+  unfolding after-number
+  number-large e h = rw (part-nil f at upto (omega arith), lt-leb _ _ h) refl
 
-    module _ (h : at < upto) (k : upto ≤ length f) where
-      number-behind : after-number n (part f at upto)
-          ≡ (need (alone letter-X (part f at upto) && leb 1 n && leb n longest-blanks) 3 >>= λ _. done (element (blanks n)))
-      unfolding after-number alone
-      number-behind = rw (part-cons f at upto h k) refl
+  module _ (h : at < upto) (k : upto ≤ length f) where
+    number-behind : after-number n (part f at upto)
+        ≡ (need (alone letter-X (part f at upto) && leb 1 n && leb n longest-blanks) 3 >>= λ _. done (element (blanks n)))
+    unfolding after-number alone
+    number-behind = rw (part-cons f at upto h k) refl
 
-      pub number-zero : n ≡ 0 → after-number n (part f at upto) ≡ refused 3
-      number-zero e = number-behind ∙ rw e (simp and-false-right)
+    pub number-zero : n ≡ 0 → after-number n (part f at upto) ≡ refused 3
+    number-zero e = number-behind ∙ rw e (simp and-false-right)
 
-      pub number-blanks : alone letter-X (part f at upto) ≡ true → 1 ≤ n → n ≤ longest-blanks
-          → after-number n (part f at upto) ≡ done (element (blanks n))
-      number-blanks t lo hi = number-behind ∙ rw (t, le-leb _ _ lo, le-leb _ _ hi) refl
+    pub number-long : longest-blanks < n → after-number n (part f at upto) ≡ refused 3
+    number-long e = number-behind ∙ rw (lt-leb _ _ e) (simp and-false-right)
 
-      pub number-other : alone letter-X (part f at upto) ≡ false → after-number n (part f at upto) ≡ refused 3
-      number-other t = number-behind ∙ rw t refl
+    pub number-blanks : alone letter-X (part f at upto) ≡ true → 1 ≤ n → n ≤ longest-blanks
+        → after-number n (part f at upto) ≡ done (element (blanks n))
+    number-blanks t lo hi = number-behind ∙ rw (t, le-leb _ _ lo, le-leb _ _ hi) refl
+
+    pub number-other : alone letter-X (part f at upto) ≡ false → after-number n (part f at upto) ≡ refused 3
+    number-other t = number-behind ∙ rw t refl
 
 -- A test of every byte, one at a time.
 no-apostrophe-cons : (b : ℕ) (bs : Bytes) → no-apostrophe (b ∷ bs) ≡ (not (eqb b apostrophe) && no-apostrophe bs)

@@ -1,13 +1,12 @@
 -- A piece put before what stands behind it, and then the elements taken: what comes of it for each kind of piece.
-use mathlib.Core.Path.{_≡_, refl, sym, ap, _∙_}
-use mathlib.Core.Bool.{Bool, true, false, _&&_}
-use mathlib.Core.List.{List, [], _∷_}
+use mathlib.Core.Path.{_≡_, refl, ap, _∙_}
+use mathlib.Core.Bool.{Bool, true, false}
+use mathlib.Core.List.{List, _∷_}
 use mathlib.Core.Option.{Option, none, some}
 use Prim.Native.Nat.{ℕ}
 use Rattle.rules.specs.Outcome.{Outcome, done, refused, _>>=_, need}
 use Rattle.rules.specs.Lists.{Bytes, absent}
-use Rattle.rules.specs.Format.{Element, named, blanks, quoted, count, series, Piece, element, length-piece, format-piece, Range, Pending, texts, settled, completed, put-before, assembled}
-use Rattle.rules.proofs.Steps.{by-test}
+use Rattle.rules.specs.Format.{Element, element, length-piece, format-piece, Pending, texts, settled, completed, put-before, assembled}
 use Rattle.formats.specs.Syntax.{parsed, before}
 use Rattle.formats.specs.Texts.{pending}
 use Rattle.formats.proofs.Threes.{Three}

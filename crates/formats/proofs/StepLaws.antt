@@ -5,7 +5,7 @@ use mathlib.Core.List.{List, [], _∷_}
 use mathlib.Core.Option.{Option, none, some}
 use Prim.Native.Nat.{ℕ, _+_, _≤_, _<_}
 use native.Mathlib.Omega.{arith}
-use lib.Dec.{eqb}
+use lib.Dec.{eqb, leb}
 use lib.ListN.{length, drop, getD}
 use borrow.Author.Tests.{eq-eqb, ne-eqb, le-leb, lt-leb}
 use Rattle.rules.specs.Outcome.{Outcome, done, refused, _>>=_, need, is-done}
@@ -13,8 +13,7 @@ use Rattle.rules.specs.Limits.{longest-format}
 use Rattle.rules.specs.Characters.{period}
 use Rattle.rules.specs.Lists.{Bytes, absent}
 use Rattle.rules.specs.Format as rules
-use Rattle.rules.specs.Format.{texts, Pending, settled, completed, put-before, assembled}
-use Rattle.rules.proofs.Steps.{by-test}
+use Rattle.rules.specs.Format.{texts, Pending, settled, completed, put-before}
 use Rattle.formats.specs.Elements.{optional, element-of, named-of, sound, with-length, with-format}
 use Rattle.formats.specs.Pieces.{piece-of}
 use Rattle.formats.specs.Texts.{pending, rest, none-pending, Looked}
@@ -197,14 +196,16 @@ module _ (f : Bytes) (at end : ℕ) where
   pub first-bad : Looked f at (record { piece = piece.Bad; end = end }) → parsed (drop at f) ≡ refused 3
   first-bad w = parsed-pending (drop at f) ∙ ap (λ m. m >>= settle) (w .answer)
 
--- The whole format.
-pub elements-parsed : (f : Bytes) → length f ≤ longest-format → rules.elements f ≡ parsed f
+-- The whole format: a limit on all its bytes, and then its elements.
+pub elements-limited : (f : Bytes) → rules.elements f ≡ (need (leb (length f) longest-format) 3 >>= λ _. parsed f)
 unfolding rules.elements parsed
-elements-parsed f h = rw (le-leb _ _ h) refl
+elements-limited f = refl
+
+pub elements-parsed : (f : Bytes) → length f ≤ longest-format → rules.elements f ≡ parsed f
+elements-parsed f h = elements-limited f ∙ rw (le-leb _ _ h) refl
 
 pub elements-long : (f : Bytes) → longest-format < length f → rules.elements f ≡ refused 3
-unfolding rules.elements
-elements-long f h = rw (lt-leb _ _ h) refl
+elements-long f h = elements-limited f ∙ rw (lt-leb _ _ h) refl
 
 pub is-done-before : (x : rules.Element) (o : Outcome (List rules.Element)) → is-done (before x o) ≡ is-done o
 is-done-before x (done es) = refl

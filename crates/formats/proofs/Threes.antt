@@ -2,7 +2,6 @@
 use mathlib.Core.Path.{_≡_, refl}
 use mathlib.Core.Bool.{Bool, true, false, not, _&&_}
 use mathlib.Core.List.{List, [], _∷_}
-use mathlib.Core.Option.{Option, none, some}
 use Prim.Native.Nat.{ℕ}
 use lib.Dec.{eqb, leb}
 use lib.ListN.{length}
@@ -12,7 +11,6 @@ use Rattle.rules.specs.Characters.{digit, period, hyphen, apostrophe, open-pare
 use Rattle.rules.specs.Lists.{Bytes, nothing, absent, all, last, but-last}
 use Rattle.rules.specs.Table.{is-name, name-of}
 use Rattle.rules.specs.Format.{Range, Element, named, blanks, quoted, count, series, Piece, element, length-piece, format-piece, Pending, turned, ends, texts, trim, leading-digits, number-first, closing, parenthesis, after-range, after-index, series-to, after-name, is-override, after-number, text-piece, piece, settled, completed, put-before, assembled}
-use Rattle.rules.proofs.Steps.{by-test}
 
 abbrev pub Three : {A : Type 0} → Outcome A → Type 0
 Three (done a) = Unit {0}
@@ -30,6 +28,11 @@ pub three-pick : {B : Type 0} (t : Bool) (x y : Outcome B) → Three x → Three
 three-pick true x y k l = k
 three-pick false x y k l = l
 
+three-list : {B : Type 0} (bs : Bytes) (x : Outcome B) (g : ℕ → Bytes → Outcome B) → Three x → ((b : ℕ) (cs : Bytes) → Three (g b cs))
+    → Three {A = B} (elim bs [ [] ↦ x | b ∷ cs ↦ g b cs ])
+three-list [] x g k l = k
+three-list (b ∷ cs) x g k l = l b cs
+
 three-number : (bs : Bytes) → Three (number-first bs)
 unfolding number-first
 three-number bs =
@@ -42,18 +45,10 @@ three-closing r (b ∷ bs) = three-need (eqb b close-parenthesis && nothing bs) 
 
 three-parenthesis : (bs : Bytes) → Three (parenthesis bs)
 unfolding parenthesis
-three-parenthesis bs = three-bind (number-first bs) _ (three-number bs) (λ k. behind (k .0) (k .1))
-  where
-    behind : (k : ℕ) (bs : Bytes) → Three {A = Range} (elim bs [
-      | [] ↦ refused 3
-      | b ∷ cs ↦ elim (eqb b hyphen) [
-        | true ↦ number-first cs >>= (λ l. closing (record { from = k; upto = l .0 }) (l .1))
-        | false ↦ closing (record { from = k; upto = k }) (b ∷ cs)
-      ]
-    ])
-    behind k [] = refl
-    behind k (b ∷ cs) =
-        three-pick (eqb b hyphen) _ _ (three-bind (number-first cs) _ (three-number cs) (λ l. three-closing _ (l .1))) (three-closing _ (b ∷ cs))
+three-parenthesis bs =
+    three-bind (number-first bs) _ (three-number bs)
+    (λ k. three-list (k .1) _ _ refl
+    (λ b cs. three-pick (eqb b hyphen) _ _ (three-bind (number-first cs) _ (three-number cs) (λ l. three-closing _ (l .1))) (three-closing _ (b ∷ cs))))
 
 three-range : (n : ℕ) (r : Range) (bs : Bytes) → Three (after-range n r bs)
 unfolding after-range

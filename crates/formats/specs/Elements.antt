@@ -1,5 +1,4 @@
 -- What the code's elements mean in the words of `rules`, and how large their numbers are.
-use mathlib.Core.Path.{_≡_}
 use mathlib.Core.Bool.{Bool, true, false}
 use mathlib.Core.Option.{Option, none, some}
 use Prim.Native.Nat.{ℕ, _≤_, _<_, _+_}

@@ -1,14 +1,14 @@
 -- The elements of a format, one at a time.
 use mathlib.Core.Path.{_≡_}
-use mathlib.Core.Bool.{Bool, true, false}
+use mathlib.Core.Bool.{false}
 use mathlib.Core.List.{List, [], _∷_}
-use mathlib.Core.Option.{Option, none, some}
+use mathlib.Core.Option.{some}
 use Prim.Native.Nat.{ℕ, _≤_, _<_}
 use lib.ListN.{length, drop}
 use Rattle.rules.specs.Outcome.{Outcome, done, refused, _>>=_, need}
 use Rattle.rules.specs.Lists.{Bytes, absent}
 use Rattle.rules.specs.Format as rules
-use Rattle.rules.specs.Format.{texts, Pending, settled, completed, assembled}
+use Rattle.rules.specs.Format.{texts, settled, completed, assembled}
 use Rattle.formats.specs.Elements.{element-of, named-of, sound}
 use Rattle.formats.specs.Texts.{rest}
 use Rattle.formats.specs.declared.Named.{Named}

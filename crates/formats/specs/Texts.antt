@@ -1,15 +1,14 @@
 -- The texts of a format one after the other: what stands behind each, and what the code answers of them.
 use mathlib.Core.Path.{_≡_}
 use mathlib.Core.Bool.{Bool, true, false}
-use mathlib.Core.List.{List, [], _∷_}
-use mathlib.Core.Option.{Option, none, some}
+use mathlib.Core.List.{[], _∷_}
+use mathlib.Core.Option.{none}
 use Prim.Native.Nat.{ℕ, suc, _+_, _≤_, _<_}
 use lib.Dec.{eqb}
 use lib.ListN.{length, drop, getD}
-use Rattle.rules.specs.Outcome.{Outcome, done, refused, _>>=_, need}
+use Rattle.rules.specs.Outcome.{Outcome, done, _>>=_}
 use Rattle.rules.specs.Characters.{period}
 use Rattle.rules.specs.Lists.{Bytes}
-use Rattle.rules.specs.Format as rules
 use Rattle.rules.specs.Format.{turned, ends, texts, Pending, assembled, put-before}
 use Rattle.formats.specs.Pieces.{piece-of, piece-sound}
 use Rattle.formats.specs.declared.pieces.Piece.{Piece}

@@ -1,4 +1,4 @@
-// Characters and names.
+// The EBCDIC characters that a format is made of, and names.
 ghost use mathlib.Core.Path.{_≡_};
 ghost use mathlib.Core.Bool.{_&&_};
 ghost use lib.Dec.{leb};
@@ -67,7 +67,7 @@ pub fn is_name(a: u8, b: u8) -> bool
     is_letter(b)
 }
 
-// Whether a letter is one of the formats that may follow a name.
+// Whether a byte is one of the formats that may follow a name: A, B, F, G, P, U or W.
 pub fn is_override(b: u8) -> bool
     ensures { λ r. ⌜ r ≡ is-override b ⌝ }
 {

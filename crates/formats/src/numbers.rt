@@ -1,4 +1,5 @@
 // Numbers of one to three digits, and the ends of ranges, between two places of a format.
+use super::characters::DIGIT_0;
 use super::characters::HYPHEN;
 use super::characters::is_digit;
 ghost use mathlib.Core.Path.{_≡_};
@@ -8,6 +9,7 @@ ghost use lib.ListN.{length};
 ghost use Rattle.rules.specs.Characters.{digit, digit-0};
 ghost use Rattle.rules.specs.Format.{number-first};
 ghost use Rattle.formats.specs.Part.{part};
+ghost use Rattle.formats.specs.Elements.{number-bound};
 ghost use Rattle.formats.specs.Numbers.{Numbered, range-end, alone};
 
 const MOST_DIGITS: usize = 3;
@@ -18,11 +20,11 @@ pub enum Number {
     Bad,
 }
 
-fn digit_of(b: u8) -> u16
+pub fn digit_of(b: u8) -> u16
     requires { ⌜ digit b ≡ true ⌝ }
     ensures { λ r. ⌜ (r ≡ b - digit-0) × (r < 10) ⌝ }
 {
-    (b - 0xF0) as u16
+    (b - DIGIT_0) as u16
 }
 
 pub fn number_first(f: &[u8], at: usize, upto: usize) -> Number
@@ -54,7 +56,7 @@ pub fn number_first(f: &[u8], at: usize, upto: usize) -> Number
 
 // The end of a range whose beginning, k, stands before `at`.
 pub fn range_end(f: &[u8], at: usize, upto: usize, k: u16) -> Number
-    requires { ⌜ (at ≤ upto) × (upto ≤ length (now f)) × (k < 1000) ⌝ }
+    requires { ⌜ (at ≤ upto) × (upto ≤ length (now f)) × (k < number-bound) ⌝ }
     ensures { λ r. ⌜ Numbered (now (f .entry)) at upto (range-end k (part (now (f .entry)) at upto)) r ⌝ }
 {
     if at == upto {

@@ -14,6 +14,7 @@ use super::characters::is_name;
 use super::characters::is_override;
 use super::numbers::Number;
 use super::numbers::alone;
+use super::numbers::digit_of;
 use super::numbers::number_first;
 use super::numbers::range_end;
 ghost use mathlib.Core.Path.{_≡_};
@@ -24,8 +25,15 @@ ghost use Rattle.rules.specs.Lists.{Bytes};
 ghost use Rattle.rules.specs.Table.{name-of};
 ghost use Rattle.rules.specs.Format.{parenthesis, after-range, after-index, series-to, after-name, after-number, text-piece, piece};
 ghost use Rattle.formats.specs.Part.{part};
-ghost use Rattle.formats.specs.Elements.{range};
+ghost use Rattle.formats.specs.Elements.{range, number-bound};
 ghost use Rattle.formats.specs.Pieces.{Bracketed, Pieced, as-piece, no-apostrophe, number-piece};
+
+// A length, blanks and a text go so far.
+const GREATEST_LENGTH: u16 = 255;
+
+const LONGEST_BLANKS: u16 = 255;
+
+const LONGEST_TEXT: usize = 255;
 
 // The values in parentheses behind a name.
 pub enum Bracket {
@@ -58,7 +66,7 @@ fn parenthesis(f: &[u8], at: usize, upto: usize) -> Bracket
 }
 
 fn after_range(f: &[u8], at: usize, upto: usize, name: u16, i: u16, j: u16) -> Piece
-    requires { ⌜ (at ≤ upto) × (upto ≤ length (now f)) × (i < 1000) × (j < 1000) ⌝ }
+    requires { ⌜ (at ≤ upto) × (upto ≤ length (now f)) × (i < number-bound) × (j < number-bound) ⌝ }
     ensures { λ r. ⌜ Pieced (now (f .entry)) (as-piece (after-range name (range i j) (part (now (f .entry)) at upto))) r ⌝ }
 {
     let n = Named::bare(name).with_occurrences(i, j);
@@ -75,7 +83,7 @@ fn after_range(f: &[u8], at: usize, upto: usize, name: u16, i: u16, j: u16) -> P
 }
 
 fn after_index(f: &[u8], at: usize, upto: usize, name: u16, i: u16) -> Piece
-    requires { ⌜ (at ≤ upto) × (upto ≤ length (now f)) × (i < 1000) ⌝ }
+    requires { ⌜ (at ≤ upto) × (upto ≤ length (now f)) × (i < number-bound) ⌝ }
     ensures { λ r. ⌜ Pieced (now (f .entry)) (as-piece (after-index name i (part (now (f .entry)) at upto))) r ⌝ }
 {
     if alone(f, at, upto, LETTER_C) {
@@ -140,13 +148,16 @@ fn after_number(f: &[u8], at: usize, upto: usize, n: u16) -> Piece
     requires { ⌜ (at ≤ upto) × (upto ≤ length (now f)) ⌝ }
     ensures { λ r. ⌜ Pieced (now (f .entry)) (after-number n (part (now (f .entry)) at upto)) r ⌝ }
 {
-    if n > 255 {
-        return Piece::Bad;
-    }
     if at == upto {
+        if n > GREATEST_LENGTH {
+            return Piece::Bad;
+        }
         return Piece::Length(n);
     }
     if n == 0 {
+        return Piece::Bad;
+    }
+    if n > LONGEST_BLANKS {
         return Piece::Bad;
     }
     if alone(f, at, upto, LETTER_X) {
@@ -181,7 +192,7 @@ fn text_piece(f: &[u8], at: usize, upto: usize) -> Piece
     if last == at {
         return Piece::Bad;
     }
-    if last - at > 255 {
+    if last - at > LONGEST_TEXT {
         return Piece::Bad;
     }
     if no_apostrophe(f, at, last) {
@@ -196,7 +207,7 @@ fn single(b: u8) -> Piece
     ensures { λ r. ⌜ ((f : Bytes) → Pieced f (piece (b ∷ [])) r) ⌝ }
 {
     if is_digit(b) {
-        return Piece::Length((b - 0xF0) as u16);
+        return Piece::Length(digit_of(b));
     }
     if is_override(b) {
         Piece::Format(b)

@@ -9,6 +9,7 @@ ghost use mathlib.Core.Bool.{false};
 ghost use Prim.Native.Nat.{_≤_, _<_};
 ghost use lib.ListN.{length, drop};
 ghost use Rattle.rules.specs.Outcome.{is-done};
+ghost use Rattle.rules.specs.Limits.{greatest-length};
 ghost use Rattle.rules.specs.Format.{elements};
 ghost use Rattle.formats.specs.Elements.{element-of, sound, Small};
 ghost use Rattle.formats.specs.Pieces.{unfinished};
@@ -35,7 +36,7 @@ fn settled(f: &[u8], end: usize, e: Element) -> Step
 
 // A format may follow the name, which has a length.
 fn format_behind(f: &[u8], end: usize, n: Named, size: u16) -> Step
-    requires { ⌜ (end < length (now f)) × Small n × (n .lettered ≡ false) × (size ≤ 255) ⌝ }
+    requires { ⌜ (end < length (now f)) × Small n × (n .lettered ≡ false) × (size ≤ greatest-length) ⌝ }
     ensures { λ r. ⌜ Stepped (now (f .entry)) end (then-format (now (f .entry)) end n size) r ⌝ }
 {
     let named = n.with_length(size);

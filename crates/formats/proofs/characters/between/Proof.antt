@@ -3,8 +3,6 @@ use mathlib.Core.Path.{refl}
 use borrow.Author.Tests.{le-leb, lt-leb}
 use Rattle.formats.proofs.characters.between.Statement.{statement}
 use Rattle.formats.proofs.characters.between.Tie as tie
-use Rattle.formats.proofs.characters.between.Reads as reads
-use Rattle.formats.proofs.characters.between.Lts as lts
 
 returns : tie.Need-returns
 returns c = rw (lt-leb _ _ (c .if1 .taken)) refl

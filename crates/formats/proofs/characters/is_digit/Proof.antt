@@ -3,9 +3,6 @@ use Rattle.rules.specs.Characters.{digit}
 use borrow.Author.Needs.{needs}
 use Rattle.formats.proofs.characters.is_digit.Statement.{statement}
 use Rattle.formats.proofs.characters.is_digit.Tie as tie
-use Rattle.formats.proofs.characters.is_digit.Reads as reads
-use Rattle.formats.proofs.characters.is_digit.Lts as lts
-use Rattle.formats.proofs.characters.between.Reads as between-reads
 
 between-requires : tie.Need-between-requires
 between-requires c κs = search needs

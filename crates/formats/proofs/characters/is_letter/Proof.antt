@@ -4,9 +4,6 @@ use Rattle.rules.specs.Characters.{letter}
 use borrow.Author.Needs.{needs}
 use Rattle.formats.proofs.characters.is_letter.Statement.{statement}
 use Rattle.formats.proofs.characters.is_letter.Tie as tie
-use Rattle.formats.proofs.characters.is_letter.Reads as reads
-use Rattle.formats.proofs.characters.is_letter.Lts as lts
-use Rattle.formats.proofs.characters.between.Reads as between-reads
 
 between-requires : tie.Need-between-requires
 between-requires c κs = search needs

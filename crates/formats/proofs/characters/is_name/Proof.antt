@@ -4,10 +4,6 @@ use Rattle.formats.proofs.Tests.{name-none, name-digit, name-letter}
 use borrow.Author.Needs.{needs}
 use Rattle.formats.proofs.characters.is_name.Statement.{statement}
 use Rattle.formats.proofs.characters.is_name.Tie as tie
-use Rattle.formats.proofs.characters.is_name.Reads as reads
-use Rattle.formats.proofs.characters.is_name.Lts as lts
-use Rattle.formats.proofs.characters.is_digit.Reads as is-digit-reads
-use Rattle.formats.proofs.characters.is_letter.Reads as is-letter-reads
 
 is-letter-requires : tie.Need-is-letter-requires
 is-letter-requires c κs = search needs

@@ -5,8 +5,6 @@ use Rattle.rules.specs.Lists.{any}
 use Rattle.rules.specs.Format.{is-override, override-letters}
 use Rattle.formats.proofs.characters.is_override.Statement.{statement}
 use Rattle.formats.proofs.characters.is_override.Tie as tie
-use Rattle.formats.proofs.characters.is_override.Reads as reads
-use Rattle.formats.proofs.characters.is_override.Lts as lts
 
 returns : tie.Need-returns
 unfolding is-override override-letters any

@@ -4,8 +4,6 @@ use Rattle.formats.proofs.Digits.{alone-one, alone-other}
 use borrow.Author.Needs.{needs}
 use Rattle.formats.proofs.numbers.alone.Statement.{statement}
 use Rattle.formats.proofs.numbers.alone.Tie as tie
-use Rattle.formats.proofs.numbers.alone.Reads as reads
-use Rattle.formats.proofs.numbers.alone.Lts as lts
 
 sub-if1 : tie.Need-sub-if1
 sub-if1 c = search needs

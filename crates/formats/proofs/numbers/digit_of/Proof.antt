@@ -5,8 +5,6 @@ use Rattle.formats.proofs.Digits.{digit-bounds}
 use borrow.Author.Needs.{needs}
 use Rattle.formats.proofs.numbers.digit_of.Statement.{statement}
 use Rattle.formats.proofs.numbers.digit_of.Tie as tie
-use Rattle.formats.proofs.numbers.digit_of.Reads as reads
-use Rattle.formats.proofs.numbers.digit_of.Lts as lts
 
 sub-result : tie.Need-sub-result
 sub-result c = omega (arith, digit-bounds (c .args .b) (c .pre))

@@ -1,5 +1,5 @@
 -- `number_first` meets its contract: at each turn what is left to read spells the number as the whole does.
-use mathlib.Core.Path.{_≡_, sym, _∙_}
+use mathlib.Core.Path.{sym, _∙_}
 use Prim.Native.Nat.{_-_}
 use native.Mathlib.Omega.{arith}
 use borrow.Author.Needs.{needs}
@@ -7,10 +7,6 @@ use borrow.Author.Tests.{not-true, not-false}
 use Rattle.formats.proofs.Digits.{Read, read-first, read-room, read-turn, read-stop, read-many, read-end, read-value, read-nothing, read-none}
 use Rattle.formats.proofs.numbers.number_first.Statement.{statement}
 use Rattle.formats.proofs.numbers.number_first.Tie as tie
-use Rattle.formats.proofs.numbers.number_first.Reads as reads
-use Rattle.formats.proofs.numbers.number_first.Lts as lts
-use Rattle.formats.proofs.characters.is_digit.Reads as is-digit-reads
-use Rattle.formats.proofs.numbers.digit_of.Reads as digit-of-reads
 
 abbrev Inv-loop : tie.InvT-loop
 Inv-loop f at upto a n₀ i₀ n i = Read f at upto n i

@@ -1,14 +1,10 @@
 -- `range_end` meets its contract, by a hyphen being there or not.
 use native.Mathlib.Omega.{arith}
 use Rattle.formats.proofs.Digits.{range-end-nothing, range-end-none, range-end-hyphen, numbered-later}
-use mathlib.Core.Path.{_∙_}
 use Rattle.formats.proofs.Digits.{range-end-nothing, range-end-none, range-end-hyphen}
 use borrow.Author.Needs.{needs}
 use Rattle.formats.proofs.numbers.range_end.Statement.{statement}
 use Rattle.formats.proofs.numbers.range_end.Tie as tie
-use Rattle.formats.proofs.numbers.range_end.Reads as reads
-use Rattle.formats.proofs.numbers.range_end.Lts as lts
-use Rattle.formats.proofs.numbers.number_first.Reads as number-first-reads
 
 returns : tie.Need-returns
 returns c =

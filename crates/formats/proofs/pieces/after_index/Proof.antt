@@ -6,11 +6,6 @@ use Rattle.formats.proofs.Answers.{element-bad, element-is, element-fro
 use borrow.Author.Needs.{needs}
 use Rattle.formats.proofs.pieces.after_index.Statement.{statement}
 use Rattle.formats.proofs.pieces.after_index.Tie as tie
-use Rattle.formats.proofs.pieces.after_index.Reads as reads
-use Rattle.formats.proofs.pieces.after_index.Lts as lts
-use Rattle.formats.proofs.numbers.alone.Reads as alone-reads
-use Rattle.formats.proofs.numbers.range_end.Reads as range-end-reads
-use Rattle.formats.proofs.pieces.after_range.Reads as after-range-reads
 
 alone-requires : tie.Need-alone-requires
 alone-requires c κs = search needs

@@ -7,13 +7,6 @@ use Rattle.formats.proofs.Answers.{element-bad, element-is, element-fro
 use borrow.Author.Needs.{needs}
 use Rattle.formats.proofs.pieces.after_name.Statement.{statement}
 use Rattle.formats.proofs.pieces.after_name.Tie as tie
-use Rattle.formats.proofs.pieces.after_name.Reads as reads
-use Rattle.formats.proofs.pieces.after_name.Lts as lts
-use Rattle.formats.proofs.Named.bare.Reads as bare-reads
-use Rattle.formats.proofs.numbers.alone.Reads as alone-reads
-use Rattle.formats.proofs.numbers.number_first.Reads as number-first-reads
-use Rattle.formats.proofs.pieces.after_index.Reads as after-index-reads
-use Rattle.formats.proofs.pieces.series_to.Reads as series-to-reads
 
 bare-requires : tie.Need-bare-requires
 bare-requires c κs = search needs

@@ -1,19 +1,13 @@
 -- `after_range` meets its contract, by what stands behind the range.
-use mathlib.Core.Path.{_≡_, refl, ap, _∙_}
+use mathlib.Core.Path.{refl, ap, _∙_}
 use native.Mathlib.Omega.{arith}
-use Rattle.formats.specs.Elements.{range, bare-name, with-occurrences, with-values}
+use Rattle.formats.specs.Elements.{range, with-occurrences, with-values}
 use Rattle.formats.specs.declared.Element.the-variants as code
 use Rattle.formats.proofs.Names.{after-range-nothing, after-range-none, after-range-open}
 use Rattle.formats.proofs.Answers.{bracketed-values, bracketed-bad, element-bad, element-is, small-bare, small-occurrences, small-values}
 use borrow.Author.Needs.{needs}
 use Rattle.formats.proofs.pieces.after_range.Statement.{statement}
 use Rattle.formats.proofs.pieces.after_range.Tie as tie
-use Rattle.formats.proofs.pieces.after_range.Reads as reads
-use Rattle.formats.proofs.pieces.after_range.Lts as lts
-use Rattle.formats.proofs.Named.bare.Reads as bare-reads
-use Rattle.formats.proofs.Named.with_occurrences.Reads as with-occurrences-reads
-use Rattle.formats.proofs.Named.with_values.Reads as with-values-reads
-use Rattle.formats.proofs.pieces.parenthesis.Reads as parenthesis-reads
 
 bare-requires : tie.Need-bare-requires
 bare-requires c κs = search needs

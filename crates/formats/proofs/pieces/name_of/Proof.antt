@@ -4,8 +4,6 @@ use Rattle.rules.specs.Table.{name-of}
 use borrow.Author.Needs.{needs}
 use Rattle.formats.proofs.pieces.name_of.Statement.{statement}
 use Rattle.formats.proofs.pieces.name_of.Tie as tie
-use Rattle.formats.proofs.pieces.name_of.Reads as reads
-use Rattle.formats.proofs.pieces.name_of.Lts as lts
 
 mul-result : tie.Need-mul-result
 mul-result c = search needs

@@ -1,5 +1,5 @@
 -- `no_apostrophe` meets its contract: what is left to test answers as the whole does.
-use mathlib.Core.Path.{_≡_, refl, sym, ap, _∙_}
+use mathlib.Core.Path.{_≡_, refl, sym, _∙_}
 use Prim.Native.Nat.{_≤_, _-_}
 use native.Mathlib.Omega.{arith}
 use borrow.Author.Needs.{needs}
@@ -8,8 +8,6 @@ use Rattle.formats.specs.Pieces.{no-apostrophe}
 use Rattle.formats.proofs.PieceLaws.{none-left, none-turn, none-stop}
 use Rattle.formats.proofs.pieces.no_apostrophe.Statement.{statement}
 use Rattle.formats.proofs.pieces.no_apostrophe.Tie as tie
-use Rattle.formats.proofs.pieces.no_apostrophe.Reads as reads
-use Rattle.formats.proofs.pieces.no_apostrophe.Lts as lts
 
 abbrev Inv-loop : tie.InvT-loop
 Inv-loop f at upto i₀ i = (i ≤ upto) × (no-apostrophe (part f i upto) ≡ no-apostrophe (part f at upto))

@@ -6,10 +6,6 @@ use Rattle.formats.proofs.Answers.{pieced-bad, pieced-from}
 use borrow.Author.Needs.{needs}
 use Rattle.formats.proofs.pieces.number_piece.Statement.{statement}
 use Rattle.formats.proofs.pieces.number_piece.Tie as tie
-use Rattle.formats.proofs.pieces.number_piece.Reads as reads
-use Rattle.formats.proofs.pieces.number_piece.Lts as lts
-use Rattle.formats.proofs.numbers.number_first.Reads as number-first-reads
-use Rattle.formats.proofs.pieces.after_number.Reads as after-number-reads
 
 number-first-requires : tie.Need-number-first-requires
 number-first-requires c κs = search needs

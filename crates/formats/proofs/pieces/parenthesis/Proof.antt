@@ -5,11 +5,6 @@ use Rattle.formats.proofs.Names.{numbered-value, numbered-bad, parenthe
 use borrow.Author.Needs.{needs}
 use Rattle.formats.proofs.pieces.parenthesis.Statement.{statement}
 use Rattle.formats.proofs.pieces.parenthesis.Tie as tie
-use Rattle.formats.proofs.pieces.parenthesis.Reads as reads
-use Rattle.formats.proofs.pieces.parenthesis.Lts as lts
-use Rattle.formats.proofs.numbers.alone.Reads as alone-reads
-use Rattle.formats.proofs.numbers.number_first.Reads as number-first-reads
-use Rattle.formats.proofs.numbers.range_end.Reads as range-end-reads
 
 number-first-requires : tie.Need-number-first-requires
 number-first-requires c κs = search needs

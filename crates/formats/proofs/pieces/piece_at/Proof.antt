@@ -6,15 +6,6 @@ use Rattle.formats.proofs.Answers.{pieced-bad, pieced-from}
 use borrow.Author.Needs.{needs}
 use Rattle.formats.proofs.pieces.piece_at.Statement.{statement}
 use Rattle.formats.proofs.pieces.piece_at.Tie as tie
-use Rattle.formats.proofs.pieces.piece_at.Reads as reads
-use Rattle.formats.proofs.pieces.piece_at.Lts as lts
-use Rattle.formats.proofs.characters.is_digit.Reads as is-digit-reads
-use Rattle.formats.proofs.characters.is_name.Reads as is-name-reads
-use Rattle.formats.proofs.pieces.after_name.Reads as after-name-reads
-use Rattle.formats.proofs.pieces.name_of.Reads as name-of-reads
-use Rattle.formats.proofs.pieces.number_piece.Reads as number-piece-reads
-use Rattle.formats.proofs.pieces.single.Reads as single-reads
-use Rattle.formats.proofs.pieces.text_piece.Reads as text-piece-reads
 
 returns : tie.Need-returns
 returns c =

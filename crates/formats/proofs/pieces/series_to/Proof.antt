@@ -1,5 +1,5 @@
 -- `series_to` meets its contract: two bytes that are a name, or not.
-use mathlib.Core.Path.{refl, sym, ap, _∙_}
+use mathlib.Core.Path.{refl, ap, _∙_}
 use native.Mathlib.Omega.{arith}
 use Rattle.formats.specs.declared.Element.the-variants as code
 use Rattle.formats.proofs.Names.{series-two, series-other}
@@ -7,10 +7,6 @@ use Rattle.formats.proofs.Answers.{element-bad, element-is}
 use borrow.Author.Needs.{needs}
 use Rattle.formats.proofs.pieces.series_to.Statement.{statement}
 use Rattle.formats.proofs.pieces.series_to.Tie as tie
-use Rattle.formats.proofs.pieces.series_to.Reads as reads
-use Rattle.formats.proofs.pieces.series_to.Lts as lts
-use Rattle.formats.proofs.characters.is_name.Reads as is-name-reads
-use Rattle.formats.proofs.pieces.name_of.Reads as name-of-reads
 
 sub-if1 : tie.Need-sub-if1
 sub-if1 c = search needs

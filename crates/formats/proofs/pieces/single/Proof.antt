@@ -1,29 +1,26 @@
 -- `single` meets its contract: a digit, a letter of a format, or neither.
-use mathlib.Core.Path.{refl, sym, _∙_}
+use mathlib.Core.Path.{sym, ap, _∙_}
 use native.Mathlib.Omega.{arith}
-use Rattle.formats.proofs.Digits.{digit-bounds}
+use Rattle.rules.specs.Outcome.{done}
+use Rattle.rules.specs.Format.{length-piece}
 use Rattle.formats.proofs.PieceLaws.{single-digit, single-format, single-bad}
 use borrow.Author.Needs.{needs}
 use Rattle.formats.proofs.pieces.single.Statement.{statement}
 use Rattle.formats.proofs.pieces.single.Tie as tie
-use Rattle.formats.proofs.pieces.single.Reads as reads
-use Rattle.formats.proofs.pieces.single.Lts as lts
-use Rattle.formats.proofs.characters.is_digit.Reads as is-digit-reads
-use Rattle.formats.proofs.characters.is_override.Reads as is-override-reads
 
 is-digit-requires : tie.Need-is-digit-requires
 is-digit-requires c κs = search needs
 
-sub-t3 : tie.Need-sub-t3
-sub-t3 c = omega (arith, digit-bounds (c .before .before .args .b) (sym (c .before .is-digit .ensures) ∙ c .if1 .taken))
-
-cast-t4 : tie.Need-cast-t4
-cast-t4 c = search needs
+digit-of-requires : tie.Need-digit-of-requires
+digit-of-requires c κs = sym (c .before .is-digit .ensures) ∙ c .if1 .taken
 
 returns : tie.Need-returns
 returns c =
-    let d = sym (c .before .is-digit .ensures) ∙ c .if1 .taken in
-    λ f. record { answer = single-digit (c .before .before .args .b) d; sound = omega (arith, digit-bounds (c .before .before .args .b) d) }
+    λ f. record {
+      answer =
+          single-digit (c .before .before .before .args .b) (sym (c .before .before .is-digit .ensures) ∙ c .before .if1 .taken) ∙ ap (λ n. done (length-piece n)) (sym (c .digit-of .ensures .0));
+      sound = omega (arith, c .digit-of .ensures .1);
+    }
 
 is-override-requires : tie.Need-is-override-requires
 is-override-requires c κs = search needs
@@ -37,4 +34,4 @@ returns-3 c = λ f. record { answer = single-bad (c .before .before .before .bef
 pub single-spec : {M : Type 1} → statement M
 single-spec =
     tie.close
-    (tie.spec is-digit-requires sub-t3 cast-t4 returns is-override-requires returns-2 returns-3)
+    (tie.spec is-digit-requires digit-of-requires returns is-override-requires returns-2 returns-3)

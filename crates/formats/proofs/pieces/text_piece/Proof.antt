@@ -1,14 +1,11 @@
 -- `text_piece` meets its contract: the last byte, the length and the bytes between are tested as the rule says.
-use mathlib.Core.Path.{refl, sym, _∙_}
+use mathlib.Core.Path.{sym, _∙_}
 use native.Mathlib.Omega.{arith}
 use Rattle.formats.proofs.PieceLaws.{text-unclosed, text-empty, text-long, text-broken, text-is}
 use Rattle.formats.proofs.Answers.{pieced-bad}
 use borrow.Author.Needs.{needs}
 use Rattle.formats.proofs.pieces.text_piece.Statement.{statement}
 use Rattle.formats.proofs.pieces.text_piece.Tie as tie
-use Rattle.formats.proofs.pieces.text_piece.Reads as reads
-use Rattle.formats.proofs.pieces.text_piece.Lts as lts
-use Rattle.formats.proofs.pieces.no_apostrophe.Reads as no-apostrophe-reads
 
 sub-last : tie.Need-sub-last
 sub-last c = search needs

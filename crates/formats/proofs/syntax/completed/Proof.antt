@@ -1,14 +1,9 @@
 -- `completed` meets its contract: a name may have a length and a format, any other element neither.
-use mathlib.Core.Path.{refl}
 use native.Mathlib.Omega.{arith}
 use Rattle.formats.proofs.StepLaws.{stepped-later, only-settled}
 use borrow.Author.Needs.{needs}
 use Rattle.formats.proofs.syntax.completed.Statement.{statement}
 use Rattle.formats.proofs.syntax.completed.Tie as tie
-use Rattle.formats.proofs.syntax.completed.Reads as reads
-use Rattle.formats.proofs.syntax.completed.Lts as lts
-use Rattle.formats.proofs.syntax.length_behind.Reads as length-behind-reads
-use Rattle.formats.proofs.syntax.settled.Reads as settled-reads
 
 enum-known-e : tie.Need-enum-known-e
 enum-known-e c = search needs

@@ -7,12 +7,6 @@ use Rattle.formats.proofs.StepLaws.{looked-as, stepped-last, stepped-mo
 use borrow.Author.Needs.{needs}
 use Rattle.formats.proofs.syntax.format_behind.Statement.{statement}
 use Rattle.formats.proofs.syntax.format_behind.Tie as tie
-use Rattle.formats.proofs.syntax.format_behind.Reads as reads
-use Rattle.formats.proofs.syntax.format_behind.Lts as lts
-use Rattle.formats.proofs.Named.with_format.Reads as with-format-reads
-use Rattle.formats.proofs.Named.with_length.Reads as with-length-reads
-use Rattle.formats.proofs.syntax.settled.Reads as settled-reads
-use Rattle.formats.proofs.texts.text_at.Reads as text-at-reads
 
 with-length-requires : tie.Need-with-length-requires
 with-length-requires c κs = search needs

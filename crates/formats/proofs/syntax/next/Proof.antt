@@ -1,13 +1,8 @@
 -- `next` meets its contract: the piece at the place begins an element, or the syntax is bad.
-use native.Mathlib.Omega.{arith}
 use Rattle.formats.proofs.StepLaws.{looked-as, stepped-later, stepped-bad, first-element, first-length, first-format, first-bad}
 use borrow.Author.Needs.{needs}
 use Rattle.formats.proofs.syntax.next.Statement.{statement}
 use Rattle.formats.proofs.syntax.next.Tie as tie
-use Rattle.formats.proofs.syntax.next.Reads as reads
-use Rattle.formats.proofs.syntax.next.Lts as lts
-use Rattle.formats.proofs.syntax.completed.Reads as completed-reads
-use Rattle.formats.proofs.texts.text_at.Reads as text-at-reads
 
 text-at-requires : tie.Need-text-at-requires
 text-at-requires c κs = search needs

@@ -5,8 +5,6 @@ use Rattle.formats.proofs.StepLaws.{stepped-last, stepped-more, settled
 use borrow.Author.Needs.{needs}
 use Rattle.formats.proofs.syntax.settled.Statement.{statement}
 use Rattle.formats.proofs.syntax.settled.Tie as tie
-use Rattle.formats.proofs.syntax.settled.Reads as reads
-use Rattle.formats.proofs.syntax.settled.Lts as lts
 
 shared-slice-read-if1 : tie.Need-shared-slice-read-if1
 shared-slice-read-if1 c = search needs

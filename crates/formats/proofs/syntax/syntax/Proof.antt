@@ -1,5 +1,5 @@
 -- `syntax` meets its contract: the elements from each place on are good just where the whole format is.
-use mathlib.Core.Path.{_≡_, refl, sym, ap, _∙_}
+use mathlib.Core.Path.{_≡_, sym, ap, _∙_}
 use Prim.Native.Nat.{_≤_, _-_}
 use native.Mathlib.Omega.{arith}
 use borrow.Author.Needs.{needs}
@@ -10,9 +10,6 @@ use Rattle.formats.specs.Syntax.{parsed}
 use Rattle.formats.proofs.StepLaws.{elements-parsed, elements-long, good-more, more-later, good-last, good-bad}
 use Rattle.formats.proofs.syntax.syntax.Statement.{statement}
 use Rattle.formats.proofs.syntax.syntax.Tie as tie
-use Rattle.formats.proofs.syntax.syntax.Reads as reads
-use Rattle.formats.proofs.syntax.syntax.Lts as lts
-use Rattle.formats.proofs.syntax.next.Reads as next-reads
 
 abbrev Inv-loop : tie.InvT-loop
 Inv-loop f at₀ at = (at ≤ length f) × (is-done (parsed (drop at f)) ≡ is-done (elements f))

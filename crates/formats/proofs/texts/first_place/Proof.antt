@@ -1,5 +1,5 @@
 -- `first_place` meets its contract: what is left begins, behind its spaces, where the whole does.
-use mathlib.Core.Path.{_≡_, refl, sym, ap, _∙_}
+use mathlib.Core.Path.{_≡_, refl, sym, _∙_}
 use Prim.Native.Nat.{_≤_, _-_}
 use native.Mathlib.Omega.{arith}
 use borrow.Author.Needs.{needs}
@@ -8,8 +8,6 @@ use Rattle.formats.specs.Part.{part}
 use Rattle.formats.proofs.Scans.{skip-end, skip-turn, skip-stop}
 use Rattle.formats.proofs.texts.first_place.Statement.{statement}
 use Rattle.formats.proofs.texts.first_place.Tie as tie
-use Rattle.formats.proofs.texts.first_place.Reads as reads
-use Rattle.formats.proofs.texts.first_place.Lts as lts
 
 abbrev Inv-loop : tie.InvT-loop
 Inv-loop f at upto i₀ i = (at ≤ i) × (i ≤ upto) × (skip-spaces (part f i upto) ≡ skip-spaces (part f at upto))

@@ -3,8 +3,6 @@ use Rattle.formats.proofs.Scans.{ends-comma, ends-other}
 use borrow.Author.Needs.{needs}
 use Rattle.formats.proofs.texts.is_end.Statement.{statement}
 use Rattle.formats.proofs.texts.is_end.Tie as tie
-use Rattle.formats.proofs.texts.is_end.Reads as reads
-use Rattle.formats.proofs.texts.is_end.Lts as lts
 
 returns : tie.Need-returns
 returns c = search needs

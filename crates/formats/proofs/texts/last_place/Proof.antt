@@ -1,6 +1,6 @@
 -- `last_place` meets its contract: what is left is stripped to the same bytes as the whole.
-use mathlib.Core.Path.{_≡_, refl, sym, ap, _∙_}
-use Prim.Native.Nat.{_≤_, _-_}
+use mathlib.Core.Path.{_≡_, refl, sym, _∙_}
+use Prim.Native.Nat.{_≤_}
 use native.Mathlib.Omega.{arith}
 use borrow.Author.Needs.{needs}
 use Rattle.rules.specs.Values.{strip}
@@ -8,8 +8,6 @@ use Rattle.formats.specs.Part.{part}
 use Rattle.formats.proofs.Scans.{strip-end, strip-turn, strip-stop}
 use Rattle.formats.proofs.texts.last_place.Statement.{statement}
 use Rattle.formats.proofs.texts.last_place.Tie as tie
-use Rattle.formats.proofs.texts.last_place.Reads as reads
-use Rattle.formats.proofs.texts.last_place.Lts as lts
 
 abbrev Inv-loop : tie.InvT-loop
 Inv-loop f at upto i₀ i = (at ≤ i) × (i ≤ upto) × (strip (part f at i) ≡ strip (part f at upto))

@@ -6,12 +6,6 @@ use Rattle.formats.proofs.Joins.{pending-none, pending-some, trim-at, r
 use borrow.Author.Needs.{needs}
 use Rattle.formats.proofs.texts.text_at.Statement.{statement}
 use Rattle.formats.proofs.texts.text_at.Tie as tie
-use Rattle.formats.proofs.texts.text_at.Reads as reads
-use Rattle.formats.proofs.texts.text_at.Lts as lts
-use Rattle.formats.proofs.pieces.piece_at.Reads as piece-at-reads
-use Rattle.formats.proofs.texts.first_place.Reads as first-place-reads
-use Rattle.formats.proofs.texts.last_place.Reads as last-place-reads
-use Rattle.formats.proofs.texts.text_end.Reads as text-end-reads
 
 text-end-requires : tie.Need-text-end-requires
 text-end-requires c κs = search needs

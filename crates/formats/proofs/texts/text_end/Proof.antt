@@ -9,10 +9,6 @@ use Rattle.formats.specs.Texts.{extent}
 use Rattle.formats.proofs.Scans.{extent-end, extent-stop, extent-go}
 use Rattle.formats.proofs.texts.text_end.Statement.{statement}
 use Rattle.formats.proofs.texts.text_end.Tie as tie
-use Rattle.formats.proofs.texts.text_end.Reads as reads
-use Rattle.formats.proofs.texts.text_end.Lts as lts
-use Rattle.formats.proofs.texts.is_end.Reads as is-end-reads
-use Rattle.formats.proofs.texts.turn.Reads as turn-reads
 
 abbrev Inv-loop : tie.InvT-loop
 Inv-loop f at inside₀ i₀ inside i = (i ≤ length f) × (i + extent inside (drop i f) ≡ at + extent false (drop at f))

@@ -2,8 +2,6 @@
 use Rattle.formats.proofs.Scans.{turned-yes, turned-no}
 use Rattle.formats.proofs.texts.turn.Statement.{statement}
 use Rattle.formats.proofs.texts.turn.Tie as tie
-use Rattle.formats.proofs.texts.turn.Reads as reads
-use Rattle.formats.proofs.texts.turn.Lts as lts
 
 returns : tie.Need-returns
 returns c = turned-yes (c .before .args .inside) (c .before .args .b) (c .if1 .taken)
