@@ -18,7 +18,7 @@ use Rattle.formats.specs.Numbers.{spelling, range-end, alone, within, Nu
 use Rattle.formats.specs.declared.numbers.Number.{Number}
 use Rattle.formats.specs.declared.numbers.Number.the-variants.{Value, Bad}
 use Rattle.formats.proofs.Parts.{part-nil, part-cons}
-use Rattle.formats.proofs.Tests.{and-true, and-true-right, and-false-right}
+use Rattle.characters.proofs.Tests.{and-true, and-true-right, and-false-right}
 use Rattle.buffer.proofs.Cases.{by-order}
 
 pub digit-bounds : (b : ℕ) → digit b ≡ true → (digit-0 ≤ b) × (b ≤ 0xF9)

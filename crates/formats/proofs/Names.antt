@@ -21,7 +21,7 @@ use Rattle.formats.specs.Numbers.{range-end, alone, number-of, Numbered}
 use Rattle.formats.specs.declared.numbers.Number.{Number}
 use Rattle.formats.specs.declared.numbers.Number.the-variants.{Value, Bad}
 use Rattle.formats.proofs.Parts.{part-nil, part-cons}
-use Rattle.formats.proofs.Tests.{false-true, and-true-right, and-false-right}
+use Rattle.characters.proofs.Tests.{false-true, and-true-right, and-false-right}
 
 -- What is known once the answer of a reader of numbers is.
 pub numbered-value : {f : Bytes} {at upto : ℕ} {o : Outcome (ℕ × Bytes)} {r : Number} {n p : ℕ} → Numbered f at upto o r → r ≡ Value n p

@@ -17,7 +17,7 @@ use Rattle.formats.specs.Part.{part}
 use Rattle.formats.specs.Numbers.{alone}
 use Rattle.formats.specs.Pieces.{no-apostrophe, as-piece, number-piece}
 use Rattle.formats.proofs.Parts.{part-nil, part-cons, part-snoc, length-part}
-use Rattle.formats.proofs.Tests.{and-false-right}
+use Rattle.characters.proofs.Tests.{and-false-right}
 
 -- Behind a number.
 module _ (n : ℕ) (f : Bytes) (at upto : ℕ) where

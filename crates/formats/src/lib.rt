@@ -1,5 +1,4 @@
 // The format buffer: its syntax, one element at a time. A format is any bytes at all.
-pub mod characters;
 pub mod numbers;
 pub mod pieces;
 pub mod syntax;

@@ -1,7 +1,7 @@
 // Numbers of one to three digits, and the ends of ranges, between two places of a format.
-use super::characters::DIGIT_0;
-use super::characters::HYPHEN;
-use super::characters::is_digit;
+use characters::DIGIT_0;
+use characters::HYPHEN;
+use characters::is_digit;
 ghost use mathlib.Core.Path.{_≡_};
 ghost use mathlib.Core.Bool.{true};
 ghost use Prim.Native.Nat.{_-_, _≤_, _<_};

@@ -1,9 +1,9 @@
 // The syntax of a format: its elements, one step each.
 use super::Element;
 use super::Named;
-use super::characters::PERIOD;
 use super::pieces::Piece;
 use super::texts::text_at;
+use characters::PERIOD;
 ghost use mathlib.Core.Path.{_≡_};
 ghost use mathlib.Core.Bool.{false};
 ghost use Prim.Native.Nat.{_≤_, _<_};

@@ -5,8 +5,7 @@ ghost use Prim.Native.Nat.{_<_, _≤_, _+_, _*_};
 ghost use lib.ListN.{length, getD, drop};
 ghost use lib.Dec.{eqb};
 ghost use Rattle.rules.specs.Outcome.{is-done};
-ghost use Rattle.rules.specs.Characters.{letter, digit};
-ghost use Rattle.rules.specs.Table.{is-name, group, what-of, entries, levels, differ, names, table, fields-below};
+ghost use Rattle.rules.specs.Table.{group, what-of, entries, levels, differ, names, table, fields-below};
 ghost use Rattle.rules.specs.Lists.{all};
 ghost use Rattle.rules.specs.Use.{plain};
 ghost use Rattle.tables.specs.Entries.{letter-number, row-of, right-of, bytes-at, read-entries, Right, follows, unused, headed, Valid, entries-of, decoded, blank};
@@ -16,11 +15,6 @@ ghost use Rattle.tables.specs.Groups.{group-end, Expanded, Fields-of, pl
 // What stands in the place of a group's format.
 pub const GROUP: u8 = 5;
 
-// Characters in EBCDIC.
-const SPACE: u8 = 0x40;
-
-const LETTER_E: u8 = 0xc5;
-
 // A decoded entry. A format is its number: A 0, B 1, F 2, P 3, U 4; a group has GROUP.
 pub struct Entry {
     pub name: u16,
@@ -29,50 +23,6 @@ pub struct Entry {
     pub size: u8,
     pub multiple: bool,
     pub periodic: bool,
-}
-
-// A to I, J to R, S to Z.
-fn is_letter(b: u8) -> bool
-    ensures { λ r. ⌜ r ≡ letter b ⌝ }
-{
-    if b < 0xc1 {
-        return false;
-    }
-    if b <= 0xc9 {
-        return true;
-    }
-    if b < 0xd1 {
-        return false;
-    }
-    if b <= 0xd9 {
-        return true;
-    }
-    if b < 0xe2 {
-        return false;
-    }
-    b <= 0xe9
-}
-
-fn is_digit(b: u8) -> bool
-    ensures { λ r. ⌜ r ≡ digit b ⌝ }
-{
-    if b < 0xf0 {
-        return false;
-    }
-    b <= 0xf9
-}
-
-// A letter, then a letter or a digit, and none of E0 to E9.
-fn is_name(a: u8, b: u8) -> bool
-    ensures { λ r. ⌜ r ≡ is-name a b ⌝ }
-{
-    if is_letter(a) {
-        if is_digit(b) {
-            return a != LETTER_E;
-        }
-        return is_letter(b);
-    }
-    false
 }
 
 // The number of a format letter, being A, B, F, P or U; GROUP for any other.
@@ -94,7 +44,7 @@ fn group_right(level: u8, letter: u8, size: u8, option: u8) -> bool
     requires { ⌜ letter-number letter ≡ 5 ⌝ }
     ensures { λ r. ⌜ r ≡ is-done (what-of level letter size option) ⌝ }
 {
-    if letter != SPACE {
+    if letter != characters::SPACE {
         return false;
     }
     if size != 0 {
@@ -126,7 +76,7 @@ fn entry_right(t: &[u8], i: usize) -> bool
     ensures { λ r. ⌜ r ≡ right-of (bytes-at (now (t .entry)) i) ⌝ }
 {
     let p = i * 6 + 6;
-    if is_name(t[p], t[p + 1]) {
+    if characters::is_name(t[p], t[p + 1]) {
         return what_right(t[p + 2], t[p + 3], t[p + 4], t[p + 5]);
     }
     false

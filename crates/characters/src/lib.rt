@@ -1,4 +1,4 @@
-// The EBCDIC characters that a format is made of, and names.
+// EBCDIC characters, and names.
 ghost use mathlib.Core.Path.{_≡_};
 ghost use mathlib.Core.Bool.{_&&_};
 ghost use lib.Dec.{leb};

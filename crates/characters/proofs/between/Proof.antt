@@ -1,8 +1,8 @@
 -- `between` meets its contract: the tests that led to a return settle both bounds.
 use mathlib.Core.Path.{refl}
 use borrow.Author.Tests.{le-leb, lt-leb}
-use Rattle.formats.proofs.characters.between.Statement.{statement}
-use Rattle.formats.proofs.characters.between.Tie as tie
+use Rattle.characters.proofs.between.Statement.{statement}
+use Rattle.characters.proofs.between.Tie as tie
 
 returns : tie.Need-returns
 returns c = rw (lt-leb _ _ (c .if1 .taken)) refl

@@ -3,8 +3,8 @@ use mathlib.Core.Path.{refl}
 use borrow.Author.Tests.{ne-eqb}
 use Rattle.rules.specs.Lists.{any}
 use Rattle.rules.specs.Format.{is-override, override-letters}
-use Rattle.formats.proofs.characters.is_override.Statement.{statement}
-use Rattle.formats.proofs.characters.is_override.Tie as tie
+use Rattle.characters.proofs.is_override.Statement.{statement}
+use Rattle.characters.proofs.is_override.Tie as tie
 
 returns : tie.Need-returns
 unfolding is-override override-letters any

@@ -1,8 +1,8 @@
 -- `is_digit` meets its contract: a digit is a byte between two bounds.
 use Rattle.rules.specs.Characters.{digit}
 use borrow.Author.Needs.{needs}
-use Rattle.formats.proofs.characters.is_digit.Statement.{statement}
-use Rattle.formats.proofs.characters.is_digit.Tie as tie
+use Rattle.characters.proofs.is_digit.Statement.{statement}
+use Rattle.characters.proofs.is_digit.Tie as tie
 
 between-requires : tie.Need-between-requires
 between-requires c κs = search needs

@@ -1,9 +1,9 @@
 -- `is_name` meets its contract, by the first byte being a letter or not and the second a digit or not.
 use mathlib.Core.Path.{_∙_}
-use Rattle.formats.proofs.Tests.{name-none, name-digit, name-letter}
+use Rattle.characters.proofs.Tests.{name-none, name-digit, name-letter}
 use borrow.Author.Needs.{needs}
-use Rattle.formats.proofs.characters.is_name.Statement.{statement}
-use Rattle.formats.proofs.characters.is_name.Tie as tie
+use Rattle.characters.proofs.is_name.Statement.{statement}
+use Rattle.characters.proofs.is_name.Tie as tie
 
 is-letter-requires : tie.Need-is-letter-requires
 is-letter-requires c κs = search needs

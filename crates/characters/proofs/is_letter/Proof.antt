@@ -2,8 +2,8 @@
 use mathlib.Core.Path.{refl}
 use Rattle.rules.specs.Characters.{letter}
 use borrow.Author.Needs.{needs}
-use Rattle.formats.proofs.characters.is_letter.Statement.{statement}
-use Rattle.formats.proofs.characters.is_letter.Tie as tie
+use Rattle.characters.proofs.is_letter.Statement.{statement}
+use Rattle.characters.proofs.is_letter.Tie as tie
 
 between-requires : tie.Need-between-requires
 between-requires c κs = search needs
