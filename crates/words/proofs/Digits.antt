@@ -1,5 +1,5 @@
 -- A number and its digits: what digits spell, the digits of a number, and that each gives the other back.
-use mathlib.Core.Path.{_≡_, refl, sym, _∙_, ap}
+use mathlib.Core.Path.{_≡_, refl, sym, _∙_}
 use mathlib.Core.List.{List, [], _∷_, _++_, append-nil, append-assoc}
 use Prim.Native.Nat.{ℕ, zero, suc, _+_, _*_, _-_, _/_, _%_, _^_, _≤_, _<_}
 use native.Mathlib.Nat.{pow-zero, pow-suc, mul-le-mul-right, zero-add, add-zero, div-add-mod', div-lt-iff-lt-mul}

@@ -2,7 +2,6 @@
 use mathlib.Core.Path.{_≡_, refl, sym, ap, _∙_}
 use mathlib.Core.Bool.{Bool, true, false}
 use mathlib.Core.Logic.{_⊎_, ⊎-elim}
-use mathlib.Core.List.{List, [], _∷_}
 use Prim.Native.Nat.{ℕ, zero, suc, _+_, _-_, _*_, _/_, _%_, _^_, _<_, _≤_}
 use native.Mathlib.Omega.{arith}
 use lib.Dec.{ltb, leb}
@@ -13,9 +12,9 @@ use mir.Syntax.{w32}
 use mir.Val.{SFits, toZ, ofZ}
 use mir.Facts.{toZ-ofZ}
 use Rattle.buffer.proofs.Cases.{by-order}
-use Rattle.rules.specs.Outcome.{Outcome, done, _>>=_, need, is-done}
+use Rattle.rules.specs.Outcome.{done, _>>=_, need, is-done}
 use Rattle.rules.specs.Lists.{Bytes, bytes-of, digits, spelled}
-use Rattle.rules.specs.Values.{Value, number, fixed, meaning, normal, twos-complement, in-normal-form, with-length-byte}
+use Rattle.rules.specs.Values.{number, fixed, meaning, normal, twos-complement, in-normal-form}
 use Rattle.words.specs.Signs.{sign-of, with-sign, greatest}
 use Rattle.words.specs.Words.{signed-value}
 use Rattle.words.proofs.Digits.{Below, own-digits, spelled-below}

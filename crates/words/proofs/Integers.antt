@@ -1,13 +1,13 @@
 -- The laws of ℤ that the functions over i32 want: the only place that computes with ℤ. Assumes nothing.
 use mathlib.Core.Path.{_≡_, refl, sym, ap, subst, _∙_}
-use mathlib.Core.Bool.{Bool, true, false, not}
+use mathlib.Core.Bool.{true, false, not}
 use Prim.Native.Nat.{ℕ, zero, suc, _+_, _-_, _<_, _≤_}
 use native.Mathlib.Omega.{arith}
 use lib.IntN.{ℤ, pos, negsuc, negℤ, natAbs, sucℤ, predℤ, _+ℤ_, _-ℤ_, +ℤ-idl, +ℤ-one, -ℤ-one}
 use lib.Signed.{mag, nonNeg, ltZ}
 use lib.Dec.{T}
 use borrow.Author.Tests.{ltb-true, le-ltb}
-use Rattle.words.specs.Signs.{signed-word, sign-of, with-sign}
+use Rattle.words.specs.Signs.{signed-word, sign-of}
 use mir.Syntax.{w32}
 use mir.Val.{SFits, Fits, toZ, ofZ}
 use mir.Facts.{toZ-ofZ, toZ-pos}

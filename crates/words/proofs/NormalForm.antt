@@ -1,10 +1,10 @@
 -- When bytes are in normal form, for every format: what their meaning is written as is compared with them.
-use mathlib.Core.Path.{_≡_, refl, _∙_, ap}
+use mathlib.Core.Path.{_≡_, refl, _∙_}
 use mathlib.Core.Bool.{Bool, true, false}
 use Prim.Native.Nat.{ℕ, zero, suc, _<_}
 use native.Mathlib.Nat.{not-suc-le-zero}
-use Rattle.rules.specs.Outcome.{Outcome, done, refused, _>>=_, need, is-done}
-use Rattle.rules.specs.Lists.{Bytes, bytes-of, same}
+use Rattle.rules.specs.Outcome.{Outcome, done, refused, _>>=_}
+use Rattle.rules.specs.Lists.{Bytes, same}
 use Rattle.rules.specs.Values.{Format, meaning, normal, in-normal-form, with-length-byte}
 use Rattle.rules.proofs.Steps.{same-same}
 

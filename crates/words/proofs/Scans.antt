@@ -60,6 +60,7 @@ digit-next b ds zero rest h e = absurd (not-suc-le-zero h)
 digit-next b ds (suc k) rest h e =
     let m : suc k - 1 ≡ k = omega arith in
     let l : take (suc k) ds ≡ digits b k (rest / b) ++ (rest % b ∷ []) = e in
-    rw m
-    (sym (sym (getD-take (suc k) ds k 0 (omega arith)) ∙ ap (λ d. getD d k 0) l ∙ getD-at (digits b k (rest / b)) (rest % b) [] 0 k (length-digits b k (rest / b))),
-    sym (take-take k (suc k) ds (omega arith)) ∙ ap (take k) l ∙ take-at (digits b k (rest / b)) (rest % b ∷ []) k (length-digits b k (rest / b)))
+    rw m (
+      sym (sym (getD-take (suc k) ds k 0 (omega arith)) ∙ ap (λ d. getD d k 0) l ∙ getD-at (digits b k (rest / b)) (rest % b) [] 0 k (length-digits b k (rest / b))),
+      sym (take-take k (suc k) ds (omega arith)) ∙ ap (take k) l ∙ take-at (digits b k (rest / b)) (rest % b ∷ []) k (length-digits b k (rest / b)),
+    )

@@ -1,17 +1,13 @@
 -- `words::decode` meets its contract: the bits of two bytes are those of four, with the sign's bit copied upwards.
-use Prim.Native.Nat.{_+_, _<_, _^_}
+use Prim.Native.Nat.{_+_, _<_}
 use native.Mathlib.Omega.{arith}
 use mathlib.Core.Logic.{⊎-elim}
-use mathlib.Core.Path.{_≡_, _∙_, sym}
+use mathlib.Core.Path.{_≡_, _∙_}
 use lib.ListN.{length}
 use Rattle.words.proofs.Fixed.{not-2, decoded, low-bits, high-bits}
 use borrow.Author.Needs.{needs}
 use Rattle.words.proofs.decode.Statement.{statement}
 use Rattle.words.proofs.decode.Tie as tie
-use Rattle.words.proofs.decode.Reads as reads
-use Rattle.words.proofs.decode.Lts as lts
-use Rattle.words.proofs.from_bits.Reads as from-bits-reads
-use Rattle.words.proofs.number_of.Reads as number-of-reads
 
 two-bytes : (c : tie.Else1) → length (c .before .before .before .args .s .now) ≡ 2
 two-bytes c = not-2 (c .before .before .before .pre) (c .if1 .left)

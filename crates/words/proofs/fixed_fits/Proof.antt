@@ -1,12 +1,8 @@
 -- `words::fixed_fits` meets its contract: a test for each sign.
-use mathlib.Core.Path.{sym}
 use Rattle.words.proofs.Fixed.{fits-plus, fits-minus}
 use borrow.Author.Needs.{needs}
 use Rattle.words.proofs.fixed_fits.Statement.{statement}
 use Rattle.words.proofs.fixed_fits.Tie as tie
-use Rattle.words.proofs.fixed_fits.Reads as reads
-use Rattle.words.proofs.fixed_fits.Lts as lts
-use Rattle.words.proofs.half.Reads as half-reads
 
 half-requires : tie.Need-half-requires
 half-requires c κs = search needs

@@ -9,10 +9,6 @@ use Rattle.words.specs.Words.{signed-value}
 use borrow.Author.Needs.{needs}
 use Rattle.words.proofs.fixed_word.Statement.{statement}
 use Rattle.words.proofs.fixed_word.Tie as tie
-use Rattle.words.proofs.fixed_word.Reads as reads
-use Rattle.words.proofs.fixed_word.Lts as lts
-use Rattle.words.proofs.decode.Reads as decode-reads
-use Rattle.words.proofs.split.Reads as split-reads
 
 decode-requires : tie.Need-decode-requires
 decode-requires c κs = search needs

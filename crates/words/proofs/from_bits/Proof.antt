@@ -1,17 +1,10 @@
+-- `words::from_bits` meets its contract: bits from 2,147,483,648 on are a number below zero.
 use Prim.Native.Nat.{_-_}
 use native.Mathlib.Omega.{arith}
-use mathlib.Core.Path.{_≡_, sym, ap, _∙_}
-use mir.Facts.{toZ-ofZ}
-use lib.IntN.{ℤ}
-use mir.Syntax.{w32}
-use mir.Val.{toZ, ofZ}
 use Rattle.words.proofs.Integers.{high, back-negsuc}
 use borrow.Author.Needs.{needs}
 use Rattle.words.proofs.from_bits.Statement.{statement}
 use Rattle.words.proofs.from_bits.Tie as tie
-use Rattle.words.proofs.from_bits.Reads as reads
-use Rattle.words.proofs.from_bits.Lts as lts
-use Rattle.words.proofs.minus.Reads as minus-reads
 
 cast-result : tie.Need-cast-result
 cast-result c = search needs

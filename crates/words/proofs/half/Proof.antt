@@ -1,10 +1,7 @@
 -- `words::half` meets its contract, by the two lengths.
 use Rattle.words.proofs.Fixed.{not-2}
-use borrow.Author.Needs.{needs}
 use Rattle.words.proofs.half.Statement.{statement}
 use Rattle.words.proofs.half.Tie as tie
-use Rattle.words.proofs.half.Reads as reads
-use Rattle.words.proofs.half.Lts as lts
 
 returns : tie.Need-returns
 returns c = rw (c .if1 .taken)

@@ -1,16 +1,12 @@
+-- `words::join` meets its contract, by the sign, with zero apart.
 use Prim.Native.Nat.{_-_}
 use mir.Syntax.{w32}
 use mir.Facts.{toZ-pos}
 use native.Mathlib.Omega.{arith}
-use mathlib.Core.Path.{_≡_, sym, ap, _∙_}
-use mir.Facts.{toZ-ofZ}
 use Rattle.words.proofs.Integers.{minus-of, back-negsuc}
 use borrow.Author.Needs.{needs}
 use Rattle.words.proofs.join.Statement.{statement}
 use Rattle.words.proofs.join.Tie as tie
-use Rattle.words.proofs.join.Reads as reads
-use Rattle.words.proofs.join.Lts as lts
-use Rattle.words.proofs.minus.Reads as minus-reads
 
 sub-minus : tie.Need-sub-minus
 sub-minus c = search needs

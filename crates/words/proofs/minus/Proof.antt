@@ -1,3 +1,4 @@
+-- `words::minus` meets its contract: −(k as i32) − 1 fits an i32 and is −(k + 1).
 use borrow.Author.Needs.{needs}
 use Rattle.words.proofs.Integers.{minus-fits, minus-fits-2, minus-returns}
 use Rattle.words.proofs.minus.Statement.{statement}

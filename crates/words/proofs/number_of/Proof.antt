@@ -1,14 +1,10 @@
 -- `words::number_of` meets its contract: the bytes left, behind the number so far, spell what the whole spells.
 use Prim.Native.Nat.{_-_}
-use native.Mathlib.Omega.{arith}
 use lib.ListN.{length}
 use Rattle.words.proofs.Scans.{Reading, reading-start, reading-room, reading-turn, reading-end}
 use borrow.Author.Needs.{needs}
 use Rattle.words.proofs.number_of.Statement.{statement}
 use Rattle.words.proofs.number_of.Tie as tie
-use Rattle.words.proofs.number_of.Reads as reads
-use Rattle.words.proofs.number_of.Lts as lts
-use Rattle.words.proofs.wide.Reads as wide-reads
 
 abbrev Inv-loop : tie.InvT-loop
 Inv-loop s n₀ i₀ n i = Reading s n i

@@ -1,8 +1,8 @@
 -- `words::put_number` meets its contract: the digits of the rest are the first digits of the whole.
 use Prim.Native.Nat.{_-_}
 use native.Mathlib.Omega.{arith}
-use mathlib.Core.Path.{_≡_, refl, sym}
-use lib.ListN.{length, take}
+use mathlib.Core.Path.{_≡_, refl}
+use lib.ListN.{take}
 use lib.Seq.{take-all}
 use Rattle.rules.specs.Lists.{digits}
 use Rattle.buffer.proofs.Loops.{Down, down-start, down-turn, down-end}
@@ -11,8 +11,6 @@ use Rattle.words.proofs.Scans.{digit-next}
 use borrow.Author.Needs.{needs}
 use Rattle.words.proofs.put_number.Statement.{statement}
 use Rattle.words.proofs.put_number.Tie as tie
-use Rattle.words.proofs.put_number.Reads as reads
-use Rattle.words.proofs.put_number.Lts as lts
 
 abbrev Inv-loop : tie.InvT-loop
 Inv-loop x n out₀ at rest₀ j₀ out rest j = Down at n (digits 256 n x) out₀ out j × (take j (digits 256 n x) ≡ digits 256 j rest)

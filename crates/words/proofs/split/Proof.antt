@@ -1,13 +1,11 @@
+-- `words::split` meets its contract, by the sign of x.
 use native.Mathlib.Omega.{arith}
-use mathlib.Core.Path.{_≡_, sym, ap, _∙_}
+use mathlib.Core.Path.{_≡_}
 use mir.Facts.{toZ-ofZ}
 use lib.Signed.{mag}
 use Rattle.words.proofs.Integers.{back, below, above, above-cast, sign-below, sign-above}
 use Rattle.words.proofs.split.Statement.{statement}
 use Rattle.words.proofs.split.Tie as tie
-use Rattle.words.proofs.split.Reads as reads
-use Rattle.words.proofs.split.Lts as lts
-use Rattle.words.proofs.unminus.Reads as unminus-reads
 
 abbrev learnt : (c : tie.After-unminus) → c .unminus .result ≡ mag (c .before .before .args .x)
 learnt c = rw (toZ-ofZ (c .before .before .fits .x)) at (c .unminus .ensures)

@@ -1,14 +1,11 @@
-use native.Mathlib.Omega.{arith}
-use mathlib.Core.Path.{_≡_, sym, ap, _∙_}
+-- `words::to_bits` meets its contract, by the sign of x.
+use mathlib.Core.Path.{_≡_}
 use mir.Facts.{toZ-ofZ}
 use lib.Signed.{mag}
 use Rattle.words.proofs.Integers.{back, below, above, above-cast, above-bits, below-bits}
 use borrow.Author.Needs.{needs}
 use Rattle.words.proofs.to_bits.Statement.{statement}
 use Rattle.words.proofs.to_bits.Tie as tie
-use Rattle.words.proofs.to_bits.Reads as reads
-use Rattle.words.proofs.to_bits.Lts as lts
-use Rattle.words.proofs.unminus.Reads as unminus-reads
 
 abbrev learnt : (c : tie.After-unminus) → c .unminus .result ≡ mag (c .before .before .args .x)
 learnt c = rw (toZ-ofZ (c .before .before .fits .x)) at (c .unminus .ensures)

@@ -1,8 +1,7 @@
+-- `words::unminus` meets its contract: x + 1 and its negation fit where x is below zero, −2,147,483,648 included.
 use Rattle.words.proofs.Integers.{unminus-add, unminus-sub, unminus-read, unminus-fits}
 use Rattle.words.proofs.unminus.Statement.{statement}
 use Rattle.words.proofs.unminus.Tie as tie
-use Rattle.words.proofs.unminus.Reads as reads
-use Rattle.words.proofs.unminus.Lts as lts
 
 add-result : tie.Need-add-result
 add-result c = unminus-add (c .args .x) (c .fits .x) (c .pre)

@@ -10,11 +10,6 @@ use Rattle.words.proofs.Fixed.{fixed-room, fixed-bytes}
 use borrow.Author.Needs.{needs}
 use Rattle.words.proofs.write_fixed.Statement.{statement}
 use Rattle.words.proofs.write_fixed.Tie as tie
-use Rattle.words.proofs.write_fixed.Reads as reads
-use Rattle.words.proofs.write_fixed.Lts as lts
-use Rattle.words.proofs.join.Reads as join-reads
-use Rattle.words.proofs.put_number.Reads as put-number-reads
-use Rattle.words.proofs.to_bits.Reads as to-bits-reads
 
 join-requires : tie.Need-join-requires
 join-requires c κs = let a = c .before in fixed-room (a .args .n) (a .pre .0) (a .args .v .negative) (a .args .v .magnitude) (a .pre .1)
