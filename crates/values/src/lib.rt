@@ -1,0 +1,101 @@
+// The five formats: which lengths they have, which convert, where a value ends, null, normal form, and a value carried from one to another.
+// A format is a number: 0 A, 1 B, 2 F, 3 P, 4 U.
+ghost use mathlib.Core.Path.{_≡_};
+ghost use Prim.Native.Nat.{_<_};
+ghost use Rattle.rules.specs.Values as Rules;
+ghost use Rattle.values.specs.Formats.{format-at, kind-of};
+pub mod texts;
+
+const ALPHA: usize = 0;
+const FIXED: usize = 2;
+
+// The least and greatest lengths of each format.
+const LEAST: [usize; 5] = [0, 1, 2, 1, 1];
+
+const GREATEST: [usize; 5] = [253, 126, 4, 15, 29];
+
+// Whether a format has values of a length.
+pub fn allowed(format: usize, size: usize) -> bool
+    requires { ⌜ format < 5 ⌝ }
+    ensures { λ r. ⌜ r ≡ Rules.allowed (format-at format) size ⌝ }
+{
+    if size < LEAST[format] {
+        return false;
+    }
+    if GREATEST[format] < size {
+        return false;
+    }
+    if format == FIXED {
+        return size != 3;
+    }
+    true
+}
+
+// Which values convert: none, all, those of a word, those of a word that are not below zero.
+pub enum Kind {
+    Never,
+    Every,
+    Word,
+    Natural,
+}
+
+// Row the field's format, column the format in effect.
+const CONVERTS: [[Kind; 5]; 5] = [
+    [
+        Kind::Every,
+        Kind::Never,
+        Kind::Never,
+        Kind::Never,
+        Kind::Never,
+    ],
+    [
+        Kind::Never,
+        Kind::Every,
+        Kind::Natural,
+        Kind::Natural,
+        Kind::Natural,
+    ],
+    [
+        Kind::Never,
+        Kind::Natural,
+        Kind::Every,
+        Kind::Word,
+        Kind::Word,
+    ],
+    [
+        Kind::Never,
+        Kind::Natural,
+        Kind::Word,
+        Kind::Every,
+        Kind::Every,
+    ],
+    [
+        Kind::Never,
+        Kind::Natural,
+        Kind::Word,
+        Kind::Every,
+        Kind::Every,
+    ],
+];
+
+// Which values convert from a format to another.
+pub fn conversion(row: usize, column: usize) -> Kind
+    requires { ⌜ (row < 5) × (column < 5) ⌝ }
+    ensures { λ r. ⌜ kind-of r ≡ Rules.conversion (format-at row) (format-at column) ⌝ }
+{
+    CONVERTS[row][column]
+}
+
+// Whether any do.
+pub fn converts(row: usize, column: usize) -> bool
+    requires { ⌜ (row < 5) × (column < 5) ⌝ }
+    ensures { λ r. ⌜ r ≡ Rules.converts (format-at row) (format-at column) ⌝ }
+{
+    let kind = conversion(row, column);
+    match kind {
+        Kind::Never => false,
+        Kind::Every => true,
+        Kind::Word => true,
+        Kind::Natural => true,
+    }
+}
