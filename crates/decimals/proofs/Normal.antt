@@ -1,0 +1,132 @@
+-- The normal form of P and U: when a number fits, its bytes, when a value is in it, and a value carried to it. Assumes nothing.
+use mathlib.Core.Path.{_≡_, refl, sym, _∙_, ap}
+use mathlib.Core.Bool.{Bool, true, false, and-true, false≢true}
+use mathlib.Core.List.{List, [], _∷_, _++_}
+use Prim.Native.Nat.{ℕ, zero, suc, _+_, _-_, _*_, _^_, _≤_, _<_}
+use native.Mathlib.Omega.{arith}
+use lib.Dec.{eqb, ltb}
+use lib.ListN.{length}
+use borrow.Author.Tests.{lt-ltb, eqb-true, eqb-false, eq-eqb, ne-eqb}
+use Rattle.rules.specs.Outcome.{Outcome, done, refused, _>>=_, need, is-done}
+use Rattle.rules.specs.Lists.{Bytes, bytes-of, same}
+use Rattle.rules.specs.Values.{Format, Value, number, pairs, zoned, meaning, sign-written, normal, with-length-byte, in-normal-form, conversion, in-range, converted, carried}
+use Rattle.rules.proofs.Steps.{by-test, eqb-same}
+use Rattle.decimals.specs.Decimals.{decimal-format, digits-of, sign-of, magnitude-of, is-minus, Readable, places, encoded, written}
+use Rattle.decimals.proofs.Digits.{spelled-below, digits-spelled}
+use Rattle.decimals.proofs.Halves.{length-digits-of}
+use Rattle.decimals.proofs.Sound.{Sound, sound, readable, below-ten}
+
+-- ---- a number in normal form
+
+module _ (p : Bool) (n : ℕ) (below : Bool) (x : ℕ) where
+  normal-is : normal (decimal-format p) n (number below x)
+      ≡ (need (ltb x (10 ^ places p n)) 9 >>= λ _. done (written p n below x))
+  unfolding normal decimal-format places encoded written
+  normal-is = elim p [ true ↦ refl | false ↦ refl ]
+
+  pub normal-fits : is-done (normal (decimal-format p) n (number below x)) ≡ ltb x (10 ^ places p n)
+  normal-fits = ap is-done normal-is ∙ go (ltb x (10 ^ places p n)) _
+    where
+      go : (t : Bool) (bs : Bytes) → is-done (need t 9 >>= λ _. done bs) ≡ t
+      go true bs = refl
+      go false bs = refl
+
+  pub normal-done : ltb x (10 ^ places p n) ≡ true
+      → normal (decimal-format p) n (number below x) ≡ done (written p n below x)
+  normal-done e = normal-is ∙ rw e
+
+  pub normal-bytes : is-done (normal (decimal-format p) n (number below x)) ≡ true
+      → bytes-of (normal (decimal-format p) n (number below x)) ≡ written p n below x
+  unfolding bytes-of
+  normal-bytes e = ap bytes-of (normal-done (sym normal-fits ∙ e))
+
+-- ---- a value in normal form: the same digits, so the same but for the sign
+
+same-test : (a b c d : ℕ) → (c ≡ d → a ≡ b) → (a ≡ b → c ≡ d) → eqb a b ≡ eqb c d
+same-test a b c d f g =
+    by-test (eqb c d) (λ e. eq-eqb a b (f (eqb-true c d e)) ∙ sym e) (λ e. ne-eqb a b (λ q. eqb-false c d e (g q)) ∙ sym e)
+
+same-pairs : (n : ℕ) (ds : List ℕ) (s t : ℕ) → length ds ≡ 2 * n + 1 → same (pairs (ds ++ (s ∷ []))) (pairs (ds ++ (t ∷ []))) ≡ eqb s t
+unfolding same pairs
+same-pairs n [] s t e = absurd (omega arith)
+same-pairs n (d ∷ []) s t e = rw (same-test (d * 16 + s) (d * 16 + t) s t (λ q. omega arith) (λ q. omega arith)) (and-true (eqb s t))
+same-pairs zero (d ∷ f ∷ ds) s t e = absurd (omega arith)
+same-pairs (suc n) (d ∷ f ∷ ds) s t e = rw (eqb-same (d * 16 + f)) (same-pairs n ds s t (omega arith))
+
+same-zoned : (ds : List ℕ) (s t : ℕ) → 0 < length ds → same (zoned ds s) (zoned ds t) ≡ eqb s t
+unfolding same zoned
+same-zoned [] s t h = absurd (omega arith)
+same-zoned (d ∷ []) s t h = rw (same-test (s * 16 + d) (t * 16 + d) s t (λ q. omega arith) (λ q. omega arith)) (and-true (eqb s t))
+same-zoned (d ∷ f ∷ ds) s t h = rw (eqb-same (0xF0 + d)) (same-zoned (f ∷ ds) s t (omega arith))
+
+same-encoded : (p : Bool) (n : ℕ) (ds : List ℕ) (s t : ℕ) → 0 < n → length ds ≡ places p n → same (encoded p ds s) (encoded p ds t) ≡ eqb s t
+unfolding encoded places
+same-encoded true n ds s t h e = same-pairs (n - 1) ds s t (omega arith)
+same-encoded false n ds s t h e = same-zoned ds s t (omega arith)
+
+form-at : (f : Format) (n : ℕ) (bs : Bytes) (o : Outcome Bytes) → (meaning f bs >>= normal f n) ≡ o
+    → in-normal-form f n bs ≡ (elim o [ done b ↦ same b (with-length-byte n bs) | refused k ↦ false ])
+unfolding in-normal-form
+form-at f n bs o e = ap (λ (r : Outcome Bytes). elim r [ done b ↦ same b (with-length-byte n bs) | refused k ↦ false ]) e
+
+no-length-byte : (n : ℕ) (bs : Bytes) → 0 < n → with-length-byte n bs ≡ bs
+unfolding with-length-byte
+no-length-byte zero bs h = absurd (omega arith)
+no-length-byte (suc n) bs h = refl
+
+-- what is no value is not in normal form
+pub no-form : (f : Format) (n : ℕ) (bs : Bytes) → is-done (meaning f bs) ≡ false → in-normal-form f n bs ≡ false
+no-form f n bs e = go (meaning f bs) refl e
+  where
+    go : (m : Outcome Value) → meaning f bs ≡ m → is-done m ≡ false → in-normal-form f n bs ≡ false
+    go (done v) q e = absurd (false≢true (sym e))
+    go (refused k) q e = form-at f n bs (refused k) (rw q)
+
+-- "P and U to each other, all values"
+every-value : (p q : Bool) (w : Value) → in-range (conversion (decimal-format p) (decimal-format q)) w ≡ true
+unfolding in-range conversion decimal-format
+every-value true true w = refl
+every-value true false w = refl
+every-value false true w = refl
+every-value false false w = refl
+
+module _ {p : Bool} {bs : Bytes} (v : Sound p bs) where
+  -- a value is in normal form where its sign is the one that is written
+  pub form-sign : in-normal-form (decimal-format p) (length bs) bs ≡ eqb (sign-written (is-minus p bs)) (sign-of p bs)
+  unfolding magnitude-of written
+  form-sign =
+      let ten = below-ten p bs (v .nines) in
+      let l = length-digits-of p bs in
+      let h = rw l at (spelled-below 10 (digits-of p bs) ten) in
+      let d = rw l at (digits-spelled 10 (digits-of p bs) ten) in
+      let b = written p (length bs) (is-minus p bs) (magnitude-of p bs) in
+      form-at (decimal-format p) (length bs) bs (done b) (rw (v .means) (normal-done p (length bs) (is-minus p bs) (magnitude-of p bs) (lt-ltb _ _ h)))
+      ∙ rw (no-length-byte (length bs) bs (v .some), d)
+      (ap (λ b. same (encoded p (digits-of p bs) (sign-written (is-minus p bs))) b) (sym (v .whole))
+      ∙ same-encoded p (length bs) (digits-of p bs) _ _ (v .some) l)
+
+  -- a value carried between P and U is its number in normal form there
+  pub carried-is : (q : Bool) (n : ℕ) → carried (decimal-format p) (decimal-format q) n bs ≡ normal (decimal-format q) n (number (is-minus p bs) (magnitude-of p bs))
+  unfolding carried converted
+  carried-is q n = rw (v .means, every-value p q (number (is-minus p bs) (magnitude-of p bs)))
+
+-- what is carried is a value
+pub carried-value : (f g : Format) (n : ℕ) (bs : Bytes) → is-done (carried f g n bs) ≡ true → is-done (meaning f bs) ≡ true
+unfolding carried
+carried-value f g n bs e = go (meaning f bs) e
+  where
+    go : (m : Outcome Value) → is-done (m >>= converted f g n) ≡ true → is-done m ≡ true
+    go (done v) e = refl
+    go (refused k) e = e
+
+module _ (p q : Bool) (n : ℕ) (bs : Bytes) (e : is-done (carried (decimal-format p) (decimal-format q) n bs) ≡ true) where
+  carried-sound : Sound p bs
+  carried-sound = sound p bs (carried-value (decimal-format p) (decimal-format q) n bs e)
+
+  pub carried-readable : length bs ≤ 253 → Readable p bs
+  carried-readable = readable carried-sound
+
+  pub carried-bytes : bytes-of (carried (decimal-format p) (decimal-format q) n bs) ≡ written q n (is-minus p bs) (magnitude-of p bs)
+  carried-bytes =
+      let c = carried-is carried-sound q n in
+      rw c (normal-bytes q n (is-minus p bs) (magnitude-of p bs) (rw c at e))

@@ -1,0 +1,107 @@
+-- Reading a value's digits from the left: x is what those before place i spell, and with those from i on it is the magnitude.
+-- Assumes nothing.
+use mathlib.Core.Path.{_≡_, refl, sym, _∙_}
+use mathlib.Core.Bool.{Bool, true, false, not}
+use mathlib.Core.List.{List, [], _∷_}
+use Prim.Native.Nat.{ℕ, suc, _+_, _-_, _*_, _^_, _≤_, _<_}
+use native.Mathlib.Nat.{pow-le-pow-right, lt-of-lt-of-le, le-trans}
+use native.Mathlib.Numerals.{add-one}
+use native.Mathlib.Omega.{arith}
+use lib.Dec.{ltb, leb, lit<}
+use lib.ListN.{length, drop, getD, length-drop, drop-of-length-le}
+use lib.Seq.{drop-cons}
+use borrow.Author.Tests.{lt-ltb, le-ltb, le-leb, lt-leb}
+use Rattle.rules.specs.Limits.{greatest-word}
+use Rattle.rules.specs.Lists.{Bytes, spelled}
+use Rattle.rules.specs.Values.{meaning}
+use Rattle.words.specs.Words.{word-of, value-of, pick}
+use Rattle.words.specs.declared.Word.the-variants.{Number, Outside}
+use Rattle.buffer.proofs.Cases.{by-order}
+use Rattle.decimals.specs.Decimals.{decimal-format, digits-of, magnitude-of, is-minus, all-digits, Readable, places, place}
+use Rattle.decimals.proofs.Digits.{all-drop, spelled-below, spelled-full, spelled-grows, place-spelled, place-spelled-past}
+use Rattle.decimals.proofs.Halves.{length-digits-of}
+use Rattle.decimals.proofs.Sound.{Sound, below-ten}
+
+pub record Spelling (p : Bool) (s : Bytes) (i x : ℕ) : Type 0 where
+  pub upto : i ≤ places p (length s)
+  pub rest : spelled 10 (drop i (digits-of p s)) x ≡ magnitude-of p s
+
+spelled-first : (b d : ℕ) (ds : List ℕ) (x : ℕ) → spelled b (d ∷ ds) x ≡ spelled b ds (x * b + d)
+unfolding spelled
+spelled-first b d ds x = refl
+
+spelled-none : (b x : ℕ) → spelled b [] x ≡ x
+unfolding spelled
+spelled-none b x = refl
+
+pub spelling-start : (p : Bool) (s : Bytes) → Spelling p s 0 0
+unfolding magnitude-of
+spelling-start p s = record { upto = omega arith; rest = refl }
+
+module _ {p : Bool} {s : Bytes} {i x : ℕ} (w : Spelling p s i x) where
+  -- the digits from i on: there is one at i
+  first : i < places p (length s) → spelled 10 (drop i (digits-of p s)) x ≡ spelled 10 (getD (digits-of p s) i 0 ∷ drop (i + 1) (digits-of p s)) x
+  first h = let l = length-digits-of p s in rw (drop-cons (digits-of p s) i 0 (omega arith), add-one)
+
+  pub spelling-turn : i < places p (length s) → Spelling p s (i + 1) (x * 10 + getD (digits-of p s) i 0)
+  spelling-turn h = record { upto = omega arith; rest = sym (spelled-first 10 _ _ x) ∙ sym (first h) ∙ w .rest }
+
+  pub spelling-over : x ≤ magnitude-of p s
+  spelling-over = rw (w .rest) at (spelled-grows 10 (drop i (digits-of p s)) x (lit< tt))
+
+  pub spelling-end : places p (length s) ≤ i → x ≡ magnitude-of p s
+  spelling-end h =
+      let l = length-digits-of p s in
+      sym (rw (drop-of-length-le (digits-of p s) {i = i} (omega arith)) (spelled-none 10 x)) ∙ w .rest
+
+-- ---- leading zeros
+
+module _ {p : Bool} {s : Bytes} {i : ℕ} (w : Spelling p s i 0) where
+  pub spelling-zero : i < places p (length s) → getD (digits-of p s) i 0 ≡ 0 → Spelling p s (i + 1) 0
+  spelling-zero h e = rw e at (spelling-turn w h)
+
+  -- a digit that is not zero with m or more behind it: the magnitude has more than m digits
+  pub spelling-more : (m : ℕ) → m < places p (length s) - i → (getD (digits-of p s) i 0 ≡ 0 → ⊥) → ltb (magnitude-of p s) (10 ^ m) ≡ false
+  spelling-more m h e =
+      let l = length-digits-of p s in
+      let f = spelled-full 10 (getD (digits-of p s) i 0) (drop (i + 1) (digits-of p s)) (omega arith) in
+      let g : 10 ^ m ≤ 10 ^ length (drop (i + 1) (digits-of p s)) = pow-le-pow-right (lit< tt) (simp length-drop (omega arith)) in
+      le-ltb (magnitude-of p s) (10 ^ m) (rw (← w .rest, first w (omega arith)) (le-trans g f))
+
+  -- at most m digits are left
+  pub spelling-fits : (m : ℕ) → all-digits p s ≡ true → places p (length s) - i ≤ m → ltb (magnitude-of p s) (10 ^ m) ≡ true
+  spelling-fits m a h =
+      let l = length-digits-of p s in
+      let f = spelled-below 10 (drop i (digits-of p s)) (all-drop _ i (digits-of p s) (below-ten p s a)) in
+      let g : 10 ^ length (drop i (digits-of p s)) ≤ 10 ^ m = pow-le-pow-right (lit< tt) (simp length-drop (omega arith)) in
+      lt-ltb (magnitude-of p s) (10 ^ m) (rw (← w .rest) (lt-of-lt-of-le f g))
+
+-- no digits at all: zero
+pub zero-digits : (x : ℕ) → ltb 0 x ≡ not (ltb x (10 ^ 0))
+zero-digits x = by-order 0 x (λ h. rw (lt-ltb 0 x h, le-ltb x 1 h)) (λ h. rw (le-ltb 0 x h, lt-ltb x 1 (omega arith)))
+
+-- ---- the word of a value
+
+module _ {p : Bool} {s : Bytes} (v : Sound p s) where
+  word-is : word-of (value-of (meaning (decimal-format p) s))
+      ≡ pick (leb (magnitude-of p s) (suc greatest-word)) (Number (record { negative = is-minus p s; magnitude = magnitude-of p s })) Outside
+  unfolding word-of value-of
+  word-is = rw (v .means)
+
+  pub word-outside : suc greatest-word < magnitude-of p s → Outside ≡ word-of (value-of (meaning (decimal-format p) s))
+  word-outside h = sym (word-is ∙ rw (lt-leb _ _ h))
+
+  pub word-number : (below : Bool) (x : ℕ) → below ≡ is-minus p s → x ≡ magnitude-of p s → x ≤ suc greatest-word
+      → Number (record { negative = below; magnitude = x }) ≡ word-of (value-of (meaning (decimal-format p) s))
+  word-number below x e f h = sym (word-is ∙ rw (← e, ← f, le-leb _ _ h))
+
+-- ---- the magnitude's digits by their places
+
+module _ {p : Bool} {s : Bytes} (v : Readable p s) where
+  pub digit-place : (i k : ℕ) → i + (k + 1) ≡ places p (length s) → getD (digits-of p s) i 0 ≡ place 10 (magnitude-of p s) k
+  unfolding magnitude-of
+  digit-place i k e = sym (place-spelled 10 (digits-of p s) (below-ten p s (v .nines)) i k (e ∙ sym (length-digits-of p s)))
+
+  pub no-place : (k : ℕ) → places p (length s) ≤ k → 0 ≡ place 10 (magnitude-of p s) k
+  unfolding magnitude-of
+  no-place k h = sym (place-spelled-past 10 (digits-of p s) (below-ten p s (v .nines)) k (lit< tt) (rw (length-digits-of p s) h))

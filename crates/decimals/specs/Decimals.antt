@@ -1,0 +1,78 @@
+-- Formats P and U in one: the digits and the sign that bytes have, and the bytes that digits and a sign make.
+-- A Bool selects the format: true is P (packed), false is U (unpacked).
+use mathlib.Core.Bool.{Bool, true, false, _&&_, _||_}
+use mathlib.Core.List.{List, [], _∷_, _++_, map}
+use mathlib.Core.Path.{_≡_}
+use Prim.Native.Nat.{ℕ, zero, suc, _-_, _*_, _/_, _%_, _≤_, _<_}
+use lib.Dec.{eqb, leb, ltb}
+use lib.ListN.{length}
+use Rattle.rules.specs.Lists.{Bytes, all, spelled, digits, but-last, last}
+use Rattle.rules.specs.Values.{Format, packed, unpacked, halves, pairs, zoned, accepted-plus, accepted-minus, sign-written}
+
+unfoldable pub decimal-format : Bool → Format
+decimal-format true = packed
+decimal-format false = unpacked
+
+-- The digits, most significant first.
+unfoldable pub digits-of : Bool → Bytes → List ℕ
+digits-of true bs = but-last (halves bs)
+digits-of false bs = map (λ b. b % 16) bs
+
+unfoldable pub sign-of : Bool → Bytes → ℕ
+sign-of true bs = last (halves bs)
+sign-of false bs = last bs / 16
+
+unfoldable pub magnitude-of : Bool → Bytes → ℕ
+magnitude-of p bs = spelled 10 (digits-of p bs) 0
+
+-- Below zero: "zero with D means zero".
+unfoldable pub is-minus : Bool → Bytes → Bool
+is-minus p bs = accepted-minus (sign-of p bs) && ltb 0 (magnitude-of p bs)
+
+-- Whether every digit is one: at most 9.
+unfoldable pub all-digits : Bool → Bytes → Bool
+all-digits p bs = all (λ d. leb d 9) (digits-of p bs)
+
+-- Bytes whose digits can be read; so few that their digits can be counted.
+pub record Readable (p : Bool) (bs : Bytes) : Type 0 where
+  pub some : 0 < length bs
+  pub short : length bs ≤ 253
+  pub nines : all-digits p bs ≡ true
+
+-- How many digits n bytes hold.
+unfoldable pub places : Bool → ℕ → ℕ
+places true n = 2 * n - 1
+places false n = n
+
+-- The bytes that digits and a sign make.
+unfoldable pub encoded : Bool → List ℕ → ℕ → Bytes
+encoded true ds s = pairs (ds ++ (s ∷ []))
+encoded false ds s = zoned ds s
+
+-- The n bytes of a number in normal form.
+unfoldable pub written : Bool → ℕ → Bool → ℕ → Bytes
+written p n below x = encoded p (digits 10 (places p n) x) (sign-written below)
+
+-- The digit of a number in a base with k digits after it.
+unfoldable pub place : ℕ → ℕ → ℕ → ℕ
+place base x zero = x % base
+place base x (suc k) = place base (x / base) k
+
+-- An accepted sign.
+unfoldable pub is-sign : ℕ → Bool
+is-sign s = accepted-plus s || accepted-minus s
+
+-- What a byte before the last must be, and the last.
+unfoldable pub inner-byte : Bool → ℕ → Bool
+inner-byte true b = leb (b / 16) 9 && leb (b % 16) 9
+inner-byte false b = eqb (b / 16) 0xF && leb (b % 16) 9
+
+unfoldable pub last-byte : Bool → ℕ → Bool
+last-byte true b = leb (b / 16) 9 && is-sign (b % 16)
+last-byte false b = leb (b % 16) 9 && is-sign (b / 16)
+
+-- Whether bytes are a value, byte after byte.
+unfoldable pub value-bytes : Bool → Bytes → Bool
+value-bytes p [] = false
+value-bytes p (b ∷ []) = last-byte p b
+value-bytes p (b ∷ c ∷ bs) = inner-byte p b && value-bytes p (c ∷ bs)

@@ -1,0 +1,302 @@
+// Formats P and U: is it a value, is it in normal form, does it fit, and its bytes, between P and U and to and from numbers.
+// `packed` selects the format of a value, P where it is true, else U; `target` likewise that of the bytes to write.
+ghost use mathlib.Core.Path.{_≡_};
+ghost use mathlib.Core.Bool.{_&&_, true, false};
+ghost use Prim.Native.Nat.{_+_, _≤_, _<_, _^_};
+ghost use lib.Dec.{leb, ltb};
+ghost use lib.ListN.{length, getD};
+ghost use Rattle.rules.specs.Outcome.{is-done};
+ghost use Rattle.rules.specs.Lists.{bytes-of, digits};
+ghost use Rattle.rules.specs.Values.{meaning, normal, carried, in-normal-form, sign-written};
+ghost use Rattle.buffer.specs.Splice.{splice};
+ghost use Rattle.words.specs.Words.{signed-value, word-of, value-of};
+ghost use Rattle.decimals.specs.Decimals.{decimal-format, digits-of, sign-of, magnitude-of, is-minus, Readable, places, written, place, is-sign, inner-byte, last-byte};
+use words::Signed;
+use words::Word;
+
+// 2,147,483,648: no magnitude in a conversion range is greater.
+const GREATEST_MAGNITUDE: u64 = 2147483648;
+
+// "C and F for plus, D for minus".
+fn is_sign(h: u8) -> bool
+    ensures { λ r. ⌜ r ≡ is-sign h ⌝ }
+{
+    if h == 0xC {
+        return true;
+    }
+    if h == 0xF {
+        return true;
+    }
+    h == 0xD
+}
+
+// The halves of a last byte.
+fn digit_and_sign(d: u8, h: u8) -> bool
+    ensures { λ r. ⌜ r ≡ (leb d 9 && is-sign h) ⌝ }
+{
+    if d <= 9 { is_sign(h) } else { false }
+}
+
+// A byte before the last, and the last.
+fn inner_byte(b: u8, packed: bool) -> bool
+    ensures { λ r. ⌜ r ≡ inner-byte packed b ⌝ }
+{
+    if packed {
+        b / 16 <= 9 && b % 16 <= 9
+    } else {
+        b / 16 == 0xF && b % 16 <= 9
+    }
+}
+
+fn last_byte(b: u8, packed: bool) -> bool
+    ensures { λ r. ⌜ r ≡ last-byte packed b ⌝ }
+{
+    if packed {
+        digit_and_sign(b / 16, b % 16)
+    } else {
+        digit_and_sign(b % 16, b / 16)
+    }
+}
+
+// Whether s is a value.
+pub fn is_value(s: &[u8], packed: bool) -> bool
+    ensures { λ r. ⌜ r ≡ is-done (meaning (decimal-format packed) (now (s .entry))) ⌝ }
+{
+    let mut i = 0;
+    while i + 1 < s.len() {
+        if inner_byte(s[i], packed) {
+            i += 1;
+        } else {
+            return false;
+        }
+    }
+    if i < s.len() {
+        last_byte(s[i], packed)
+    } else {
+        false
+    }
+}
+
+// How many digits n bytes hold.
+fn digit_count(packed: bool, n: usize) -> usize
+    requires { ⌜ (0 < n) × (n ≤ 253) ⌝ }
+    ensures { λ r. ⌜ r ≡ places packed n ⌝ }
+{
+    if packed { 2 * n - 1 } else { n }
+}
+
+// The digit at i, from the left.
+fn digit(s: &[u8], packed: bool, i: usize) -> u8
+    requires { ⌜ (0 < length (now s)) × (i < places packed (length (now s))) ⌝ }
+    ensures { λ r. ⌜ r ≡ getD (digits-of packed (now (s .entry))) i 0 ⌝ }
+{
+    if packed {
+        if i % 2 == 0 {
+            s[i / 2] / 16
+        } else {
+            s[i / 2] % 16
+        }
+    } else {
+        s[i] % 16
+    }
+}
+
+// The sign's half byte.
+fn sign(s: &[u8], packed: bool) -> u8
+    requires { ⌜ 0 < length (now s) ⌝ }
+    ensures { λ r. ⌜ r ≡ sign-of packed (now (s .entry)) ⌝ }
+{
+    let b = s[s.len() - 1];
+    if packed { b % 16 } else { b / 16 }
+}
+
+// Whether the magnitude has at most m digits.
+fn within(s: &[u8], packed: bool, m: usize) -> bool
+    requires { ⌜ Readable packed (now s) ⌝ }
+    ensures { λ r. ⌜ r ≡ ltb (magnitude-of packed (now (s .entry))) (10 ^ m) ⌝ }
+{
+    let n = digit_count(packed, s.len());
+    let mut i = 0;
+    while m < n - i {
+        if digit(s, packed, i) != 0 {
+            return false;
+        }
+        i += 1;
+    }
+    true
+}
+
+// Whether it is below zero: zero is not, whatever its sign.
+fn negative(s: &[u8], packed: bool) -> bool
+    requires { ⌜ Readable packed (now s) ⌝ }
+    ensures { λ r. ⌜ r ≡ is-minus packed (now (s .entry)) ⌝ }
+{
+    if sign(s, packed) == 0xD {
+        !within(s, packed, 0)
+    } else {
+        false
+    }
+}
+
+// The sign of the normal form.
+fn written_sign(negative: bool) -> u8
+    ensures { λ r. ⌜ r ≡ sign-written negative ⌝ }
+{
+    if negative { 0xD } else { 0xF }
+}
+
+// Whether s is in normal form.
+pub fn is_normal(s: &[u8], packed: bool) -> bool
+    requires { ⌜ (0 < length (now s)) × (length (now s) ≤ 253) ⌝ }
+    ensures { λ r. ⌜ r ≡ in-normal-form (decimal-format packed) (length (now (s .entry))) (now (s .entry)) ⌝ }
+{
+    if is_value(s, packed) {
+        written_sign(negative(s, packed)) == sign(s, packed)
+    } else {
+        false
+    }
+}
+
+// Whether the value s fits n bytes.
+pub fn fits(s: &[u8], packed: bool, target: bool, n: usize) -> bool
+    requires { ⌜ (is-done (meaning (decimal-format packed) (now s)) ≡ true) × (length (now s) ≤ 253) × (0 < n) × (n ≤ 29) ⌝ }
+    ensures { λ r. ⌜ r ≡ is-done (carried (decimal-format packed) (decimal-format target) n (now (s .entry))) ⌝ }
+{
+    within(s, packed, digit_count(target, n))
+}
+
+// The number that s means.
+pub fn to_word(s: &[u8], packed: bool) -> Word
+    requires { ⌜ (is-done (meaning (decimal-format packed) (now s)) ≡ true) × (length (now s) ≤ 253) ⌝ }
+    ensures { λ r. ⌜ r ≡ word-of (value-of (meaning (decimal-format packed) (now (s .entry)))) ⌝ }
+{
+    let n = digit_count(packed, s.len());
+    let mut x: u64 = 0;
+    let mut i = 0;
+    while i < n {
+        let d = digit(s, packed, i);
+        x = x * 10 + d as u64;
+        if GREATEST_MAGNITUDE < x {
+            return Word::Outside;
+        }
+        i += 1;
+    }
+    Word::Number(Signed {
+        negative: negative(s, packed),
+        magnitude: x as u32,
+    })
+}
+
+// The digit of the magnitude with k digits after it: 0 past its first.
+fn digit_before(s: &[u8], packed: bool, k: usize) -> u8
+    requires { ⌜ Readable packed (now s) ⌝ }
+    ensures { λ r. ⌜ (r ≡ place 10 (magnitude-of packed (now (s .entry))) k) × (r < 10) ⌝ }
+{
+    let n = digit_count(packed, s.len());
+    if k < n {
+        digit(s, packed, n - 1 - k)
+    } else {
+        0
+    }
+}
+
+// Byte i of the n bytes of P with the digits of s.
+fn packed_byte(s: &[u8], packed: bool, negative: bool, n: usize, i: usize) -> u8
+    requires { ⌜ Readable packed (now s) × (i < n) × (n ≤ 29) ⌝ }
+    ensures { λ r. ⌜ r ≡ getD (written true n negative (magnitude-of packed (now (s .entry)))) i 0 ⌝ }
+{
+    let rest = n - 1 - i;
+    let d = digit_before(s, packed, 2 * rest);
+    if rest == 0 {
+        d * 16 + written_sign(negative)
+    } else {
+        d * 16 + digit_before(s, packed, 2 * rest - 1)
+    }
+}
+
+// Byte i of the n bytes of U with the digits of s.
+fn unpacked_byte(s: &[u8], packed: bool, negative: bool, n: usize, i: usize) -> u8
+    requires { ⌜ Readable packed (now s) × (i < n) × (n ≤ 29) ⌝ }
+    ensures { λ r. ⌜ r ≡ getD (written false n negative (magnitude-of packed (now (s .entry)))) i 0 ⌝ }
+{
+    let rest = n - 1 - i;
+    let d = digit_before(s, packed, rest);
+    if rest == 0 {
+        written_sign(negative) * 16 + d
+    } else {
+        0xF0 + d
+    }
+}
+
+// Byte i of the n bytes with the digits of s.
+fn written_byte(s: &[u8], packed: bool, negative: bool, target: bool, n: usize, i: usize) -> u8
+    requires { ⌜ Readable packed (now s) × (i < n) × (n ≤ 29) ⌝ }
+    ensures { λ r. ⌜ r ≡ getD (written target n negative (magnitude-of packed (now (s .entry)))) i 0 ⌝ }
+{
+    if target {
+        packed_byte(s, packed, negative, n, i)
+    } else {
+        unpacked_byte(s, packed, negative, n, i)
+    }
+}
+
+// The digits of s, with the sign of negative, to n bytes of out from at on.
+fn write_digits(
+    s: &[u8],
+    packed: bool,
+    negative: bool,
+    target: bool,
+    n: usize,
+    out: &mut [u8],
+    at: usize,
+)
+    requires { ⌜ Readable packed (now s) × (0 < n) × (n ≤ 29) × (at + n ≤ length (now out)) ⌝ }
+    ensures { λ _. ⌜ now (out .exit) ≡ splice at (written target n negative (magnitude-of packed (now (s .entry)))) (now (out .entry)) ⌝ }
+{
+    let mut i = n;
+    while 0 < i {
+        i -= 1;
+        out[at + i] = written_byte(s, packed, negative, target, n, i);
+    }
+}
+
+// The value s, which fits, to n bytes of out from at on.
+pub fn carry(s: &[u8], packed: bool, target: bool, n: usize, out: &mut [u8], at: usize)
+    requires { ⌜ (is-done (carried (decimal-format packed) (decimal-format target) n (now s)) ≡ true) × (length (now s) ≤ 253) × (0 < n) × (n ≤ 29) × (at + n ≤ length (now out)) ⌝ }
+    ensures { λ _. ⌜ now (out .exit) ≡ splice at (bytes-of (carried (decimal-format packed) (decimal-format target) n (now (s .entry)))) (now (out .entry)) ⌝ }
+{
+    write_digits(s, packed, negative(s, packed), target, n, out, at);
+}
+
+// The last ten digits of x, which are all.
+fn ten_digits(x: u32) -> [u8; 10]
+    ensures { λ r. ⌜ r ≡ digits 10 10 x ⌝ }
+{
+    let mut ds = [0u8; 10];
+    let mut rest = x;
+    let mut i = 10;
+    while 0 < i {
+        i -= 1;
+        ds[i] = (rest % 10) as u8;
+        rest = rest / 10;
+    }
+    ds
+}
+
+// Whether the number v fits n bytes.
+pub fn fits_word(v: Signed, packed: bool, n: usize) -> bool
+    requires { ⌜ (0 < n) × (n ≤ 29) ⌝ }
+    ensures { λ r. ⌜ r ≡ is-done (normal (decimal-format packed) n (signed-value v)) ⌝ }
+{
+    let ds = ten_digits(v.magnitude);
+    within(&ds, false, digit_count(packed, n))
+}
+
+// The number v, which fits, to n bytes of out from at on.
+pub fn write_word(v: Signed, packed: bool, n: usize, out: &mut [u8], at: usize)
+    requires { ⌜ (is-done (normal (decimal-format packed) n (signed-value v)) ≡ true) × (0 < n) × (n ≤ 29) × (at + n ≤ length (now out)) ⌝ }
+    ensures { λ _. ⌜ now (out .exit) ≡ splice at (bytes-of (normal (decimal-format packed) n (signed-value v))) (now (out .entry)) ⌝ }
+{
+    let ds = ten_digits(v.magnitude);
+    write_digits(&ds, false, v.negative, packed, n, out, at);
+}
