@@ -1,2 +1,3 @@
 pub mod Five
-pub mod Texts
+pub mod Lengths
+pub mod Strip

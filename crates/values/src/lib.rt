@@ -4,9 +4,11 @@ ghost use mathlib.Core.Path.{_≡_};
 ghost use Prim.Native.Nat.{_<_};
 ghost use Rattle.rules.specs.Values as Rules;
 ghost use Rattle.values.specs.Formats.{format-at, kind-of};
+
 pub mod texts;
 
 const ALPHA: usize = 0;
+
 const FIXED: usize = 2;
 
 // The least and greatest lengths of each format.
