@@ -1,3 +1,4 @@
 pub mod Five
 pub mod Lengths
 pub mod Strip
+pub mod Cuts

@@ -1,9 +1,12 @@
 // The five formats: which lengths they have, which convert, where a value ends, null, normal form, and a value carried from one to another.
 // A format is a number: 0 A, 1 B, 2 F, 3 P, 4 U.
 ghost use mathlib.Core.Path.{_≡_};
-ghost use Prim.Native.Nat.{_<_};
+ghost use Prim.Native.Nat.{_<_, _≤_};
+ghost use lib.ListN.{length, drop};
+ghost use Rattle.rules.specs.Values.{first-value};
 ghost use Rattle.rules.specs.Values as Rules;
 ghost use Rattle.values.specs.Formats.{format-at, kind-of};
+ghost use Rattle.values.specs.Places.{Found};
 
 pub mod texts;
 
@@ -100,4 +103,51 @@ pub fn converts(row: usize, column: usize) -> bool
         Kind::Word => true,
         Kind::Natural => true,
     }
+}
+
+// Where the first value of a run of bytes lies: its content, without its length byte, and the place after it.
+pub enum First {
+    Value(usize, usize),
+    Refused(u8),
+}
+
+fn wide(x: u8) -> usize
+    ensures { λ r. ⌜ r ≡ x ⌝ }
+{
+    x as usize
+}
+
+// The first value of length 0 from at on.
+fn first_variable(s: &[u8], at: usize) -> First
+    requires { ⌜ at ≤ length (now s) ⌝ }
+    ensures { λ r. ⌜ Found (now (s .entry)) at (first-value 0 (drop at (now (s .entry)))) r ⌝ }
+{
+    if at == s.len() {
+        return First::Refused(7);
+    }
+    let count = wide(s[at]);
+    if count == 0 {
+        return First::Refused(8);
+    }
+    if count == 255 {
+        return First::Refused(8);
+    }
+    if s.len() - at < count {
+        return First::Refused(7);
+    }
+    First::Value(at + 1, at + count)
+}
+
+// The first value of a length from at on.
+pub fn first_value(s: &[u8], at: usize, size: usize) -> First
+    requires { ⌜ at ≤ length (now s) ⌝ }
+    ensures { λ r. ⌜ Found (now (s .entry)) at (first-value size (drop at (now (s .entry)))) r ⌝ }
+{
+    if size == 0 {
+        return first_variable(s, at);
+    }
+    if s.len() - at < size {
+        return First::Refused(7);
+    }
+    First::Value(at, at + size)
 }
