@@ -119,7 +119,7 @@ module _ (s : Bytes) (n : ℕ) (b : Below 256 s) (fits : is-done (carried binary
   pub padded-bytes : length s ≤ n → bytes-of (carried binary binary n s) ≡ replicate (n - length s) 0 ++ s
   padded-bytes h =
       let e : n ≡ length s + (n - length s) = omega arith in
-      bytes-are ∙ ap (λ m. digits 256 m (spelled 256 s 0)) e ∙ digits-spelled s (n - length s) 0 b ∙ rw (digits-zero (n - length s))
+      bytes-are ∙ ap (λ m. digits 256 m (spelled 256 s 0)) e ∙ digits-spelled s (n - length s) 0 b ∙ rw (digits-zero 256 (n - length s))
 
 -- The word of a number.
 number-word : ℕ → Word

@@ -2,3 +2,4 @@ pub mod Five
 pub mod Lengths
 pub mod Strip
 pub mod Cuts
+pub mod Nulls

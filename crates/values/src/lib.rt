@@ -1,9 +1,11 @@
 // The five formats: which lengths they have, which convert, where a value ends, null, normal form, and a value carried from one to another.
 // A format is a number: 0 A, 1 B, 2 F, 3 P, 4 U.
 ghost use mathlib.Core.Path.{_≡_};
-ghost use Prim.Native.Nat.{_<_, _≤_};
+ghost use mathlib.Core.Bool.{true};
+ghost use Prim.Native.Nat.{_+_, _<_, _≤_};
 ghost use lib.ListN.{length, drop};
-ghost use Rattle.rules.specs.Values.{first-value};
+ghost use Rattle.rules.specs.Values.{packed, first-value, null};
+ghost use Rattle.buffer.specs.Splice.{splice};
 ghost use Rattle.rules.specs.Values as Rules;
 ghost use Rattle.values.specs.Formats.{format-at, kind-of};
 ghost use Rattle.values.specs.Places.{Found};
@@ -13,6 +15,8 @@ pub mod texts;
 const ALPHA: usize = 0;
 
 const FIXED: usize = 2;
+
+const PACKED: usize = 3;
 
 // The least and greatest lengths of each format.
 const LEAST: [usize; 5] = [0, 1, 2, 1, 1];
@@ -150,4 +154,41 @@ pub fn first_value(s: &[u8], at: usize, size: usize) -> First
         return First::Refused(7);
     }
     First::Value(at, at + size)
+}
+
+// The length of null, its length byte included.
+pub fn null_length(format: usize, size: usize) -> usize
+    requires { ⌜ (format < 5) × (Rules.allowed (format-at format) size ≡ true) ⌝ }
+    ensures { λ r. ⌜ r ≡ length (null (format-at format) size) ⌝ }
+{
+    if size == 0 { 1 } else { size }
+}
+
+// What null is filled with; the last byte of P has the sign too.
+const NULLS: [u8; 5] = [0x40, 0, 0, 0, 0xF0];
+
+// Null of format P, to out from at on.
+fn write_packed_null(size: usize, out: &mut [u8], at: usize)
+    requires { ⌜ (0 < size) × (at + size ≤ length (now out)) ⌝ }
+    ensures { λ _. ⌜ now (out .exit) ≡ splice at (null packed size) (now (out .entry)) ⌝ }
+{
+    let end = at + (size - 1);
+    buffer::fill(out, at, size - 1, 0);
+    out[end] = 0x0F;
+}
+
+// Null, to out from at on.
+pub fn write_null(format: usize, size: usize, out: &mut [u8], at: usize)
+    requires { ⌜ (format < 5) × (Rules.allowed (format-at format) size ≡ true) × (at + length (null (format-at format) size) ≤ length (now out)) ⌝ }
+    ensures { λ _. ⌜ now (out .exit) ≡ splice at (null (format-at format) size) (now (out .entry)) ⌝ }
+{
+    if size == 0 {
+        out[at] = 1;
+    } else {
+        if format == PACKED {
+            write_packed_null(size, out, at);
+        } else {
+            buffer::fill(out, at, size, NULLS[format]);
+        }
+    }
 }

@@ -2,7 +2,7 @@
 use mathlib.Core.Path.{_≡_, refl, sym, _∙_}
 use mathlib.Core.List.{List, [], _∷_, _++_, append-nil, append-assoc}
 use Prim.Native.Nat.{ℕ, zero, suc, _+_, _*_, _-_, _/_, _%_, _^_, _≤_, _<_}
-use native.Mathlib.Nat.{pow-zero, pow-suc, mul-le-mul-right, zero-add, add-zero, div-add-mod', div-lt-iff-lt-mul}
+use native.Mathlib.Nat.{pow-zero, pow-suc, mul-le-mul-right, zero-add, add-zero, div-add-mod', div-lt-iff-lt-mul, zero-div, zero-mod}
 use native.Mathlib.Numerals.{add-one}
 use native.Mathlib.Omega.{arith}
 use lib.ListN.{length, getD, replicate, length-append, replicate-append-replicate}
@@ -72,7 +72,8 @@ pub own-digits : (ds : List ℕ) → Below 256 ds → digits 256 (length ds) (sp
 unfolding digits
 own-digits ds h = rw add-zero at (digits-spelled ds 0 0 h)
 
-pub digits-zero : (k : ℕ) → digits 256 k 0 ≡ replicate k 0
+-- Zero has zeros for digits.
+pub digits-zero : (b k : ℕ) → digits b k 0 ≡ replicate k 0
 unfolding digits
-digits-zero zero = refl
-digits-zero (suc k) = rw (digits-zero k, replicate-append-replicate {A = ℕ} k 1 0, add-one)
+digits-zero b zero = refl
+digits-zero b (suc k) = rw (zero-div, zero-mod, digits-zero b k, replicate-append-replicate {A = ℕ} k 1 0, add-one)

@@ -3,9 +3,6 @@ use Rattle.values.proofs.Cuts.{own-short, own-found, at-zero}
 use borrow.Author.Needs.{needs}
 use Rattle.values.proofs.first_value.Statement.{statement}
 use Rattle.values.proofs.first_value.Tie as tie
-use Rattle.values.proofs.first_value.Reads as reads
-use Rattle.values.proofs.first_value.Lts as lts
-use Rattle.values.proofs.first_variable.Reads as first-variable-reads
 
 first-variable-requires : tie.Need-first-variable-requires
 first-variable-requires c κs = search needs

@@ -1,13 +1,9 @@
 -- `values::first_variable` meets its contract: a law of `first-value` for each answer.
-use Prim.Native.Nat.{_≤_}
 use native.Mathlib.Omega.{arith}
 use Rattle.values.proofs.Cuts.{none-left, bad-zero, bad-255, counted-short, counted-found}
 use borrow.Author.Needs.{needs}
 use Rattle.values.proofs.first_variable.Statement.{statement}
 use Rattle.values.proofs.first_variable.Tie as tie
-use Rattle.values.proofs.first_variable.Reads as reads
-use Rattle.values.proofs.first_variable.Lts as lts
-use Rattle.values.proofs.wide.Reads as wide-reads
 
 returns : tie.Need-returns
 returns c = none-left _ _ (omega arith)
