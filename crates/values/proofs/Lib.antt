@@ -3,3 +3,5 @@ pub mod Lengths
 pub mod Strip
 pub mod Cuts
 pub mod Nulls
+pub mod Numbered
+pub mod Carried

@@ -1,4 +1,5 @@
 -- Formats by number, and what the code's kinds of conversion mean.
+use mathlib.Core.Bool.{Bool, true, false}
 use Prim.Native.Nat.{ℕ, zero, suc}
 use Rattle.rules.specs.Values.{Format, alpha, binary, fixed, packed, unpacked, never, every, word, natural}
 use Rattle.rules.specs.Values as Rules
@@ -18,3 +19,8 @@ kind-of Never = never
 kind-of Every = every
 kind-of Word = word
 kind-of Natural = natural
+
+-- The conversion ranges: of words not below zero, and of words.
+abbrev pub ranged : Bool → Rules.Kind
+ranged true = natural
+ranged false = word

@@ -2,21 +2,26 @@
 // A format is a number: 0 A, 1 B, 2 F, 3 P, 4 U.
 ghost use mathlib.Core.Path.{_≡_};
 ghost use mathlib.Core.Bool.{true};
+ghost use mathlib.Core.Logic.{_⊎_};
 ghost use Prim.Native.Nat.{_+_, _<_, _≤_};
 ghost use lib.ListN.{length, drop};
-ghost use Rattle.rules.specs.Values.{packed, first-value, null};
+ghost use Rattle.rules.specs.Outcome.{is-done};
+ghost use Rattle.rules.specs.Lists.{bytes-of};
+ghost use Rattle.rules.specs.Values.{packed, first-value, null, in-normal-form, carried};
 ghost use Rattle.buffer.specs.Splice.{splice};
 ghost use Rattle.rules.specs.Values as Rules;
 ghost use Rattle.values.specs.Formats.{format-at, kind-of};
 ghost use Rattle.values.specs.Places.{Found};
+ghost use Rattle.values.specs.Fits.{fitted, size-of};
 
+pub mod carrying;
+pub mod numbers;
 pub mod texts;
 
-const ALPHA: usize = 0;
-
-const FIXED: usize = 2;
-
-const PACKED: usize = 3;
+pub const ALPHA: usize = 0;
+pub const BINARY: usize = 1;
+pub const FIXED: usize = 2;
+pub const PACKED: usize = 3;
 
 // The least and greatest lengths of each format.
 const LEAST: [usize; 5] = [0, 1, 2, 1, 1];
@@ -189,6 +194,60 @@ pub fn write_null(format: usize, size: usize, out: &mut [u8], at: usize)
             write_packed_null(size, out, at);
         } else {
             buffer::fill(out, at, size, NULLS[format]);
+        }
+    }
+}
+
+// Whether s, the content of a value without its length byte, is in normal form.
+pub fn is_normal(s: &[u8], format: usize, size: usize) -> bool
+    requires { ⌜ (format < 5) × (Rules.allowed (format-at format) size ≡ true) × (((size ≡ 0) × (length (now s) ≤ 253)) ⊎ (size ≡ length (now s))) ⌝ }
+    ensures { λ r. ⌜ r ≡ in-normal-form (format-at format) size (now (s .entry)) ⌝ }
+{
+    if format == ALPHA {
+        return texts::is_normal_text(s, size);
+    }
+    if format < PACKED {
+        return true;
+    }
+    decimals::is_normal(s, format == PACKED)
+}
+
+// Whether a value fits: the length of its bytes, or a refusal.
+pub enum Fit {
+    Bytes(usize),
+    Refused(u8),
+}
+
+// What the content s of a value gives at another format and length n.
+pub fn fits(s: &[u8], from: usize, to: usize, n: usize) -> Fit
+    requires { ⌜ (from < 5) × (to < 5) × (Rules.allowed (format-at from) (length (now s)) ≡ true) × (Rules.allowed (format-at to) n ≡ true) ⌝ }
+    ensures { λ r. ⌜ fitted r ≡ size-of (carried (format-at from) (format-at to) n (now (s .entry))) ⌝ }
+{
+    if numbers::is_value(s, from) {
+        if carrying::carries(s, from, to, n) {
+            return Fit::Bytes(carrying::carried_size(s, n));
+        }
+        return Fit::Refused(9);
+    }
+    Fit::Refused(8)
+}
+
+// The content s of a value at another format and length n, to out from at on.
+pub fn carry(s: &[u8], from: usize, to: usize, n: usize, out: &mut [u8], at: usize)
+    requires { ⌜ (from < 5) × (to < 5) × (Rules.allowed (format-at from) (length (now s)) ≡ true) × (Rules.allowed (format-at to) n ≡ true) × (is-done (carried (format-at from) (format-at to) n (now s)) ≡ true) × (at + length (bytes-of (carried (format-at from) (format-at to) n (now s))) ≤ length (now out)) ⌝ }
+    ensures { λ _. ⌜ now (out .exit) ≡ splice at (bytes-of (carried (format-at from) (format-at to) n (now (s .entry)))) (now (out .entry)) ⌝ }
+{
+    let kind = conversion(from, to);
+    match kind {
+        Kind::Never => {}
+        Kind::Every => {
+            carrying::carry_every(s, from, to, n, out, at);
+        }
+        Kind::Word => {
+            carrying::carry_word(s, from, to, n, out, at);
+        }
+        Kind::Natural => {
+            carrying::carry_word(s, from, to, n, out, at);
         }
     }
 }
