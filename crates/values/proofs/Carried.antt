@@ -13,7 +13,7 @@ use Rattle.rules.specs.Characters.{space}
 use Rattle.rules.specs.Lists.{Bytes, bytes-of, digits, all, but-last, last}
 use Rattle.rules.specs.Values.{Format, alpha, binary, fixed, packed, unpacked, Value, text, number, allowed, strip, halves, decimal, sign-means, accepted-plus, accepted-minus, meaning, normal, conversion, never, every, word, natural, in-range, converted, carried}
 use Rattle.rules.specs.Values as Rules
-use Rattle.rules.proofs.Steps.{from-need, done-inj, not-done, bind-done, by-test}
+use Rattle.rules.proofs.Steps.{from-need, done-inj, not-done, T-true}
 use Rattle.buffer.proofs.Cases.{by-order}
 use Rattle.words.specs.Words.{pick, signed-value, word-of, value-of}
 use Rattle.words.specs.declared.Signed.{Signed}
@@ -21,7 +21,7 @@ use Rattle.words.specs.declared.Word.{Word}
 use Rattle.words.specs.declared.Word.the-variants.{Number, Outside}
 use Rattle.words.proofs.Digits.{length-digits}
 use Rattle.decimals.specs.Decimals.{decimal-format, written}
-use Rattle.decimals.proofs.Normal.{normal-fits, normal-done}
+use Rattle.decimals.proofs.Normal.{normal-fits, normal-done, carried-value}
 use Rattle.decimals.proofs.Written.{length-written}
 use Rattle.values.specs.Formats.{format-at, ranged}
 use Rattle.values.specs.Fits.{size-of, carried-length}
@@ -211,5 +211,117 @@ plus-range false n = below-is n
 need-length : (t : Bool) (b c : Bytes) (n : ℕ) → length b ≡ n → (need t 9 >>= λ _. done b) ≡ done c → length c ≡ n
 need-length t b c n l e = from-need t 9 _ e λ _ k. ap length (sym (done-inj k)) ∙ l
 
+text-length : (n : ℕ) (t : Bytes) {b : Bytes} → 0 < n → normal alpha n (text t) ≡ done b → length b ≡ n
+unfolding normal
+text-length zero t h e = absurd (not-suc-le-zero h)
+text-length (suc n) t {b} h e =
+    from-need (leb (length t) (suc n)) 9 _ e λ l k.
+    let q = leb→le (length t) (suc n) l in
+    ap length (sym (done-inj k)) ∙ length-append t (replicate (suc n - length t) space) ∙ rw (length-replicate (suc n - length t) space) (omega arith)
+
+decimal-length : (p : Bool) (n : ℕ) (below : Bool) (x : ℕ) {b : Bytes} → 0 < n → normal (decimal-format p) n (number below x) ≡ done b → length b ≡ n
+decimal-length p n below x {b} h e =
+    let d : is-done (normal (decimal-format p) n (number below x)) ≡ true = ap is-done e in
+    ap length (sym (done-inj (sym (normal-done p n below x (sym (normal-fits p n below x) ∙ d)) ∙ e))) ∙ length-written p n below x h
+
 pub normal-length : (f : Format) (n : ℕ) (v : Value) {b : Bytes} → 0 < n → normal f n v ≡ done b → length b ≡ n
-normal-length f n v h e = ?
+unfolding normal decimal-format
+normal-length alpha n (text t) h e = text-length n t h e
+normal-length alpha zero (number below x) h e = absurd (not-done e)
+normal-length alpha (suc n) (number below x) h e = absurd (not-done e)
+normal-length binary n (text t) h e = absurd (not-done e)
+normal-length binary n (number false x) {b} h e = need-length (ltb x (256 ^ n)) (digits 256 n x) b n (length-digits 256 n x) e
+normal-length binary n (number true x) h e = absurd (not-done e)
+normal-length fixed n (text t) h e = absurd (not-done e)
+normal-length fixed n (number false x) {b} h e = need-length (ltb x (2 ^ (8 * n - 1))) (digits 256 n x) b n (length-digits 256 n x) e
+normal-length fixed n (number true x) {b} h e = need-length (leb x (2 ^ (8 * n - 1))) (digits 256 n (2 ^ (8 * n) - x)) b n (length-digits 256 n (2 ^ (8 * n) - x)) e
+normal-length packed n (text t) h e = absurd (not-done e)
+normal-length packed n (number below x) h e = decimal-length true n below x h e
+normal-length unpacked n (text t) h e = absurd (not-done e)
+normal-length unpacked n (number below x) h e = decimal-length false n below x h e
+
+-- With a length byte: one more than the text.
+pub normal-length-0 : (t : Bytes) {b : Bytes} → normal alpha 0 (text t) ≡ done b → length b ≡ suc (length t)
+unfolding normal
+normal-length-0 t {b} e = need-length (leb (length t) 253) (suc (length t) ∷ t) b (suc (length t)) refl e
+
+-- The length of a value that is carried.
+converted-done : (f g : Format) (n : ℕ) (v : Value) {b : Bytes} → converted f g n v ≡ done b → (in-range (conversion f g) v ≡ true) × (normal g n v ≡ done b)
+unfolding converted
+converted-done f g n v e = from-need (in-range (conversion f g) v) 9 _ e λ t k. (T-true (in-range (conversion f g) v) t, k)
+
+done-bytes : (o : Outcome Bytes) → is-done o ≡ true → o ≡ done (bytes-of o)
+unfolding bytes-of
+done-bytes (done b) e = refl
+done-bytes (refused k) e = cc
+
+module _ (f g : Format) (n : ℕ) (bs : Bytes) (d : is-done (carried f g n bs) ≡ true) where
+  pub carried-means : is-done (meaning f bs) ≡ true
+  carried-means = carried-value f g n bs d
+
+  written-as : (in-range (conversion f g) (value-of (meaning f bs)) ≡ true) × (normal g n (value-of (meaning f bs)) ≡ done (bytes-of (carried f g n bs)))
+  written-as = converted-done f g n (value-of (meaning f bs)) (sym (carried-by f g n bs carried-means) ∙ done-bytes (carried f g n bs) d)
+
+  pub carried-size : 0 < n → length (bytes-of (carried f g n bs)) ≡ n
+  carried-size h = normal-length g n (value-of (meaning f bs)) h (written-as .1)
+
+-- Length 0 is for A, and to A only A converts.
+only-alpha : (f : Format) (v : Value) → in-range (conversion f alpha) v ≡ true → f ≡ alpha
+unfolding conversion in-range
+only-alpha alpha v e = refl
+only-alpha binary v e = cc
+only-alpha fixed v e = cc
+only-alpha packed v e = cc
+only-alpha unpacked v e = cc
+
+only-alpha-0 : (g : Format) → allowed g 0 ≡ true → g ≡ alpha
+unfolding allowed
+only-alpha-0 alpha e = refl
+only-alpha-0 binary e = cc
+only-alpha-0 fixed e = cc
+only-alpha-0 packed e = cc
+only-alpha-0 unpacked e = cc
+
+text-size-0 : (bs : Bytes) → is-done (carried alpha alpha 0 bs) ≡ true → length (bytes-of (carried alpha alpha 0 bs)) ≡ suc (length (strip bs))
+unfolding carried converted conversion in-range meaning
+text-size-0 bs d = normal-length-0 (strip bs) (done-bytes (normal alpha 0 (text (strip bs))) d)
+
+pub carried-size-is : (f g : Format) (n : ℕ) (bs : Bytes) → allowed g n ≡ true → is-done (carried f g n bs) ≡ true
+    → carried-length n bs ≡ length (bytes-of (carried f g n bs))
+unfolding carried-length
+carried-size-is f g zero bs a d =
+    let q : g ≡ alpha = only-alpha-0 g a in
+    let p : f ≡ alpha = only-alpha f (value-of (meaning f bs)) (ap (λ h. in-range (conversion f h) (value-of (meaning f bs))) (sym q) ∙ written-as f g 0 bs d .0) in
+    sym (rw (q, p) (text-size-0 bs (rw (q, p) at d)))
+carried-size-is f g (suc n) bs a d = sym (carried-size f g (suc n) bs d (omega arith))
+
+pub size-0 : (s : Bytes) (n r : ℕ) → n ≡ 0 → length (strip s) ≡ r → r + 1 ≡ carried-length n s
+unfolding carried-length
+size-0 s n r z e = rw (z, e) (omega arith)
+
+pub size-n : (s : Bytes) (n : ℕ) → (n ≡ 0 → ⊥) → n ≡ carried-length n s
+unfolding carried-length
+size-n s zero z = absurd (z refl)
+size-n s (suc n) z = refl
+
+-- A value that is a word, carried through it.
+module _ (f g : Format) (n : ℕ) (bs : Bytes) (e : is-done (meaning f bs) ≡ true) (b : Bool) (c : conversion f g ≡ ranged b) (v : Signed)
+    (w : word-of (value-of (meaning f bs)) ≡ Number v) where
+  is-word : value-of (meaning f bs) ≡ signed-value v
+  is-word = word-number (value-of (meaning f bs)) v w .0
+
+  pub word-small : v .magnitude ≤ 2147483648
+  word-small = word-number (value-of (meaning f bs)) v w .1
+
+  pub word-in : in-range (ranged b) (signed-value v) ≡ true → is-done (normal g n (signed-value v)) ≡ is-done (carried f g n bs)
+  word-in h = sym (rw is-word at (in-the-range f g n bs e (ranged b) c (rw is-word h)))
+
+  pub word-out : in-range (ranged b) (signed-value v) ≡ false → false ≡ is-done (carried f g n bs)
+  word-out h = sym (out-of-range f g n bs e (ranged b) c (rw is-word h))
+
+  pub word-written : is-done (carried f g n bs) ≡ true → carried f g n bs ≡ normal g n (signed-value v)
+  word-written d = rw is-word at (carried-normal f g n bs e (ranged b) c (carried-range f g n bs e (ranged b) c d))
+
+pub word-beyond : (f g : Format) (n : ℕ) (bs : Bytes) → is-done (meaning f bs) ≡ true → (b : Bool) → conversion f g ≡ ranged b
+    → word-of (value-of (meaning f bs)) ≡ Outside → is-done (carried f g n bs) ≡ false
+word-beyond f g n bs e b c w = out-of-range f g n bs e (ranged b) c (word-outside (value-of (meaning f bs)) b w)

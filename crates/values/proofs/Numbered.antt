@@ -7,9 +7,9 @@ use native.Mathlib.Omega.{arith}
 use lib.Dec.{eqb, leb}
 use lib.ListN.{getD}
 use borrow.Author.Tests.{leb-true, eqb-true}
-use Rattle.rules.specs.Values.{alpha, binary, fixed, allowed}
+use Rattle.rules.specs.Values.{Format, alpha, binary, fixed, packed, unpacked, allowed, Kind, never, every, word, natural, conversion}
 use Rattle.decimals.specs.Decimals.{decimal-format}
-use Rattle.values.specs.Formats.{format-at}
+use Rattle.values.specs.Formats.{format-at, ranged}
 use Rattle.values.proofs.Five.{five}
 use Rattle.values.proofs.Lengths.{least, greatest, allowed-is}
 
@@ -73,3 +73,71 @@ either n e = go (eqb n 2) refl (eqb n 4) refl e
 pub two-four : (k n : ℕ) → k ≡ 2 → allowed (format-at k) n ≡ true → (n ≡ 2) ⊎ (n ≡ 4)
 unfolding allowed format-at
 two-four k n e a = either n (rw e at a)
+
+-- Which numbers convert: all values of a format to itself and between P and U, ranges between numbers alone.
+pub every-low : (from to : ℕ) → from < 5 → to < 5 → from < 3 → conversion (format-at from) (format-at to) ≡ every → to ≡ from
+unfolding conversion format-at
+every-low from to h l =
+    five (λ from. from < 3 → conversion (format-at from) (format-at to) ≡ every → to ≡ from)
+    (λ _. five (λ to. conversion alpha (format-at to) ≡ every → to ≡ 0) (λ _. refl) (λ e. cc) (λ e. cc) (λ e. cc) (λ e. cc) to l)
+    (λ _. five (λ to. conversion binary (format-at to) ≡ every → to ≡ 1) (λ e. cc) (λ _. refl) (λ e. cc) (λ e. cc) (λ e. cc) to l)
+    (λ _. five (λ to. conversion fixed (format-at to) ≡ every → to ≡ 2) (λ e. cc) (λ e. cc) (λ _. refl) (λ e. cc) (λ e. cc) to l)
+    (λ q. absurd (omega arith))
+    (λ q. absurd (omega arith))
+    from h
+
+-- The kinds as numbers, so that two different ones are never equal.
+abbrev code : Kind → ℕ
+code never = 0
+code every = 1
+code word = 2
+code natural = 3
+
+apart : {A : Type 0} (j k : Kind) → j ≡ k → (code j ≡ code k → ⊥) → A
+apart j k e f = absurd (f (ap code e))
+
+pub every-high : (from to : ℕ) → from < 5 → to < 5 → 3 ≤ from → conversion (format-at from) (format-at to) ≡ every → 3 ≤ to
+unfolding conversion format-at
+every-high from to h l =
+    five (λ from. 3 ≤ from → conversion (format-at from) (format-at to) ≡ every → 3 ≤ to)
+    (λ q. absurd (omega arith))
+    (λ q. absurd (omega arith))
+    (λ q. absurd (omega arith))
+    (λ _. five (λ to. conversion packed (format-at to) ≡ every → 3 ≤ to) (λ e. apart never every e (λ q. omega arith)) (λ e. apart natural every e (λ q. omega arith)) (λ e. apart word every e (λ q. omega arith)) (λ _. omega arith) (λ _. omega arith) to l)
+    (λ _. five (λ to. conversion unpacked (format-at to) ≡ every → 3 ≤ to) (λ e. apart never every e (λ q. omega arith)) (λ e. apart natural every e (λ q. omega arith)) (λ e. apart word every e (λ q. omega arith)) (λ _. omega arith) (λ _. omega arith) to l)
+    from h
+
+to-alpha : (f : Format) (b : Bool) → conversion f alpha ≡ ranged b → ⊥
+unfolding conversion
+to-alpha alpha true e = apart every natural e (λ q. omega arith)
+to-alpha alpha false e = apart every word e (λ q. omega arith)
+to-alpha binary true e = apart never natural e (λ q. omega arith)
+to-alpha binary false e = apart never word e (λ q. omega arith)
+to-alpha fixed true e = apart never natural e (λ q. omega arith)
+to-alpha fixed false e = apart never word e (λ q. omega arith)
+to-alpha packed true e = apart never natural e (λ q. omega arith)
+to-alpha packed false e = apart never word e (λ q. omega arith)
+to-alpha unpacked true e = apart never natural e (λ q. omega arith)
+to-alpha unpacked false e = apart never word e (λ q. omega arith)
+
+from-alpha : (g : Format) (b : Bool) → conversion alpha g ≡ ranged b → ⊥
+unfolding conversion
+from-alpha alpha true e = apart every natural e (λ q. omega arith)
+from-alpha alpha false e = apart every word e (λ q. omega arith)
+from-alpha binary true e = apart never natural e (λ q. omega arith)
+from-alpha binary false e = apart never word e (λ q. omega arith)
+from-alpha fixed true e = apart never natural e (λ q. omega arith)
+from-alpha fixed false e = apart never word e (λ q. omega arith)
+from-alpha packed true e = apart never natural e (λ q. omega arith)
+from-alpha packed false e = apart never word e (λ q. omega arith)
+from-alpha unpacked true e = apart never natural e (λ q. omega arith)
+from-alpha unpacked false e = apart never word e (λ q. omega arith)
+
+above-zero : (n : ℕ) → (n ≡ 0 → ⊥) → 0 < n
+above-zero n z = omega (arith, z)
+
+pub ranged-from : (from to : ℕ) (b : Bool) → conversion (format-at from) (format-at to) ≡ ranged b → 0 < from
+ranged-from from to b e = above-zero from (λ z. from-alpha (format-at to) b (rw (at-alpha from z) at e))
+
+pub ranged-to : (from to : ℕ) (b : Bool) → conversion (format-at from) (format-at to) ≡ ranged b → 0 < to
+ranged-to from to b e = above-zero to (λ z. to-alpha (format-at from) b (rw (at-alpha to z) at e))
