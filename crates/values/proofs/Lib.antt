@@ -5,3 +5,4 @@ pub mod Cuts
 pub mod Nulls
 pub mod Numbered
 pub mod Carried
+pub mod Chosen

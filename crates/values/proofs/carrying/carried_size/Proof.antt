@@ -1,3 +1,8 @@
+-- `values::carrying::carried_size` meets its contract, length 0 apart.
+use mathlib.Core.Path.{ap, _∙_}
+use lib.ListN.{length}
+use lib.Seq.{length-take-le}
+use Rattle.values.proofs.Carried.{size-0, size-n}
 use borrow.Author.Needs.{needs}
 use Rattle.values.proofs.carrying.carried_size.Statement.{statement}
 use Rattle.values.proofs.carrying.carried_size.Tie as tie
@@ -5,21 +10,20 @@ use Rattle.values.proofs.carrying.carried_size.Reads as reads
 use Rattle.values.proofs.carrying.carried_size.Lts as lts
 use Rattle.values.proofs.texts.text_length.Reads as text-length-reads
 
--- src/carrying.rt:89:16
 text-length-requires : tie.Need-text-length-requires
 text-length-requires c κs = search needs
 
--- src/carrying.rt:89:16
 add-result : tie.Need-add-result
 add-result c = search needs
 
--- src/carrying.rt:89:9
 returns : tie.Need-returns
-returns c = ?
+returns c =
+    let t = c .text-length in
+    let a = c .before .before .before in
+    size-0 (a .args .s .now) (a .args .n) (t .result) (c .before .if1 .taken) (ap length (t .ensures .1) ∙ length-take-le (t .result) (a .args .s .now) (t .ensures .0))
 
--- src/carrying.rt:84:1
 returns-2 : tie.Need-returns-2
-returns-2 c = ?
+returns-2 c = let a = c .before .before in size-n (a .args .s .now) (a .args .n) (c .if1 .left)
 
 pub carried-size-spec : {M : Type 1} → statement M
 carried-size-spec = tie.close (tie.spec text-length-requires add-result returns returns-2)

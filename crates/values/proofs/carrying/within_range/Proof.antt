@@ -1,15 +1,16 @@
+-- `values::carrying::within_range` meets its contract, by the sign.
+use Rattle.values.proofs.Carried.{minus-range, plus-range}
+use borrow.Author.Needs.{needs}
 use Rattle.values.proofs.carrying.within_range.Statement.{statement}
 use Rattle.values.proofs.carrying.within_range.Tie as tie
 use Rattle.values.proofs.carrying.within_range.Reads as reads
 use Rattle.values.proofs.carrying.within_range.Lts as lts
 
--- src/carrying.rt:47:9
 returns : tie.Need-returns
-returns c = ?
+returns c = rw (c .if1 .taken) (minus-range (c .before .args .natural) _ (c .before .pre))
 
--- src/carrying.rt:42:1
 returns-2 : tie.Need-returns-2
-returns-2 c = ?
+returns-2 c = rw (c .before .if1 .left) (plus-range (c .before .before .args .natural) _)
 
 pub within-range-spec : {M : Type 1} → statement M
 within-range-spec = tie.close (tie.spec returns returns-2)
