@@ -1,3 +1,12 @@
+-- `values::carrying::carries` meets its contract, kind by kind.
+use Prim.Native.Nat.{_≤_, _+_}
+use native.Mathlib.Omega.{arith}
+use mathlib.Core.Path.{_≡_, refl, sym, ap, _∙_}
+use Rattle.rules.specs.Values.{conversion}
+use Rattle.values.specs.Formats.{format-at, kind-of}
+use Rattle.values.specs.declared.Kind.{Kind}
+use Rattle.values.specs.declared.Kind.the-variants.{Never, Every, Word, Natural}
+use Rattle.values.proofs.Carried.{no-conversion}
 use borrow.Author.Needs.{needs}
 use Rattle.values.proofs.carrying.carries.Statement.{statement}
 use Rattle.values.proofs.carrying.carries.Tie as tie
@@ -7,51 +16,46 @@ use Rattle.values.proofs.carrying.every_fits.Reads as every-fits-reads
 use Rattle.values.proofs.carrying.word_fits.Reads as word-fits-reads
 use Rattle.values.proofs.conversion.Reads as conversion-reads
 
--- src/carrying.rt:74:9
+-- What the kind that was found says.
+kind-is : (c : tie.After-conversion) (k : Kind) → c .conversion .result ≡ k
+    → conversion (format-at (c .before .before .args .from)) (format-at (c .before .before .args .to)) ≡ kind-of k
+kind-is c k e = sym (c .conversion .ensures) ∙ ap kind-of e
+
 conversion-requires : tie.Need-conversion-requires
 conversion-requires c κs = search needs
 
--- src/carrying.rt:76:24
 enum-told : tie.Need-enum-told
 enum-told c = search needs
 
--- src/carrying.rt:77:24
 enum-told-2 : tie.Need-enum-told-2
 enum-told-2 c = search needs
 
--- src/carrying.rt:77:24
 every-fits-requires : tie.Need-every-fits-requires
-every-fits-requires c κs = ?
+every-fits-requires c κs = (c .before .before .before .before .pre, kind-is (c .before .before) Every (c .enum-told2 .given .1))
 
--- src/carrying.rt:78:23
 enum-told-3 : tie.Need-enum-told-3
 enum-told-3 c = search needs
 
--- src/carrying.rt:78:23
 word-fits-requires : tie.Need-word-fits-requires
-word-fits-requires c κs = ?
+word-fits-requires c κs = (c .before .before .before .before .pre, kind-is (c .before .before) Word (c .enum-told3 .given .1))
 
--- src/carrying.rt:79:26
 enum-told-4 : tie.Need-enum-told-4
 enum-told-4 c = search needs
 
--- src/carrying.rt:79:26
 word-fits-requires-2 : tie.Need-word-fits-requires-2
-word-fits-requires-2 c κs = ?
+word-fits-requires-2 c κs = (c .before .before .before .before .pre, kind-is (c .before .before) Natural (c .enum-told4 .given .1))
 
--- src/carrying.rt:70:1
 returns : tie.Need-returns
-returns c = ?
+returns c =
+    let a = c .before .before .before .before in
+    sym (no-conversion _ _ (a .args .n) (a .args .s .now) (a .pre .value) (kind-is (c .before .before) Never (c .enum-told .given .1)))
 
--- src/carrying.rt:70:1
 returns-2 : tie.Need-returns-2
 returns-2 c = search needs
 
--- src/carrying.rt:70:1
 returns-3 : tie.Need-returns-3
 returns-3 c = search needs
 
--- src/carrying.rt:70:1
 returns-4 : tie.Need-returns-4
 returns-4 c = search needs
 

@@ -1,3 +1,10 @@
+-- `values::carrying::carry_every` meets its contract: texts apart.
+use Prim.Native.Nat.{_≤_, _+_}
+use native.Mathlib.Omega.{arith}
+use mathlib.Core.Path.{_≡_, refl, sym, ap, _∙_}
+use Rattle.rules.specs.Lists.{bytes-of}
+use Rattle.buffer.specs.Splice.{splice}
+use Rattle.values.proofs.Chosen.{as-alpha}
 use borrow.Author.Needs.{needs}
 use Rattle.values.proofs.carrying.carry_every.Statement.{statement}
 use Rattle.values.proofs.carrying.carry_every.Tie as tie
@@ -6,27 +13,28 @@ use Rattle.values.proofs.carrying.carry_every.Lts as lts
 use Rattle.values.proofs.carrying.carry_number.Reads as carry-number-reads
 use Rattle.values.proofs.texts.carry_text.Reads as carry-text-reads
 
--- src/carrying.rt:100:9
 carry-text-requires : tie.Need-carry-text-requires
-carry-text-requires c κs = ?
+carry-text-requires c κs =
+    let i = c .before in
+    let a = i .before .before .before in
+    rw (as-alpha (a .args .from) (a .args .to) (a .args .n) (a .args .s .now) (a .pre .0 .asked .source) (a .pre .0 .asked .target) (a .pre .1) (i .if1 .taken)) (a .pre .0 .fits, a .pre .0 .enough)
 
--- src/carrying.rt:102:9
 carry-number-requires : tie.Need-carry-number-requires
 carry-number-requires c κs = search needs
 
--- src/carrying.rt:95:1
 same-length : tie.Need-same-length
 same-length c = search needs
 
--- src/carrying.rt:95:1
 returns : tie.Need-returns
-returns c = ?
+returns c =
+    let i = c .before .before .before .before in
+    let a = i .before .before .before in
+    c .before .before .carry-text .ensures
+    ∙ ap (λ o. splice (a .args .at) (bytes-of o) (a .args .out .now)) (as-alpha (a .args .from) (a .args .to) (a .args .n) (a .args .s .now) (a .pre .0 .asked .source) (a .pre .0 .asked .target) (a .pre .1) (i .if1 .taken))
 
--- src/carrying.rt:95:1
 same-length-2 : tie.Need-same-length-2
 same-length-2 c = search needs
 
--- src/carrying.rt:95:1
 returns-2 : tie.Need-returns-2
 returns-2 c = search needs
 
