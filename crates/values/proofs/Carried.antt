@@ -1,31 +1,29 @@
 -- A value carried: which refusal it meets, when it is done, through a word too, and how long its bytes are.
 use mathlib.Core.Path.{_≡_, refl, sym, _∙_, ap}
 use mathlib.Core.Bool.{Bool, true, false, not, _&&_}
-use mathlib.Core.List.{List, [], _∷_, _++_, map}
+use mathlib.Core.List.{List, _∷_, map}
 use Prim.Native.Nat.{ℕ, zero, suc, _+_, _-_, _*_, _/_, _%_, _^_, _≤_, _<_}
 use native.Mathlib.Nat.{not-suc-le-zero}
 use native.Mathlib.Omega.{arith}
-use lib.Dec.{T, eqb, leb, ltb, leb→le}
+use lib.Dec.{eqb, leb, ltb, leb→le}
 use lib.ListN.{length, replicate, length-append, length-replicate}
 use borrow.Author.Tests.{leb-true, leb-false, lt-leb, le-leb, lt-ltb, le-ltb}
 use Rattle.rules.specs.Outcome.{Outcome, done, refused, _>>=_, need, is-done}
 use Rattle.rules.specs.Characters.{space}
 use Rattle.rules.specs.Lists.{Bytes, bytes-of, digits, all, but-last, last}
-use Rattle.rules.specs.Values.{Format, alpha, binary, fixed, packed, unpacked, Value, text, number, allowed, strip, halves, decimal, sign-means, accepted-plus, accepted-minus, meaning, normal, conversion, never, every, word, natural, in-range, converted, carried}
+use Rattle.rules.specs.Values.{Format, alpha, binary, fixed, packed, unpacked, Value, text, number, allowed, strip, halves, decimal, sign-means, accepted-plus, accepted-minus, meaning, normal, conversion, never, every, in-range, converted, carried}
 use Rattle.rules.specs.Values as Rules
 use Rattle.rules.proofs.Steps.{from-need, done-inj, not-done, T-true}
 use Rattle.buffer.proofs.Cases.{by-order}
 use Rattle.words.specs.Words.{pick, signed-value, word-of, value-of}
 use Rattle.words.specs.declared.Signed.{Signed}
-use Rattle.words.specs.declared.Word.{Word}
 use Rattle.words.specs.declared.Word.the-variants.{Number, Outside}
 use Rattle.words.proofs.Digits.{length-digits}
-use Rattle.decimals.specs.Decimals.{decimal-format, written}
+use Rattle.decimals.specs.Decimals.{decimal-format}
 use Rattle.decimals.proofs.Normal.{normal-fits, normal-done, carried-value}
 use Rattle.decimals.proofs.Written.{length-written}
-use Rattle.values.specs.Formats.{format-at, ranged}
+use Rattle.values.specs.Formats.{ranged}
 use Rattle.values.specs.Fits.{size-of, carried-length}
-use Rattle.values.proofs.Five.{five}
 
 -- A refusal has one number: 8 of a meaning, 9 of a normal form.
 abbrev Refuses : {A : Type 0} → ℕ → Outcome A → Type 0

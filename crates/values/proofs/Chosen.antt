@@ -2,14 +2,14 @@
 use mathlib.Core.Path.{_≡_, refl, sym, _∙_, ap}
 use mathlib.Core.Bool.{Bool, true, false}
 use mathlib.Core.Logic.{_⊎_, ⊎-elim}
-use Prim.Native.Nat.{ℕ, zero, suc, _+_, _-_, _*_, _^_, _≤_, _<_}
+use Prim.Native.Nat.{ℕ, _+_, _-_, _*_, _^_, _≤_, _<_}
 use native.Mathlib.Omega.{arith}
-use lib.Dec.{eqb, leb}
+use lib.Dec.{eqb}
 use lib.ListN.{length}
 use borrow.Author.Tests.{le-leb}
-use Rattle.rules.specs.Outcome.{Outcome, done, is-done}
-use Rattle.rules.specs.Lists.{Bytes, bytes-of, spelled}
-use Rattle.rules.specs.Values.{Format, alpha, binary, fixed, Value, number, allowed, Kind, never, every, word, natural, conversion, meaning, normal, carried, in-normal-form, twos-complement}
+use Rattle.rules.specs.Outcome.{done, is-done}
+use Rattle.rules.specs.Lists.{Bytes, spelled}
+use Rattle.rules.specs.Values.{alpha, binary, fixed, number, allowed, Kind, every, word, natural, conversion, meaning, normal, carried, in-normal-form, twos-complement}
 use Rattle.buffer.proofs.Cases.{by-order}
 use Rattle.words.specs.Words.{signed-value, word-of, value-of}
 use Rattle.words.specs.declared.Signed.{Signed}
@@ -19,7 +19,7 @@ use Rattle.words.proofs.Fixed.{twos-plus, twos-minus, fixed-normal}
 use Rattle.binaries.proofs.Binary.{binary-normal}
 use Rattle.decimals.specs.Decimals.{decimal-format}
 use Rattle.values.specs.Formats.{format-at, ranged}
-use Rattle.values.specs.Fits.{Asked, Carrying}
+use Rattle.values.specs.Fits.{Carrying}
 use Rattle.values.proofs.Five.{five}
 use Rattle.values.proofs.Numbered.{at-alpha, at-binary, at-fixed, at-decimal, some-size, two-four, every-low, every-high}
 use Rattle.values.proofs.Carried.{every-carried, carried-size}

@@ -19,8 +19,11 @@ pub mod numbers;
 pub mod texts;
 
 pub const ALPHA: usize = 0;
+
 pub const BINARY: usize = 1;
+
 pub const FIXED: usize = 2;
+
 pub const PACKED: usize = 3;
 
 // The least and greatest lengths of each format.

@@ -1,7 +1,5 @@
 -- `values::fits` meets its contract: no value is 8, one that is not carried 9, another has its length.
-use Prim.Native.Nat.{_≤_, _+_}
-use native.Mathlib.Omega.{arith}
-use mathlib.Core.Path.{_≡_, refl, sym, ap, _∙_}
+use mathlib.Core.Path.{sym, ap, _∙_}
 use Rattle.rules.specs.Outcome.{done}
 use Rattle.values.specs.Formats.{format-at}
 use Rattle.values.proofs.Numbered.{size-253}
@@ -9,11 +7,6 @@ use Rattle.values.proofs.Carried.{bad-value, no-fit, does-fit, carried-
 use borrow.Author.Needs.{needs}
 use Rattle.values.proofs.fits.Statement.{statement}
 use Rattle.values.proofs.fits.Tie as tie
-use Rattle.values.proofs.fits.Reads as reads
-use Rattle.values.proofs.fits.Lts as lts
-use Rattle.values.proofs.carrying.carried_size.Reads as carried-size-reads
-use Rattle.values.proofs.carrying.carries.Reads as carries-reads
-use Rattle.values.proofs.numbers.is_value.Reads as is-value-reads
 
 is-value-requires : tie.Need-is-value-requires
 is-value-requires c κs = search needs

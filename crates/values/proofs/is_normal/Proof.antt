@@ -1,7 +1,6 @@
 -- `values::is_normal` meets its contract: texts and decimals by their functions; B and F are always in normal form.
-use Prim.Native.Nat.{_≤_, _+_}
 use native.Mathlib.Omega.{arith}
-use mathlib.Core.Path.{_≡_, refl, sym, ap, _∙_}
+use mathlib.Core.Path.{_≡_, sym, ap, _∙_}
 use lib.Dec.{eqb}
 use lib.ListN.{length}
 use Rattle.rules.specs.Values.{in-normal-form}
@@ -11,10 +10,6 @@ use Rattle.values.proofs.Chosen.{own-length, low-normal}
 use borrow.Author.Needs.{needs}
 use Rattle.values.proofs.is_normal.Statement.{statement}
 use Rattle.values.proofs.is_normal.Tie as tie
-use Rattle.values.proofs.is_normal.Reads as reads
-use Rattle.values.proofs.is_normal.Lts as lts
-use Rattle.decimals.proofs.is_normal.Reads as is-normal-reads
-use Rattle.values.proofs.texts.is_normal_text.Reads as is-normal-text-reads
 
 is-normal-text-requires : tie.Need-is-normal-text-requires
 is-normal-text-requires c κs = search needs

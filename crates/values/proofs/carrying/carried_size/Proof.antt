@@ -6,9 +6,6 @@ use Rattle.values.proofs.Carried.{size-0, size-n}
 use borrow.Author.Needs.{needs}
 use Rattle.values.proofs.carrying.carried_size.Statement.{statement}
 use Rattle.values.proofs.carrying.carried_size.Tie as tie
-use Rattle.values.proofs.carrying.carried_size.Reads as reads
-use Rattle.values.proofs.carrying.carried_size.Lts as lts
-use Rattle.values.proofs.texts.text_length.Reads as text-length-reads
 
 text-length-requires : tie.Need-text-length-requires
 text-length-requires c κs = search needs

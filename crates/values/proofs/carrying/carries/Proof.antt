@@ -1,7 +1,5 @@
 -- `values::carrying::carries` meets its contract, kind by kind.
-use Prim.Native.Nat.{_≤_, _+_}
-use native.Mathlib.Omega.{arith}
-use mathlib.Core.Path.{_≡_, refl, sym, ap, _∙_}
+use mathlib.Core.Path.{_≡_, sym, ap, _∙_}
 use Rattle.rules.specs.Values.{conversion}
 use Rattle.values.specs.Formats.{format-at, kind-of}
 use Rattle.values.specs.declared.Kind.{Kind}
@@ -10,11 +8,6 @@ use Rattle.values.proofs.Carried.{no-conversion}
 use borrow.Author.Needs.{needs}
 use Rattle.values.proofs.carrying.carries.Statement.{statement}
 use Rattle.values.proofs.carrying.carries.Tie as tie
-use Rattle.values.proofs.carrying.carries.Reads as reads
-use Rattle.values.proofs.carrying.carries.Lts as lts
-use Rattle.values.proofs.carrying.every_fits.Reads as every-fits-reads
-use Rattle.values.proofs.carrying.word_fits.Reads as word-fits-reads
-use Rattle.values.proofs.conversion.Reads as conversion-reads
 
 -- What the kind that was found says.
 kind-is : (c : tie.After-conversion) (k : Kind) → c .conversion .result ≡ k

@@ -1,17 +1,11 @@
 -- `values::carrying::carry_every` meets its contract: texts apart.
-use Prim.Native.Nat.{_≤_, _+_}
-use native.Mathlib.Omega.{arith}
-use mathlib.Core.Path.{_≡_, refl, sym, ap, _∙_}
+use mathlib.Core.Path.{ap, _∙_}
 use Rattle.rules.specs.Lists.{bytes-of}
 use Rattle.buffer.specs.Splice.{splice}
 use Rattle.values.proofs.Chosen.{as-alpha}
 use borrow.Author.Needs.{needs}
 use Rattle.values.proofs.carrying.carry_every.Statement.{statement}
 use Rattle.values.proofs.carrying.carry_every.Tie as tie
-use Rattle.values.proofs.carrying.carry_every.Reads as reads
-use Rattle.values.proofs.carrying.carry_every.Lts as lts
-use Rattle.values.proofs.carrying.carry_number.Reads as carry-number-reads
-use Rattle.values.proofs.texts.carry_text.Reads as carry-text-reads
 
 carry-text-requires : tie.Need-carry-text-requires
 carry-text-requires c κs =

@@ -1,7 +1,7 @@
 -- `values::carrying::carry_number` meets its contract, format by format.
-use Prim.Native.Nat.{_≤_, _+_}
+use Prim.Native.Nat.{_≤_}
 use native.Mathlib.Omega.{arith}
-use mathlib.Core.Path.{_≡_, refl, sym, ap, _∙_}
+use mathlib.Core.Path.{ap, _∙_}
 use Rattle.rules.specs.Lists.{bytes-of}
 use Rattle.buffer.specs.Splice.{splice}
 use Rattle.values.proofs.Numbered.{two-four, some-size, size-29, size-253, every-high}
@@ -9,12 +9,6 @@ use Rattle.values.proofs.Chosen.{as-binary, as-fixed, as-decimal, fixed
 use borrow.Author.Needs.{needs}
 use Rattle.values.proofs.carrying.carry_number.Statement.{statement}
 use Rattle.values.proofs.carrying.carry_number.Tie as tie
-use Rattle.values.proofs.carrying.carry_number.Reads as reads
-use Rattle.values.proofs.carrying.carry_number.Lts as lts
-use Rattle.binaries.proofs.carry_binary.Reads as carry-binary-reads
-use Rattle.decimals.proofs.carry.Reads as carry-reads
-use Rattle.words.proofs.fixed_word.Reads as fixed-word-reads
-use Rattle.words.proofs.write_fixed.Reads as write-fixed-reads
 
 carry-binary-requires : tie.Need-carry-binary-requires
 carry-binary-requires c κs =
@@ -29,10 +23,11 @@ write-fixed-requires : tie.Need-write-fixed-requires
 write-fixed-requires c κs =
     let i = c .before .before in
     let a = i .before .before .before .before in
-    let w = c .before .fixed-word in
-    (fixed-there (a .args .from) (a .args .to) (a .args .n) (a .args .s .now) (a .pre .0 .asked .source) (a .pre .0 .asked .target) (a .pre .1) (i .if2 .taken) (a .pre .0 .asked .length-there),
-    rw (as-fixed (a .args .from) (a .args .to) (a .args .n) (a .args .s .now) (a .pre .0 .asked .source) (a .pre .0 .asked .target) (a .pre .1) (w .result) (i .if2 .taken) (w .ensures)) (a .pre .0 .fits),
-    carrying-room (a .pre .0) (number-there (a .args .from) (a .args .to) (a .args .n) (a .args .s .now) (a .pre .0 .asked .source) (a .pre .0 .asked .target) (a .pre .1) (a .pre .2)))
+    let w = c .before .fixed-word in (
+      fixed-there (a .args .from) (a .args .to) (a .args .n) (a .args .s .now) (a .pre .0 .asked .source) (a .pre .0 .asked .target) (a .pre .1) (i .if2 .taken) (a .pre .0 .asked .length-there),
+      rw (as-fixed (a .args .from) (a .args .to) (a .args .n) (a .args .s .now) (a .pre .0 .asked .source) (a .pre .0 .asked .target) (a .pre .1) (w .result) (i .if2 .taken) (w .ensures)) (a .pre .0 .fits),
+      carrying-room (a .pre .0) (number-there (a .args .from) (a .args .to) (a .args .n) (a .args .s .now) (a .pre .0 .asked .source) (a .pre .0 .asked .target) (a .pre .1) (a .pre .2)),
+    )
 
 carry-requires : tie.Need-carry-requires
 carry-requires c κs =
@@ -40,12 +35,13 @@ carry-requires c κs =
     let a = i .before .before .before .before in
     let high : 3 ≤ a .args .from = omega (arith, i .if2 .left, i .before .if1 .left, a .pre .2) in
     let p = a .pre .0 .asked in
-    let there = number-there (a .args .from) (a .args .to) (a .args .n) (a .args .s .now) (a .pre .0 .asked .source) (a .pre .0 .asked .target) (a .pre .1) (a .pre .2) in
-    (rw (as-decimal (a .args .from) (a .args .to) (a .args .n) (a .args .s .now) (a .pre .0 .asked .source) (a .pre .0 .asked .target) (a .pre .1) high) (a .pre .0 .fits),
-    size-253 (a .args .from) _ (p .source) (p .size),
-    some-size (a .args .to) (a .args .n) (p .target) (p .length-there) there,
-    size-29 (a .args .to) (a .args .n) (p .target) (p .length-there) (every-high (a .args .from) (a .args .to) (p .source) (p .target) high (a .pre .1)),
-    carrying-room (a .pre .0) there)
+    let there = number-there (a .args .from) (a .args .to) (a .args .n) (a .args .s .now) (a .pre .0 .asked .source) (a .pre .0 .asked .target) (a .pre .1) (a .pre .2) in (
+      rw (as-decimal (a .args .from) (a .args .to) (a .args .n) (a .args .s .now) (a .pre .0 .asked .source) (a .pre .0 .asked .target) (a .pre .1) high) (a .pre .0 .fits),
+      size-253 (a .args .from) _ (p .source) (p .size),
+      some-size (a .args .to) (a .args .n) (p .target) (p .length-there) there,
+      size-29 (a .args .to) (a .args .n) (p .target) (p .length-there) (every-high (a .args .from) (a .args .to) (p .source) (p .target) high (a .pre .1)),
+      carrying-room (a .pre .0) there,
+    )
 
 same-length : tie.Need-same-length
 same-length c = search needs

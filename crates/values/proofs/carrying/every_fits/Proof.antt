@@ -1,20 +1,13 @@
 -- `values::carrying::every_fits` meets its contract, format by format.
-use Prim.Native.Nat.{_≤_, _+_}
+use Prim.Native.Nat.{_≤_}
 use native.Mathlib.Omega.{arith}
-use mathlib.Core.Path.{_≡_, refl, sym, ap, _∙_}
+use mathlib.Core.Path.{ap, _∙_}
 use Rattle.rules.specs.Outcome.{is-done}
 use Rattle.values.proofs.Numbered.{two-four, some-size, size-29, size-253, at-decimal, every-high}
 use Rattle.values.proofs.Chosen.{as-alpha, as-binary, as-fixed, as-decimal, fixed-there}
 use borrow.Author.Needs.{needs}
 use Rattle.values.proofs.carrying.every_fits.Statement.{statement}
 use Rattle.values.proofs.carrying.every_fits.Tie as tie
-use Rattle.values.proofs.carrying.every_fits.Reads as reads
-use Rattle.values.proofs.carrying.every_fits.Lts as lts
-use Rattle.binaries.proofs.binary_fits.Reads as binary-fits-reads
-use Rattle.decimals.proofs.fits.Reads as fits-reads
-use Rattle.values.proofs.texts.text_fits.Reads as text-fits-reads
-use Rattle.words.proofs.fixed_fits.Reads as fixed-fits-reads
-use Rattle.words.proofs.fixed_word.Reads as fixed-word-reads
 
 text-fits-requires : tie.Need-text-fits-requires
 text-fits-requires c κs = search needs
@@ -48,11 +41,12 @@ fits-requires : tie.Need-fits-requires
 fits-requires c κs =
     let a = c .before .before .before .before in
     let high : 3 ≤ a .args .from = omega (arith, c .if3 .left, c .before .if2 .left, c .before .before .if1 .left) in
-    let there = every-high (a .args .from) (a .args .to) (a .pre .0 .source) (a .pre .0 .target) high (a .pre .1) in
-    (rw (at-decimal (a .args .from) (a .pre .0 .source) high) at (a .pre .0 .value),
-    size-253 (a .args .from) _ (a .pre .0 .source) (a .pre .0 .size),
-    some-size (a .args .to) (a .args .n) (a .pre .0 .target) (a .pre .0 .length-there) (omega arith),
-    size-29 (a .args .to) (a .args .n) (a .pre .0 .target) (a .pre .0 .length-there) there)
+    let there = every-high (a .args .from) (a .args .to) (a .pre .0 .source) (a .pre .0 .target) high (a .pre .1) in (
+      rw (at-decimal (a .args .from) (a .pre .0 .source) high) at (a .pre .0 .value),
+      size-253 (a .args .from) _ (a .pre .0 .source) (a .pre .0 .size),
+      some-size (a .args .to) (a .args .n) (a .pre .0 .target) (a .pre .0 .length-there) (omega arith),
+      size-29 (a .args .to) (a .args .n) (a .pre .0 .target) (a .pre .0 .length-there) there,
+    )
 
 returns-4 : tie.Need-returns-4
 returns-4 c =

@@ -1,10 +1,7 @@
 -- `values::carrying::within_range` meets its contract, by the sign.
 use Rattle.values.proofs.Carried.{minus-range, plus-range}
-use borrow.Author.Needs.{needs}
 use Rattle.values.proofs.carrying.within_range.Statement.{statement}
 use Rattle.values.proofs.carrying.within_range.Tie as tie
-use Rattle.values.proofs.carrying.within_range.Reads as reads
-use Rattle.values.proofs.carrying.within_range.Lts as lts
 
 returns : tie.Need-returns
 returns c = rw (c .if1 .taken) (minus-range (c .before .args .natural) _ (c .before .pre))

@@ -1,7 +1,5 @@
 -- `values::carrying::word_fits` meets its contract: the word lies in the range and fits, or the value is outside.
-use Prim.Native.Nat.{_≤_, _+_}
-use native.Mathlib.Omega.{arith}
-use mathlib.Core.Path.{_≡_, refl, sym, ap, _∙_}
+use mathlib.Core.Path.{_≡_, sym, _∙_}
 use Rattle.rules.specs.Values.{meaning}
 use Rattle.words.specs.Words.{word-of, value-of}
 use Rattle.words.specs.declared.Word.the-variants.{Number}
@@ -11,11 +9,6 @@ use Rattle.values.proofs.Carried.{word-small, word-in, word-out, word-b
 use borrow.Author.Needs.{needs}
 use Rattle.values.proofs.carrying.word_fits.Statement.{statement}
 use Rattle.values.proofs.carrying.word_fits.Tie as tie
-use Rattle.values.proofs.carrying.word_fits.Reads as reads
-use Rattle.values.proofs.carrying.word_fits.Lts as lts
-use Rattle.values.proofs.carrying.within_range.Reads as within-range-reads
-use Rattle.values.proofs.numbers.fits_word.Reads as fits-word-reads
-use Rattle.values.proofs.numbers.to_word.Reads as to-word-reads
 
 -- The word that the value is.
 told : (c : tie.After-word) → word-of (value-of (meaning (format-at (c .before .before .before .before .args .from)) (c .before .before .before .before .args .s .now))) ≡ Number (c .word .given .0 .0)

@@ -1,19 +1,12 @@
 -- `values::numbers::fits_word` meets its contract, format by format.
-use Prim.Native.Nat.{_≤_}
 use native.Mathlib.Omega.{arith}
-use mathlib.Core.Path.{_≡_, refl, sym, ap, _∙_}
+use mathlib.Core.Path.{sym, ap, _∙_}
 use Rattle.rules.specs.Outcome.{is-done}
 use Rattle.rules.specs.Values.{normal}
 use Rattle.words.specs.Words.{signed-value}
 use Rattle.values.proofs.Numbered.{at-binary, at-fixed, at-decimal, two-four, some-size, size-29}
-use borrow.Author.Needs.{needs}
 use Rattle.values.proofs.numbers.fits_word.Statement.{statement}
 use Rattle.values.proofs.numbers.fits_word.Tie as tie
-use Rattle.values.proofs.numbers.fits_word.Reads as reads
-use Rattle.values.proofs.numbers.fits_word.Lts as lts
-use Rattle.binaries.proofs.binary_fits_word.Reads as binary-fits-word-reads
-use Rattle.decimals.proofs.fits_word.Reads as fits-word-reads
-use Rattle.words.proofs.fixed_fits.Reads as fixed-fits-reads
 
 binary-fits-word-requires : tie.Need-binary-fits-word-requires
 binary-fits-word-requires c κs = let a = c .before in some-size (a .args .format) (a .args .n) (a .pre .1) (a .pre .2) (a .pre .0)

@@ -1,7 +1,5 @@
 -- `values::numbers::is_value` meets its contract: only P and U have bytes that mean nothing.
-use Prim.Native.Nat.{_≤_}
-use native.Mathlib.Omega.{arith}
-use mathlib.Core.Path.{_≡_, refl, sym, ap, _∙_}
+use mathlib.Core.Path.{sym, ap, _∙_}
 use Rattle.rules.specs.Outcome.{is-done}
 use Rattle.rules.specs.Values.{meaning}
 use Rattle.values.proofs.Numbered.{at-decimal}
@@ -9,9 +7,6 @@ use Rattle.values.proofs.Chosen.{low-value}
 use borrow.Author.Needs.{needs}
 use Rattle.values.proofs.numbers.is_value.Statement.{statement}
 use Rattle.values.proofs.numbers.is_value.Tie as tie
-use Rattle.values.proofs.numbers.is_value.Reads as reads
-use Rattle.values.proofs.numbers.is_value.Lts as lts
-use Rattle.decimals.proofs.is_value.Reads as is-value-reads
 
 returns : tie.Need-returns
 returns c = let a = c .before .before in sym (low-value (a .args .format) (a .args .s .now) (a .pre) (c .if1 .taken))

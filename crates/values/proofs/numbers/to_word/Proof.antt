@@ -1,7 +1,6 @@
 -- `values::numbers::to_word` meets its contract, format by format.
-use Prim.Native.Nat.{_≤_}
 use native.Mathlib.Omega.{arith}
-use mathlib.Core.Path.{_≡_, refl, sym, ap, _∙_}
+use mathlib.Core.Path.{sym, ap, _∙_}
 use Rattle.rules.specs.Values.{meaning}
 use Rattle.words.specs.Words.{word-of, value-of}
 use Rattle.values.proofs.Numbered.{at-binary, at-fixed, at-decimal, two-four, size-253}
@@ -9,11 +8,6 @@ use Rattle.values.proofs.Chosen.{fixed-word-is}
 use borrow.Author.Needs.{needs}
 use Rattle.values.proofs.numbers.to_word.Statement.{statement}
 use Rattle.values.proofs.numbers.to_word.Tie as tie
-use Rattle.values.proofs.numbers.to_word.Reads as reads
-use Rattle.values.proofs.numbers.to_word.Lts as lts
-use Rattle.binaries.proofs.binary_word.Reads as binary-word-reads
-use Rattle.decimals.proofs.to_word.Reads as to-word-reads
-use Rattle.words.proofs.fixed_word.Reads as fixed-word-reads
 
 binary-word-requires : tie.Need-binary-word-requires
 binary-word-requires c κs = search needs

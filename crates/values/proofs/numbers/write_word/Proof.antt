@@ -1,7 +1,7 @@
 -- `values::numbers::write_word` meets its contract, format by format.
 use Prim.Native.Nat.{_≤_}
 use native.Mathlib.Omega.{arith}
-use mathlib.Core.Path.{_≡_, refl, sym, ap, _∙_}
+use mathlib.Core.Path.{sym, ap, _∙_}
 use Rattle.rules.specs.Lists.{bytes-of}
 use Rattle.rules.specs.Values.{normal}
 use Rattle.words.specs.Words.{signed-value}
@@ -10,11 +10,6 @@ use Rattle.values.proofs.Numbered.{at-binary, at-fixed, at-decimal, two
 use borrow.Author.Needs.{needs}
 use Rattle.values.proofs.numbers.write_word.Statement.{statement}
 use Rattle.values.proofs.numbers.write_word.Tie as tie
-use Rattle.values.proofs.numbers.write_word.Reads as reads
-use Rattle.values.proofs.numbers.write_word.Lts as lts
-use Rattle.binaries.proofs.write_binary_word.Reads as write-binary-word-reads
-use Rattle.decimals.proofs.write_word.Reads as write-word-reads
-use Rattle.words.proofs.write_fixed.Reads as write-fixed-reads
 
 write-binary-word-requires : tie.Need-write-binary-word-requires
 write-binary-word-requires c κs =
