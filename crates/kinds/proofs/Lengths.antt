@@ -45,24 +45,24 @@ within =
     (λ n. ap (λ b. leb 1 n && b) (and-true (leb n 15)))
     (λ n. ap (λ b. leb 1 n && b) (and-true (leb n 29)))
 
+pub allowed-is : (k : ℕ) → k < 5 → (n : ℕ) → allowed (format-at k) n ≡ (leb (getD least k 0) n && (leb n (getD greatest k 0) && not (eqb k 2 && eqb n 3)))
+unfolding Within
+allowed-is k h n = within k h n
+
 module _ (k n : ℕ) (f : k < 5) where
   pub too-short : n < getD least k 0 → false ≡ allowed (format-at k) n
-  unfolding Within
-  too-short h = rw (within k f n, lt-leb (getD least k 0) n h)
+  too-short h = rw (allowed-is k f n, lt-leb (getD least k 0) n h)
 
   module _ (lo : getD least k 0 ≤ n) where
     pub too-long : getD greatest k 0 < n → false ≡ allowed (format-at k) n
-    unfolding Within
-    too-long h = rw (within k f n, le-leb (getD least k 0) n lo, lt-leb n (getD greatest k 0) h)
+    too-long h = rw (allowed-is k f n, le-leb (getD least k 0) n lo, lt-leb n (getD greatest k 0) h)
 
     module _ (hi : n ≤ getD greatest k 0) where
       pub not-three : k ≡ 2 → not (eqb n 3) ≡ allowed (format-at k) n
-      unfolding Within
-      not-three e = rw (within k f n, le-leb (getD least k 0) n lo, le-leb n (getD greatest k 0) hi, eq-eqb k 2 e)
+      not-three e = rw (allowed-is k f n, le-leb (getD least k 0) n lo, le-leb n (getD greatest k 0) hi, eq-eqb k 2 e)
 
       pub any-length : (k ≡ 2 → ⊥) → true ≡ allowed (format-at k) n
-      unfolding Within
-      any-length e = rw (within k f n, le-leb (getD least k 0) n lo, le-leb n (getD greatest k 0) hi, ne-eqb k 2 e)
+      any-length e = rw (allowed-is k f n, le-leb (getD least k 0) n lo, le-leb n (getD greatest k 0) hi, ne-eqb k 2 e)
 
 abbrev table : List (List Kind)
 table =

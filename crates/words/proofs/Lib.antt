@@ -1,0 +1,5 @@
+pub mod Digits
+pub mod Scans
+pub mod Integers
+pub mod NormalForm
+pub mod Fixed

@@ -1,0 +1,90 @@
+-- The first value of a run of bytes, at each way that the code answers.
+use mathlib.Core.Path.{_≡_, refl, sym, _∙_}
+use mathlib.Core.Bool.{_&&_}
+use mathlib.Core.List.{[], _∷_}
+use Prim.Native.Nat.{ℕ, zero, suc, _+_, _-_, _≤_, _<_}
+use native.Mathlib.Nat.{not-suc-le-zero, le-of-suc-le-suc}
+use native.Mathlib.Numerals.{add-one}
+use native.Mathlib.Omega.{arith}
+use lib.Dec.{leb}
+use lib.ListN.{length, take, drop, getD, length-drop, drop-of-length-le}
+use lib.Seq.{drop-cons, drop-drop}
+use borrow.Author.Tests.{le-leb}
+use Rattle.rules.specs.Outcome.{done, refused, _>>=_, need}
+use Rattle.rules.specs.Lists.{Bytes, cut}
+use Rattle.rules.specs.Values.{first-value}
+use Rattle.values.specs.Places.{Found}
+use Rattle.values.specs.declared.First.{First}
+use Rattle.values.specs.declared.First.the-variants.{Value, Refused}
+
+pub cut-enough : (k n : ℕ) (bs : Bytes) → n ≤ length bs → cut k n bs ≡ done (take n bs, drop n bs)
+unfolding cut
+cut-enough k zero bs h = refl
+cut-enough k (suc n) [] h = absurd (not-suc-le-zero h)
+cut-enough k (suc n) (b ∷ bs) h = rw (cut-enough k n bs (le-of-suc-le-suc h)) refl
+
+pub cut-short : (k n : ℕ) (bs : Bytes) → length bs < n → cut k n bs ≡ refused k
+unfolding cut
+cut-short k zero bs h = absurd (not-suc-le-zero h)
+cut-short k (suc n) [] h = refl
+cut-short k (suc n) (b ∷ bs) h = rw (cut-short k n bs (le-of-suc-le-suc h)) refl
+
+-- A length of its own.
+first-own : (n : ℕ) (bs : Bytes) → (n ≡ 0 → ⊥) → first-value n bs ≡ cut 7 n bs
+unfolding first-value
+first-own zero bs z = absurd (z refl)
+first-own (suc n) bs z = refl
+
+module _ (s : Bytes) (at n : ℕ) (z : n ≡ 0 → ⊥) (h : at ≤ length s) where
+  pub own-short : length s - at < n → Found s at (first-value n (drop at s)) (Refused 7)
+  own-short l = record { answer = sym (first-own n (drop at s) z ∙ cut-short 7 n (drop at s) (rw length-drop l)); place = tt }
+
+  pub own-found : n ≤ length s - at → Found s at (first-value n (drop at s)) (Value at (at + n))
+  own-found l = record {
+    answer =
+        let e : at + n - at ≡ n = omega arith in
+        rw e (sym (first-own n (drop at s) z ∙ cut-enough 7 n (drop at s) (rw length-drop l) ∙ rw (drop-drop n at s)));
+    place = (omega arith, omega arith, omega arith);
+  }
+
+-- Length 0: a length byte, which counts itself, and the content behind it.
+first-nil : first-value 0 [] ≡ refused 7
+unfolding first-value
+first-nil = refl
+
+first-counted : (n : ℕ) (bs : Bytes) → first-value 0 (n ∷ bs) ≡ (need (leb 1 n && leb n 254) 8 >>= λ _. cut 7 (n - 1) bs)
+unfolding first-value
+first-counted n bs = refl
+
+pub none-left : (s : Bytes) (at : ℕ) → length s ≤ at → Found s at (first-value 0 (drop at s)) (Refused 7)
+none-left s at h = record { answer = sym (rw (drop-of-length-le s h) first-nil); place = tt }
+
+module _ (s : Bytes) (at n : ℕ) (h : at < length s) (e : n ≡ getD s at 0) where
+  here : first-value 0 (drop at s) ≡ (need (leb 1 n && leb n 254) 8 >>= λ _. cut 7 (n - 1) (drop (at + 1) s))
+  here = rw (add-one, drop-cons s at 0, e) (first-counted (getD s at 0) (drop (suc at) s))
+
+  pub bad-zero : n ≡ 0 → Found s at (first-value 0 (drop at s)) (Refused 8)
+  bad-zero q = record { answer = sym (here ∙ rw q); place = tt }
+
+  pub bad-255 : n ≡ 255 → Found s at (first-value 0 (drop at s)) (Refused 8)
+  bad-255 q = record { answer = sym (here ∙ rw q); place = tt }
+
+  module _ (lo : 1 ≤ n) (hi : n ≤ 254) where
+    good : first-value 0 (drop at s) ≡ cut 7 (n - 1) (drop (at + 1) s)
+    good = here ∙ rw (le-leb 1 n lo, le-leb n 254 hi)
+
+    pub counted-short : length s - at < n → Found s at (first-value 0 (drop at s)) (Refused 7)
+    counted-short l = record { answer = sym (good ∙ cut-short 7 (n - 1) (drop (at + 1) s) (rw length-drop (omega arith))); place = tt }
+
+    pub counted-found : n ≤ length s - at → Found s at (first-value 0 (drop at s)) (Value (at + 1) (at + n))
+    counted-found l = record {
+      answer =
+          let p : at + n - (at + 1) ≡ n - 1 = omega arith in
+          let q : at + 1 + (n - 1) ≡ at + n = omega arith in
+          rw p (sym (good ∙ cut-enough 7 (n - 1) (drop (at + 1) s) (rw length-drop (omega arith)) ∙ rw (drop-drop (n - 1) (at + 1) s, q)));
+      place = (omega arith, omega arith, omega arith);
+    }
+
+-- A length given as 0.
+pub at-zero : (s : Bytes) (at size : ℕ) (r : First) → size ≡ 0 → Found s at (first-value 0 (drop at s)) r → Found s at (first-value size (drop at s)) r
+at-zero s at size r z f = rw z f

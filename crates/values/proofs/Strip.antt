@@ -1,0 +1,186 @@
+-- Format A: a text from the right, blank by blank, and its bytes at a length.
+use mathlib.Core.Path.{_≡_, refl, sym, _∙_, ap}
+use mathlib.Core.Bool.{true, false}
+use mathlib.Core.List.{[], _∷_, _++_}
+use Prim.Native.Nat.{ℕ, zero, suc, _+_, _-_, _≤_, _<_}
+use native.Mathlib.Nat.{not-suc-le-zero, sub-zero}
+use native.Mathlib.Omega.{arith}
+use lib.Dec.{eqb, eqb·suc-suc, leb}
+use lib.ListN.{length, take, getD, replicate, length-append, length-replicate}
+use lib.Seq.{take-suc, take-length, length-take-le}
+use borrow.Author.Tests.{eq-eqb, ne-eqb, eqb-true, eqb-false, le-leb, leb-true}
+use Rattle.rules.specs.Outcome.{done, is-done}
+use Rattle.rules.specs.Characters.{space}
+use Rattle.rules.specs.Lists.{Bytes, bytes-of, same}
+use Rattle.rules.specs.Values.{text, alpha, strip, meaning, normal, carried, converted, conversion, in-range, in-normal-form, with-length-byte}
+use Rattle.rules.proofs.Steps.{by-test, same-same}
+use Rattle.words.proofs.NormalForm.{is-normal-form, compares, no-length-byte}
+use Rattle.words.proofs.Fixed.{is-done-need, done-need}
+
+-- One byte before a text.
+before : ℕ → Bytes → Bytes
+before b [] = elim (eqb b space) [ true ↦ [] | false ↦ b ∷ [] ]
+before b (x ∷ xs) = b ∷ x ∷ xs
+
+strip-cons : (b : ℕ) (bs : Bytes) → strip (b ∷ bs) ≡ before b (strip bs)
+unfolding strip before
+strip-cons b bs = by-rest (strip bs)
+  where
+    by-rest : (r : Bytes) → elim r [ [] ↦ elim (eqb b space) [ true ↦ [] | false ↦ b ∷ [] ] | x ∷ xs ↦ b ∷ x ∷ xs ] ≡ before b r
+    by-rest [] = refl
+    by-rest (x ∷ xs) = refl
+
+before-other : (b : ℕ) → (b ≡ space → ⊥) → before b [] ≡ b ∷ []
+unfolding before
+before-other b h = rw (ne-eqb b space h, before)
+
+strip-nil : strip [] ≡ []
+unfolding strip
+strip-nil = refl
+
+-- A blank at the end goes; another byte stays, with all before it.
+pub strip-blank : (xs : Bytes) → strip (xs ++ (space ∷ [])) ≡ strip xs
+unfolding strip
+strip-blank [] = refl
+strip-blank (x ∷ xs) = strip-cons x (xs ++ (space ∷ [])) ∙ ap (before x) (strip-blank xs) ∙ sym (strip-cons x xs)
+
+before-some : (x : ℕ) (xs : Bytes) (b : ℕ) → before x (xs ++ (b ∷ [])) ≡ x ∷ (xs ++ (b ∷ []))
+unfolding before
+before-some x [] b = refl
+before-some x (y ∷ ys) b = refl
+
+pub strip-keep : (xs : Bytes) (b : ℕ) → (b ≡ space → ⊥) → strip (xs ++ (b ∷ [])) ≡ xs ++ (b ∷ [])
+strip-keep [] b h = strip-cons b [] ∙ rw strip-nil (before-other b h)
+strip-keep (x ∷ xs) b h = strip-cons x (xs ++ (b ∷ [])) ∙ ap (before x) (strip-keep xs b h) ∙ before-some x xs b
+
+-- The turns of the scan from the right.
+module _ (s : Bytes) (j : ℕ) (p : 0 < j) (h : j ≤ length s) where
+  last-of : take j s ≡ take (j - 1) s ++ (getD s (j - 1) 0 ∷ [])
+  last-of = let e : j ≡ suc (j - 1) = omega arith in ap (λ n. take n s) e ∙ take-suc s (j - 1) 0 (omega arith)
+
+  pub text-turn : getD s (j - 1) 0 ≡ space → strip (take (j - 1) s) ≡ strip (take j s)
+  text-turn e = sym (ap strip last-of ∙ rw e (strip-blank (take (j - 1) s)))
+
+  pub text-stop : (getD s (j - 1) 0 ≡ space → ⊥) → strip (take j s) ≡ take j s
+  text-stop k = ap strip last-of ∙ strip-keep (take (j - 1) s) (getD s (j - 1) 0) k ∙ sym last-of
+
+pub text-none : (s : Bytes) (j : ℕ) → j ≤ 0 → strip (take j s) ≡ []
+text-none s zero h = strip-nil
+text-none s (suc j) h = absurd (not-suc-le-zero h)
+
+-- Blanks to the right give the bytes back.
+before-blank : (b : ℕ) → b ≡ space → before b [] ≡ []
+unfolding before
+before-blank b h = rw (eq-eqb b space h, before)
+
+padded : (b : ℕ) (bs t : Bytes) → t ++ replicate (length bs - length t) space ≡ bs
+    → before b t ++ replicate (suc (length bs) - length (before b t)) space ≡ b ∷ bs
+unfolding before
+padded b bs [] e =
+    by-test (eqb b space)
+    (λ q. let h : b ≡ space = eqb-true b space q in
+    rw (before-blank b h, sub-zero, h) (ap (λ l. space ∷ l) (rw sub-zero at e)))
+    (λ q. let n : suc (length bs) - 1 ≡ length bs = omega arith in
+    rw (before-other b (eqb-false b space q), n) (ap (λ l. b ∷ l) (rw sub-zero at e)))
+padded b bs (x ∷ xs) e =
+    let n : suc (length bs) - suc (suc (length xs)) ≡ length bs - suc (length xs) = omega arith in
+    rw n (ap (λ l. b ∷ l) e)
+
+pub strip-pad : (s : Bytes) → strip s ++ replicate (length s - length (strip s)) space ≡ s
+strip-pad [] = rw strip-nil
+strip-pad (b ∷ bs) = rw (strip-cons b bs) (padded b bs (strip bs) (strip-pad bs))
+
+pub strip-short : (s : Bytes) → length (strip s) ≤ length s
+strip-short s =
+    let e = ap length (strip-pad s) in
+    omega (arith, simp length-append at e)
+
+-- A text carried to a length.
+carried-is : (n : ℕ) (s : Bytes) → carried alpha alpha n s ≡ normal alpha n (text (strip s))
+unfolding carried converted meaning conversion in-range
+carried-is n s = refl
+
+short-0 : (t : Bytes) → is-done (normal alpha 0 (text t)) ≡ leb (length t) 253
+unfolding normal
+short-0 t = is-done-need (leb (length t) 253) (suc (length t) ∷ t)
+
+short : (n : ℕ) (t : Bytes) → (n ≡ 0 → ⊥) → is-done (normal alpha n (text t)) ≡ leb (length t) n
+unfolding normal
+short zero t z = absurd (z refl)
+short (suc n) t z = is-done-need (leb (length t) (suc n)) (t ++ replicate (suc n - length t) space)
+
+pub normal-text-0 : (t : Bytes) → length t ≤ 253 → normal alpha 0 (text t) ≡ done (suc (length t) ∷ t)
+unfolding normal
+normal-text-0 t h = done-need (leb (length t) 253) (suc (length t) ∷ t) (le-leb (length t) 253 h)
+
+pub normal-text : (n : ℕ) (t : Bytes) → (n ≡ 0 → ⊥) → length t ≤ n → normal alpha n (text t) ≡ done (t ++ replicate (n - length t) space)
+unfolding normal
+normal-text zero t z h = absurd (z refl)
+normal-text (suc n) t z h = done-need (leb (length t) (suc n)) (t ++ replicate (suc n - length t) space) (le-leb (length t) (suc n) h)
+
+same-cut : (s : Bytes) (r : ℕ) → same (suc r ∷ take r s) (suc (length s) ∷ s) ≡ eqb r (length s)
+unfolding same
+same-cut s r =
+    by-test (eqb r (length s))
+    (λ q. rw (eqb·suc-suc r (length s), q) (ap (λ n. same (take n s) s) (eqb-true r (length s) q) ∙ rw (take-length s) (same-same s)))
+    (λ q. rw (eqb·suc-suc r (length s), q))
+
+-- The answers, from the length of the text.
+module _ (s : Bytes) (r : ℕ) (k : r ≤ length s) (e : strip s ≡ take r s) where
+  text-size : length (strip s) ≡ r
+  text-size = ap length e ∙ length-take-le r s k
+
+  pub text-fits-0 : (n : ℕ) → n ≡ 0 → leb r 253 ≡ is-done (carried alpha alpha n s)
+  text-fits-0 n z = sym (rw (z, carried-is 0 s) (short-0 (strip s) ∙ rw text-size))
+
+  pub text-fits : (n : ℕ) → (n ≡ 0 → ⊥) → leb r n ≡ is-done (carried alpha alpha n s)
+  text-fits n z = sym (rw (carried-is n s) (short n (strip s) z ∙ rw text-size))
+
+  pub cut-size : length (take r s) ≡ r
+  cut-size = length-take-le r s k
+
+  -- What is written at length 0, and at a length n, with the room that it takes.
+  module _ (n : ℕ) (z : n ≡ 0) (d : is-done (carried alpha alpha n s) ≡ true) where
+    counted-upto : r ≤ 253
+    counted-upto = leb-true r 253 (text-fits-0 n z ∙ d)
+
+    pub counted-bytes : bytes-of (carried alpha alpha n s) ≡ suc (length (take r s)) ∷ take r s
+    unfolding bytes-of
+    counted-bytes = rw (z, carried-is 0 s, normal-text-0 (strip s) (rw text-size counted-upto), e)
+
+    pub counted-room : (at room : ℕ) → at + length (bytes-of (carried alpha alpha n s)) ≤ room
+        → (length (take r s) ≤ 253) × (at + 1 + length (take r s) ≤ room)
+    counted-room at room h =
+        let l = rw counted-bytes at h in
+        (omega (arith, cut-size, counted-upto), omega arith)
+
+  module _ (n : ℕ) (z : n ≡ 0 → ⊥) (d : is-done (carried alpha alpha n s) ≡ true) where
+    padded-upto : r ≤ n
+    padded-upto = leb-true r n (text-fits n z ∙ d)
+
+    pub padded-bytes : bytes-of (carried alpha alpha n s) ≡ take r s ++ replicate (n - length (take r s)) space
+    unfolding bytes-of
+    padded-bytes = rw (carried-is n s, normal-text n (strip s) z (rw text-size padded-upto), e)
+
+    pub padded-room : (at room : ℕ) → at + length (bytes-of (carried alpha alpha n s)) ≤ room
+        → (length (take r s) ≤ n) × (at + n ≤ room)
+    padded-room at room h =
+        let l = rw (padded-bytes, length-append, length-replicate) at h in
+        (omega (arith, cut-size, padded-upto), omega (arith, cut-size, padded-upto))
+
+  -- In normal form at length 0 where nothing was stripped.
+  pub text-normal-0 : (n : ℕ) → n ≡ 0 → length s ≤ 253 → eqb r (length s) ≡ in-normal-form alpha n s
+  unfolding meaning with-length-byte
+  text-normal-0 n z h =
+      rw z
+      (sym
+      (compares alpha 0 s (normal-text-0 (strip s) (omega (arith, strip-short s)))
+      ∙ rw (text-size, e) (same-cut s r)))
+
+-- At a length of its own every text is in normal form.
+pub text-normal : (s : Bytes) (n : ℕ) → (n ≡ 0 → ⊥) → n ≡ length s → in-normal-form alpha n s ≡ true
+unfolding meaning
+text-normal s n z e =
+    is-normal-form alpha n s
+    (normal-text n (strip s) z (omega (arith, strip-short s))
+    ∙ ap done (rw e (strip-pad s) ∙ sym (no-length-byte n s (omega (arith, z)))))

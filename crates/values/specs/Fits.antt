@@ -1,0 +1,39 @@
+-- Whether a value fits another format and length: the code's answer, and what is asked of its functions.
+use mathlib.Core.Path.{_≡_}
+use mathlib.Core.Bool.{true}
+use Prim.Native.Nat.{ℕ, zero, suc, _+_, _≤_, _<_}
+use lib.ListN.{length}
+use Rattle.rules.specs.Outcome.{Outcome, done, refused, is-done}
+use Rattle.rules.specs.Lists.{Bytes, bytes-of}
+use Rattle.rules.specs.Values.{allowed, strip, meaning, carried}
+use Rattle.values.specs.Formats.{format-at}
+use Rattle.values.specs.declared.Fit.{Fit}
+use Rattle.values.specs.declared.Fit.the-variants.{Bytes as Size, Refused}
+
+-- The length of the bytes, or the refusal.
+abbrev pub size-of : Outcome Bytes → Outcome ℕ
+size-of (done b) = done (length b)
+size-of (refused k) = refused k
+
+abbrev pub fitted : Fit → Outcome ℕ
+fitted (Size n) = done n
+fitted (Refused k) = refused k
+
+-- The length of a value that is carried to length n.
+unfoldable pub carried-length : ℕ → Bytes → ℕ
+carried-length zero s = suc (length (strip s))
+carried-length (suc n) s = suc n
+
+-- s is a value of a format, to be carried to another at length n.
+pub record Asked (from to n : ℕ) (s : Bytes) : Type 0 where
+  pub source : from < 5
+  pub target : to < 5
+  pub size : allowed (format-at from) (length s) ≡ true
+  pub length-there : allowed (format-at to) n ≡ true
+  pub value : is-done (meaning (format-at from) s) ≡ true
+
+-- It is carried, and there is room for it at a place.
+pub record Carrying (from to n : ℕ) (s : Bytes) (at room : ℕ) : Type 0 where
+  pub asked : Asked from to n s
+  pub fits : is-done (carried (format-at from) (format-at to) n s) ≡ true
+  pub enough : at + length (bytes-of (carried (format-at from) (format-at to) n s)) ≤ room

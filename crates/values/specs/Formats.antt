@@ -1,0 +1,11 @@
+-- Formats by number are those of `kinds`; here are the ranges that the code's conversions ask for.
+use mathlib.Core.Bool.{Bool, true, false}
+use Rattle.rules.specs.Values.{word, natural}
+use Rattle.rules.specs.Values as Rules
+unfoldable pub use Rattle.kinds.specs.Formats.{format-at}
+pub use Rattle.kinds.specs.Formats.{kind-of}
+
+-- The conversion ranges: of words not below zero, and of words.
+abbrev pub ranged : Bool → Rules.Kind
+ranged true = natural
+ranged false = word

@@ -1,0 +1,21 @@
+-- Where a value lies in a run of bytes: the code's answer, as the outcome of `first-value`.
+use mathlib.Core.Path.{_≡_}
+use Prim.Native.Nat.{ℕ, _-_, _≤_}
+use lib.ListN.{length, take, drop}
+use Rattle.rules.specs.Outcome.{Outcome, done, refused}
+use Rattle.rules.specs.Lists.{Bytes}
+use Rattle.values.specs.declared.First.{First}
+use Rattle.values.specs.declared.First.the-variants.{Value, Refused}
+
+-- The content and what stands after the value, or a refusal.
+abbrev pub found : Bytes → First → Outcome (Bytes × Bytes)
+found s (Value from next) = done (take (next - from) (drop from s), drop next s)
+found s (Refused n) = refused n
+
+abbrev pub inside : Bytes → ℕ → First → Type 0
+inside s at (Value from next) = (at ≤ from) × (from ≤ next) × (next ≤ length s)
+inside s at (Refused n) = Unit {0}
+
+pub record Found (s : Bytes) (at : ℕ) (o : Outcome (Bytes × Bytes)) (r : First) : Type 0 where
+  pub answer : found s r ≡ o
+  pub place : inside s at r

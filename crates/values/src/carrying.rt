@@ -1,0 +1,134 @@
+// A value carried from a format to another: between formats that convert every value, and through a word.
+ghost use mathlib.Core.Path.{_≡_};
+ghost use mathlib.Core.Bool.{true};
+ghost use mathlib.Core.Logic.{_⊎_};
+ghost use Prim.Native.Nat.{_+_, _<_, _≤_};
+ghost use lib.ListN.{length};
+ghost use Rattle.rules.specs.Outcome.{is-done};
+ghost use Rattle.rules.specs.Lists.{bytes-of};
+ghost use Rattle.rules.specs.Values.{every, word, natural, conversion, in-range, carried};
+ghost use Rattle.words.specs.Words.{signed-value};
+ghost use Rattle.buffer.specs.Splice.{splice};
+ghost use Rattle.values.specs.Formats.{format-at, ranged};
+ghost use Rattle.values.specs.Fits.{Asked, Carrying, carried-length};
+use super::numbers;
+use super::texts;
+use kinds::ALPHA;
+use kinds::BINARY;
+use kinds::FIXED;
+use kinds::Kind;
+use kinds::PACKED;
+use words::Signed;
+use words::Word;
+
+// Whether s fits, where every value converts.
+fn every_fits(s: &[u8], from: usize, to: usize, n: usize) -> bool
+    requires { ⌜ Asked from to n (now s) × (conversion (format-at from) (format-at to) ≡ every) ⌝ }
+    ensures { λ r. ⌜ r ≡ is-done (carried (format-at from) (format-at to) n (now (s .entry))) ⌝ }
+{
+    if from == ALPHA {
+        return texts::text_fits(s, n);
+    }
+    if from == BINARY {
+        return binaries::binary_fits(s, n);
+    }
+    if from == FIXED {
+        return words::fixed_fits(words::fixed_word(s), n);
+    }
+    decimals::fits(s, from == PACKED, to == PACKED, n)
+}
+
+// Whether v lies in a conversion range: that of words, or of those not below zero.
+fn within_range(v: Signed, natural: bool) -> bool
+    requires { ⌜ v .magnitude ≤ 2147483648 ⌝ }
+    ensures { λ r. ⌜ r ≡ in-range (ranged natural) (signed-value v) ⌝ }
+{
+    if v.negative {
+        return !natural;
+    }
+    v.magnitude < 2147483648
+}
+
+// Whether s fits, where a range of words converts.
+fn word_fits(s: &[u8], from: usize, to: usize, n: usize, natural: bool) -> bool
+    requires { ⌜ Asked from to n (now s) × (conversion (format-at from) (format-at to) ≡ ranged natural) ⌝ }
+    ensures { λ r. ⌜ r ≡ is-done (carried (format-at from) (format-at to) n (now (s .entry))) ⌝ }
+{
+    let word = numbers::to_word(s, from);
+    match word {
+        Word::Number(v) => {
+            if within_range(v, natural) {
+                return numbers::fits_word(v, to, n);
+            }
+            false
+        }
+        Word::Outside => false,
+    }
+}
+
+// Whether the value s is carried.
+pub fn carries(s: &[u8], from: usize, to: usize, n: usize) -> bool
+    requires { ⌜ Asked from to n (now s) ⌝ }
+    ensures { λ r. ⌜ r ≡ is-done (carried (format-at from) (format-at to) n (now (s .entry))) ⌝ }
+{
+    let kind = kinds::conversion(from, to);
+    match kind {
+        Kind::Never => false,
+        Kind::Every => every_fits(s, from, to, n),
+        Kind::Word => word_fits(s, from, to, n, false),
+        Kind::Natural => word_fits(s, from, to, n, true),
+    }
+}
+
+// The length of the bytes of a value that is carried: n, or that of the text and its length byte.
+pub fn carried_size(s: &[u8], n: usize) -> usize
+    requires { ⌜ length (now s) ≤ 253 ⌝ }
+    ensures { λ r. ⌜ r ≡ carried-length n (now (s .entry)) ⌝ }
+{
+    if n == 0 {
+        return texts::text_length(s) + 1;
+    }
+    n
+}
+
+// The value s, where every value converts.
+pub fn carry_every(s: &[u8], from: usize, to: usize, n: usize, out: &mut [u8], at: usize)
+    requires { ⌜ Carrying from to n (now s) at (length (now out)) × (conversion (format-at from) (format-at to) ≡ every) ⌝ }
+    ensures { λ _. ⌜ now (out .exit) ≡ splice at (bytes-of (carried (format-at from) (format-at to) n (now (s .entry)))) (now (out .entry)) ⌝ }
+{
+    if from == ALPHA {
+        texts::carry_text(s, n, out, at);
+    } else {
+        carry_number(s, from, to, n, out, at);
+    }
+}
+
+// The same of a number.
+fn carry_number(s: &[u8], from: usize, to: usize, n: usize, out: &mut [u8], at: usize)
+    requires { ⌜ Carrying from to n (now s) at (length (now out)) × (conversion (format-at from) (format-at to) ≡ every) × (0 < from) ⌝ }
+    ensures { λ _. ⌜ now (out .exit) ≡ splice at (bytes-of (carried (format-at from) (format-at to) n (now (s .entry)))) (now (out .entry)) ⌝ }
+{
+    if from == BINARY {
+        binaries::carry_binary(s, n, out, at);
+    } else {
+        if from == FIXED {
+            words::write_fixed(words::fixed_word(s), n, out, at);
+        } else {
+            decimals::carry(s, from == PACKED, to == PACKED, n, out, at);
+        }
+    }
+}
+
+// The value s, where a range of words converts.
+pub fn carry_word(s: &[u8], from: usize, to: usize, n: usize, out: &mut [u8], at: usize)
+    requires { ⌜ Carrying from to n (now s) at (length (now out)) × ((conversion (format-at from) (format-at to) ≡ word) ⊎ (conversion (format-at from) (format-at to) ≡ natural)) ⌝ }
+    ensures { λ _. ⌜ now (out .exit) ≡ splice at (bytes-of (carried (format-at from) (format-at to) n (now (s .entry)))) (now (out .entry)) ⌝ }
+{
+    let word = numbers::to_word(s, from);
+    match word {
+        Word::Number(v) => {
+            numbers::write_word(v, to, n, out, at);
+        }
+        Word::Outside => {}
+    }
+}

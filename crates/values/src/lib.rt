@@ -1,0 +1,161 @@
+// The five formats: which lengths they have, which convert, where a value ends, null, normal form, and a value carried from one to another.
+// A format is a number: 0 A, 1 B, 2 F, 3 P, 4 U.
+ghost use mathlib.Core.Path.{_≡_};
+ghost use mathlib.Core.Bool.{true};
+ghost use mathlib.Core.Logic.{_⊎_};
+ghost use Prim.Native.Nat.{_+_, _<_, _≤_};
+ghost use lib.ListN.{length, drop};
+ghost use Rattle.rules.specs.Outcome.{is-done};
+ghost use Rattle.rules.specs.Lists.{bytes-of};
+ghost use Rattle.rules.specs.Values.{packed, first-value, null, in-normal-form, carried};
+ghost use Rattle.buffer.specs.Splice.{splice};
+ghost use Rattle.rules.specs.Values as Rules;
+ghost use Rattle.values.specs.Formats.{format-at};
+ghost use Rattle.values.specs.Places.{Found};
+ghost use Rattle.values.specs.Fits.{fitted, size-of};
+
+pub mod carrying;
+pub mod numbers;
+pub mod texts;
+
+use kinds::ALPHA;
+use kinds::Kind;
+use kinds::PACKED;
+
+// Where the first value of a run of bytes lies: its content, without its length byte, and the place after it.
+pub enum First {
+    Value(usize, usize),
+    Refused(u8),
+}
+
+fn wide(x: u8) -> usize
+    ensures { λ r. ⌜ r ≡ x ⌝ }
+{
+    x as usize
+}
+
+// The first value of length 0 from at on.
+fn first_variable(s: &[u8], at: usize) -> First
+    requires { ⌜ at ≤ length (now s) ⌝ }
+    ensures { λ r. ⌜ Found (now (s .entry)) at (first-value 0 (drop at (now (s .entry)))) r ⌝ }
+{
+    if at == s.len() {
+        return First::Refused(7);
+    }
+    let count = wide(s[at]);
+    if count == 0 {
+        return First::Refused(8);
+    }
+    if count == 255 {
+        return First::Refused(8);
+    }
+    if s.len() - at < count {
+        return First::Refused(7);
+    }
+    First::Value(at + 1, at + count)
+}
+
+// The first value of a length from at on.
+pub fn first_value(s: &[u8], at: usize, size: usize) -> First
+    requires { ⌜ at ≤ length (now s) ⌝ }
+    ensures { λ r. ⌜ Found (now (s .entry)) at (first-value size (drop at (now (s .entry)))) r ⌝ }
+{
+    if size == 0 {
+        return first_variable(s, at);
+    }
+    if s.len() - at < size {
+        return First::Refused(7);
+    }
+    First::Value(at, at + size)
+}
+
+// The length of null, its length byte included.
+pub fn null_length(format: usize, size: usize) -> usize
+    requires { ⌜ (format < 5) × (Rules.allowed (format-at format) size ≡ true) ⌝ }
+    ensures { λ r. ⌜ r ≡ length (null (format-at format) size) ⌝ }
+{
+    if size == 0 { 1 } else { size }
+}
+
+// What null is filled with; the last byte of P has the sign too.
+const NULLS: [u8; 5] = [0x40, 0, 0, 0, 0xF0];
+
+// Null of format P, to out from at on.
+fn write_packed_null(size: usize, out: &mut [u8], at: usize)
+    requires { ⌜ (0 < size) × (at + size ≤ length (now out)) ⌝ }
+    ensures { λ _. ⌜ now (out .exit) ≡ splice at (null packed size) (now (out .entry)) ⌝ }
+{
+    let end = at + (size - 1);
+    buffer::fill(out, at, size - 1, 0);
+    out[end] = 0x0F;
+}
+
+// Null, to out from at on.
+pub fn write_null(format: usize, size: usize, out: &mut [u8], at: usize)
+    requires { ⌜ (format < 5) × (Rules.allowed (format-at format) size ≡ true) × (at + length (null (format-at format) size) ≤ length (now out)) ⌝ }
+    ensures { λ _. ⌜ now (out .exit) ≡ splice at (null (format-at format) size) (now (out .entry)) ⌝ }
+{
+    if size == 0 {
+        out[at] = 1;
+    } else {
+        if format == PACKED {
+            write_packed_null(size, out, at);
+        } else {
+            buffer::fill(out, at, size, NULLS[format]);
+        }
+    }
+}
+
+// Whether s, the content of a value without its length byte, is in normal form.
+pub fn is_normal(s: &[u8], format: usize, size: usize) -> bool
+    requires { ⌜ (format < 5) × (Rules.allowed (format-at format) size ≡ true) × (((size ≡ 0) × (length (now s) ≤ 253)) ⊎ (size ≡ length (now s))) ⌝ }
+    ensures { λ r. ⌜ r ≡ in-normal-form (format-at format) size (now (s .entry)) ⌝ }
+{
+    if format == ALPHA {
+        return texts::is_normal_text(s, size);
+    }
+    if format < PACKED {
+        return true;
+    }
+    decimals::is_normal(s, format == PACKED)
+}
+
+// Whether a value fits: the length of its bytes, or a refusal.
+pub enum Fit {
+    Bytes(usize),
+    Refused(u8),
+}
+
+// What the content s of a value gives at another format and length n.
+pub fn fits(s: &[u8], from: usize, to: usize, n: usize) -> Fit
+    requires { ⌜ (from < 5) × (to < 5) × (Rules.allowed (format-at from) (length (now s)) ≡ true) × (Rules.allowed (format-at to) n ≡ true) ⌝ }
+    ensures { λ r. ⌜ fitted r ≡ size-of (carried (format-at from) (format-at to) n (now (s .entry))) ⌝ }
+{
+    if numbers::is_value(s, from) {
+        if carrying::carries(s, from, to, n) {
+            return Fit::Bytes(carrying::carried_size(s, n));
+        }
+        return Fit::Refused(9);
+    }
+    Fit::Refused(8)
+}
+
+// The content s of a value at another format and length n, to out from at on.
+pub fn carry(s: &[u8], from: usize, to: usize, n: usize, out: &mut [u8], at: usize)
+    requires { ⌜ (from < 5) × (to < 5) × (Rules.allowed (format-at from) (length (now s)) ≡ true) × (Rules.allowed (format-at to) n ≡ true) × (is-done (carried (format-at from) (format-at to) n (now s)) ≡ true) × (at + length (bytes-of (carried (format-at from) (format-at to) n (now s))) ≤ length (now out)) ⌝ }
+    ensures { λ _. ⌜ now (out .exit) ≡ splice at (bytes-of (carried (format-at from) (format-at to) n (now (s .entry)))) (now (out .entry)) ⌝ }
+{
+    let kind = kinds::conversion(from, to);
+    match kind {
+        Kind::Never => {}
+        Kind::Every => {
+            carrying::carry_every(s, from, to, n, out, at);
+        }
+        Kind::Word => {
+            carrying::carry_word(s, from, to, n, out, at);
+        }
+        Kind::Natural => {
+            carrying::carry_word(s, from, to, n, out, at);
+        }
+    }
+}

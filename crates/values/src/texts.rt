@@ -1,0 +1,83 @@
+// Format A: bytes without trailing blanks.
+ghost use mathlib.Core.Path.{_≡_};
+ghost use mathlib.Core.Bool.{true};
+ghost use mathlib.Core.Logic.{_⊎_};
+ghost use mathlib.Core.List.{_∷_, _++_};
+ghost use Prim.Native.Nat.{suc, _+_, _-_, _≤_};
+ghost use lib.ListN.{length, take, replicate};
+ghost use Rattle.rules.specs.Characters.{space};
+ghost use Rattle.rules.specs.Outcome.{is-done};
+ghost use Rattle.rules.specs.Lists.{bytes-of};
+ghost use Rattle.rules.specs.Values.{alpha, strip, carried, in-normal-form};
+ghost use Rattle.buffer.specs.Splice.{splice};
+
+const BLANK: u8 = 0x40;
+
+// The longest text of a value of length 0.
+const LONGEST: usize = 253;
+
+// The length of s without trailing blanks.
+pub fn text_length(s: &[u8]) -> usize
+    ensures { λ r. ⌜ (r ≤ length (now (s .entry))) × (strip (now (s .entry)) ≡ take r (now (s .entry))) ⌝ }
+{
+    let mut j = s.len();
+    while 0 < j {
+        if s[j - 1] != BLANK {
+            return j;
+        }
+        j -= 1;
+    }
+    0
+}
+
+// Whether the text of s fits length n.
+pub fn text_fits(s: &[u8], n: usize) -> bool
+    ensures { λ r. ⌜ r ≡ is-done (carried alpha alpha n (now (s .entry))) ⌝ }
+{
+    let len = text_length(s);
+    if n == 0 { len <= LONGEST } else { len <= n }
+}
+
+// A length byte, which counts itself, and t behind it.
+fn put_counted(t: &[u8], out: &mut [u8], at: usize)
+    requires { ⌜ (length (now t) ≤ 253) × (at + 1 + length (now t) ≤ length (now out)) ⌝ }
+    ensures { λ _. ⌜ now (out .exit) ≡ splice at (suc (length (now (t .entry))) ∷ now (t .entry)) (now (out .entry)) ⌝ }
+{
+    let count = t.len() + 1;
+    out[at] = count as u8;
+    buffer::put(t, out, at + 1);
+}
+
+// t, and blanks behind it up to length n.
+fn put_padded(t: &[u8], n: usize, out: &mut [u8], at: usize)
+    requires { ⌜ (length (now t) ≤ n) × (at + n ≤ length (now out)) ⌝ }
+    ensures { λ _. ⌜ now (out .exit) ≡ splice at (now (t .entry) ++ replicate (n - length (now (t .entry))) space) (now (out .entry)) ⌝ }
+{
+    let next = buffer::put(t, out, at);
+    buffer::fill(out, next, n - t.len(), BLANK);
+}
+
+// The text of s at length n, to out from at on.
+pub fn carry_text(s: &[u8], n: usize, out: &mut [u8], at: usize)
+    requires { ⌜ (is-done (carried alpha alpha n (now s)) ≡ true) × (at + length (bytes-of (carried alpha alpha n (now s))) ≤ length (now out)) ⌝ }
+    ensures { λ _. ⌜ now (out .exit) ≡ splice at (bytes-of (carried alpha alpha n (now (s .entry)))) (now (out .entry)) ⌝ }
+{
+    let len = text_length(s);
+    if n == 0 {
+        put_counted(&s[..len], out, at);
+    } else {
+        put_padded(&s[..len], n, out, at);
+    }
+}
+
+// Whether s is in normal form: at length 0 it has no trailing blank.
+pub fn is_normal_text(s: &[u8], n: usize) -> bool
+    requires { ⌜ ((n ≡ 0) × (length (now s) ≤ 253)) ⊎ (n ≡ length (now s)) ⌝ }
+    ensures { λ r. ⌜ r ≡ in-normal-form alpha n (now (s .entry)) ⌝ }
+{
+    if n == 0 {
+        text_length(s) == s.len()
+    } else {
+        true
+    }
+}

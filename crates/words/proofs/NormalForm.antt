@@ -1,0 +1,37 @@
+-- When bytes are in normal form, for every format: what their meaning is written as is compared with them.
+use mathlib.Core.Path.{_≡_, refl, _∙_}
+use mathlib.Core.Bool.{Bool, true, false}
+use Prim.Native.Nat.{ℕ, zero, suc, _<_}
+use native.Mathlib.Nat.{not-suc-le-zero}
+use Rattle.rules.specs.Outcome.{Outcome, done, refused, _>>=_}
+use Rattle.rules.specs.Lists.{Bytes, same}
+use Rattle.rules.specs.Values.{Format, meaning, normal, in-normal-form, with-length-byte}
+use Rattle.rules.proofs.Steps.{same-same}
+
+compared : Outcome Bytes → Bytes → Bool
+compared (done b) w = same b w
+compared (refused k) w = false
+
+in-form : (f : Format) (n : ℕ) (bs : Bytes) → in-normal-form f n bs ≡ compared (meaning f bs >>= normal f n) (with-length-byte n bs)
+unfolding in-normal-form compared
+in-form f n bs = by-outcome (meaning f bs >>= normal f n)
+  where
+    by-outcome : (o : Outcome Bytes) → elim o [ done b ↦ same b (with-length-byte n bs) | refused k ↦ false ] ≡ compared o (with-length-byte n bs)
+    by-outcome (done b) = refl
+    by-outcome (refused k) = refl
+
+-- What means something that is written as these bytes is in normal form.
+pub is-normal-form : (f : Format) (n : ℕ) (bs : Bytes) → (meaning f bs >>= normal f n) ≡ done (with-length-byte n bs) → in-normal-form f n bs ≡ true
+unfolding compared
+is-normal-form f n bs e = in-form f n bs ∙ rw e (same-same (with-length-byte n bs))
+
+pub compares : (f : Format) (n : ℕ) (bs : Bytes) {b : Bytes} → (meaning f bs >>= normal f n) ≡ done b
+    → in-normal-form f n bs ≡ same b (with-length-byte n bs)
+unfolding compared
+compares f n bs e = in-form f n bs ∙ rw e
+
+-- A length of its own has no length byte.
+pub no-length-byte : (n : ℕ) (bs : Bytes) → 0 < n → with-length-byte n bs ≡ bs
+unfolding with-length-byte
+no-length-byte zero bs h = absurd (not-suc-le-zero h)
+no-length-byte (suc n) bs h = refl
