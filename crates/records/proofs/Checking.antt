@@ -28,14 +28,14 @@ part-first false n (field f s mu) es ps = refl
 
 -- Readers one behind the other, in two runs.
 module _ {X Y : Type 0} (one : Y → Reader X) (zs : List Y) where
-  each-on : (ys : List Y) (bs cs : Bytes) → rest-of (each one ys bs) ≡ done cs → rest-of (each one (ys ++ zs) bs) ≡ rest-of (each one zs cs)
+  pub each-on : (ys : List Y) (bs cs : Bytes) → rest-of (each one ys bs) ≡ done cs → rest-of (each one (ys ++ zs) bs) ≡ rest-of (each one zs cs)
   unfolding each
   each-on [] bs cs q = rw (done-inj q) refl
   each-on (y ∷ ys) bs cs q = by-outcome (rest-of (one y bs))
       (λ ds h. each-turn one y (ys ++ zs) bs h ∙ each-on ys ds cs (sym (each-turn one y ys bs h) ∙ q))
       (λ n h. absurd (not-done (sym (each-stop one y ys bs h) ∙ q)))
 
-  each-off : (ys : List Y) (bs : Bytes) (k : ℕ) → rest-of (each one ys bs) ≡ refused k → rest-of (each one (ys ++ zs) bs) ≡ refused k
+  pub each-off : (ys : List Y) (bs : Bytes) (k : ℕ) → rest-of (each one ys bs) ≡ refused k → rest-of (each one (ys ++ zs) bs) ≡ refused k
   unfolding each
   each-off [] bs k q = absurd (not-done (sym q))
   each-off (y ∷ ys) bs k q = by-outcome (rest-of (one y bs))

@@ -8,3 +8,9 @@ pub mod Groups
 pub mod Lookups
 pub mod Occurrences
 pub mod Homes
+pub mod EmptyRows
+pub mod Turns
+pub mod Ends
+pub mod Heads
+pub mod Normals
+pub mod Directories

@@ -50,7 +50,7 @@ module _ (e : Entry) (es : List Entry) where
       go (field f n m) = refl
       go (group p) = refl
 
-  below-end : ltb 1 (e .level) ≡ false → fields-below 1 (e ∷ es) ≡ []
+  pub below-end : ltb 1 (e .level) ≡ false → fields-below 1 (e ∷ es) ≡ []
   unfolding fields-below
   below-end t = rw (t, fields-below) refl
 

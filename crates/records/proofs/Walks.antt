@@ -24,6 +24,10 @@ walked-at {b} {o} {r} {e} w q = (sym (w .answer) ∙ ap (seen b) q, rw q at (w .
 pub walked-bad : {b : Bytes} {o : Outcome Bytes} {r : Step} → Walked b o r → r ≡ Bad → o ≡ refused 2
 walked-bad {b} {o} {r} w q = sym (w .answer) ∙ ap (seen b) q
 
+-- The same step, of an outcome said otherwise.
+pub walked-as : {b : Bytes} {o o′ : Outcome Bytes} {r : Step} → o′ ≡ o → Walked b o r → Walked b o′ r
+walked-as q w = record { answer = w .answer ∙ sym q; place = w .place }
+
 -- Forgetting what was taken goes past what is done with it.
 after : {X Y Z : Type 0} (f : X → Y → Z) (x : X) (o : Outcome (Y × Bytes)) → rest-of (o >>= λ y. done (f x (y .0), y .1)) ≡ rest-of o
 after f x (done y) = refl

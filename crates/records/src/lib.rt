@@ -1,7 +1,30 @@
 // The stored record: whether a slice is one, and where each entry's bytes begin; and the empty record.
+ghost use mathlib.Core.Path.{_≡_};
+ghost use Prim.Native.Nat.{_<_};
+ghost use lib.ListN.{length, getD};
+ghost use Rattle.rules.specs.Table.{is-inside};
+ghost use Rattle.tables.specs.Entries.{Valid, entries-of, blank};
+
+pub mod empty;
+pub mod walk;
 
 // Where a walk over a record stands: at a place behind what it was to take, or at something that is no record.
 pub enum Step {
     At(usize),
     Bad,
+}
+
+// Whether entry i is a periodic group or lies in one, by whether the entry before it does.
+fn inside_next(t: &[u8], i: usize, before: bool) -> bool
+    requires { ⌜ Valid (now t) × (i < length (entries-of (now t))) ⌝ }
+    ensures { λ r. ⌜ r ≡ is-inside before (getD (entries-of (now (t .entry))) i blank) ⌝ }
+{
+    let e = tables::entry_at(t, i);
+    if e.periodic {
+        return true;
+    }
+    if before {
+        return 1 < e.level;
+    }
+    false
 }

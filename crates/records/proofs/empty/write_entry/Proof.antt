@@ -1,0 +1,94 @@
+-- `records::empty::write_entry` meets its contract: null is written for a plain field outside periodic groups, and zeros for the rest.
+-- Assumes nothing.
+use mathlib.Core.Path.{_≡_, refl, sym, ap, _∙_}
+use mathlib.Core.Bool.{true, false}
+use Prim.Native.Nat.{_+_}
+use native.Mathlib.Omega.{arith}
+use lib.ListN.{length, getD, replicate}
+use Rattle.rules.specs.Values.{null}
+use Rattle.buffer.specs.Splice.{splice}
+use Rattle.tables.specs.Entries.{entries-of, blank, decoded, format-at}
+use Rattle.tables.proofs.Tables.{valid-sound}
+use Rattle.records.specs.Empty.{null-row}
+use Rattle.records.proofs.EmptyRows.{row-small, row-allowed, null-adds, zeros-added}
+use borrow.Author.Needs.{needs}
+use Rattle.records.proofs.empty.write_entry.Statement.{statement}
+use Rattle.records.proofs.empty.write_entry.Tie as tie
+
+empty-size-requires : tie.Need-empty-size-requires
+empty-size-requires c κs = search needs
+
+entry-at-requires : tie.Need-entry-at-requires
+entry-at-requires c κs = search needs
+
+adds-null-requires : tie.Need-adds-null-requires
+adds-null-requires c κs = search needs
+
+cast-write-null : tie.Need-cast-write-null
+cast-write-null c = search needs
+
+cast-write-null-2 : tie.Need-cast-write-null-2
+cast-write-null-2 c = search needs
+
+write-null-requires : tie.Need-write-null-requires
+write-null-requires c κs =
+    let s = c .before .before .before .before .before .before .before .before .before in
+    let x = getD (entries-of (s .args .t .now)) (s .args .i) blank in
+    let e = c .before .before .before .before .before .entry-at .ensures in
+    let t : null-row (s .args .inside) (decoded x) ≡ true = ap (null-row (s .args .inside)) (sym e) ∙ sym (c .before .before .before .before .adds-null .ensures) ∙ c .before .before .before .if1 .taken in
+    let y = null-adds (s .args .inside) x t in
+    let l = ap length (y .1) in
+    rw e (row-small (x .what) (y .0), row-allowed _ (x .what) (valid-sound (s .args .t .now) (s .pre .0) (s .args .i) (s .pre .1)) (y .0), omega (arith, s .pre .2))
+
+add-result : tie.Need-add-result
+add-result c = search needs
+
+same-length : tie.Need-same-length
+same-length c = search needs
+
+returns : tie.Need-returns
+returns c =
+    let s = c .before .before .before .before .before .before .before .before .before .before .before .before in
+    let x = getD (entries-of (s .args .t .now)) (s .args .i) blank in
+    let e = c .before .before .before .before .before .before .before .before .entry-at .ensures in
+    let t : null-row (s .args .inside) (decoded x) ≡ true = ap (null-row (s .args .inside)) (sym e) ∙ sym (c .before .before .before .before .before .before .before .adds-null .ensures) ∙ c .before .before .before .before .before .before .if1 .taken in
+    let y = null-adds (s .args .inside) x t in
+    let z = c .before .before .before .before .before .before .before .before .before .empty-size .ensures .0 in
+    (ap (λ n. s .args .at + n) z, c .before .before .write-null .ensures ∙ ap (λ bs. splice (s .args .at) bs (s .args .out .now)) (ap (λ r. null (format-at (r .format)) (r .size)) e ∙ sym (y .1)))
+
+fill-requires : tie.Need-fill-requires
+fill-requires c κs = search needs
+
+add-result-2 : tie.Need-add-result-2
+add-result-2 c = search needs
+
+same-length-2 : tie.Need-same-length-2
+same-length-2 c = search needs
+
+returns-2 : tie.Need-returns-2
+returns-2 c =
+    let s = c .before .before .before .before .before .before .before .before .before .before in
+    let x = getD (entries-of (s .args .t .now)) (s .args .i) blank in
+    let e = c .before .before .before .before .before .before .entry-at .ensures in
+    let t : null-row (s .args .inside) (decoded x) ≡ false = ap (null-row (s .args .inside)) (sym e) ∙ sym (c .before .before .before .before .before .adds-null .ensures) ∙ c .before .before .before .before .if1 .left in
+    let y = zeros-added (s .args .inside) x t in
+    let z = c .before .before .before .before .before .before .before .empty-size .ensures .0 in
+    (ap (λ n. s .args .at + n) z, c .before .before .fill .ensures ∙ ap (λ bs. splice (s .args .at) bs (s .args .out .now)) (ap (λ n. replicate n 0) z ∙ sym y))
+
+pub write-entry-spec : {M : Type 1} → statement M
+write-entry-spec =
+    tie.close
+    (tie.spec
+    empty-size-requires
+    entry-at-requires
+    adds-null-requires
+    cast-write-null
+    cast-write-null-2
+    write-null-requires
+    add-result
+    same-length
+    returns
+    fill-requires
+    add-result-2
+    same-length-2
+    returns-2)

@@ -1,0 +1,94 @@
+// The empty record: every value null and every count 0.
+ghost use mathlib.Core.Path.{_≡_};
+ghost use mathlib.Core.Bool.{true, false};
+ghost use mathlib.Core.List.{_++_};
+ghost use Prim.Native.Nat.{_+_, _≤_, _<_};
+ghost use lib.ListN.{length, getD};
+ghost use Rattle.rules.specs.Record.{record-head};
+ghost use Rattle.buffer.specs.Splice.{splice};
+ghost use Rattle.tables.specs.Entries.{Valid, entries-of, blank};
+ghost use Rattle.records.specs.Empty.{empty-entry, empty-from, null-row};
+use crate::inside_next;
+use tables::Entry;
+
+// How many bytes entry i adds to the empty record.
+fn empty_size(t: &[u8], i: usize, inside: bool) -> usize
+    requires { ⌜ Valid (now t) × (i < length (entries-of (now t))) ⌝ }
+    ensures { λ r. ⌜ (r ≡ length (empty-entry inside (getD (entries-of (now (t .entry))) i blank .what))) × (r ≤ 253) ⌝ }
+{
+    let e = tables::entry_at(t, i);
+    if e.format == tables::GROUP {
+        if e.periodic {
+            return 1;
+        }
+        return 0;
+    }
+    if inside {
+        return 0;
+    }
+    if e.multiple {
+        return 1;
+    }
+    values::null_length(e.format as usize, e.size as usize)
+}
+
+// How long the empty record is.
+pub fn empty_length(t: &[u8]) -> usize
+    requires { ⌜ Valid (now t) ⌝ }
+    ensures { λ r. ⌜ r ≡ 5 + length (empty-from false (entries-of (now (t .entry)))) ⌝ }
+{
+    let n = tables::count(t);
+    let mut inside = false;
+    let mut total = 5;
+    let mut i = 0;
+    while i < n {
+        inside = inside_next(t, i, inside);
+        total += empty_size(t, i, inside);
+        i += 1;
+    }
+    total
+}
+
+// Whether an entry adds null: a plain field outside periodic groups.
+fn adds_null(e: Entry, inside: bool) -> bool
+    ensures { λ r. ⌜ r ≡ null-row inside e ⌝ }
+{
+    if e.format == tables::GROUP {
+        return false;
+    }
+    if inside {
+        return false;
+    }
+    !e.multiple
+}
+
+// Writes what entry i adds to the empty record; the place behind it.
+fn write_entry(t: &[u8], i: usize, inside: bool, out: &mut [u8], at: usize) -> usize
+    requires { ⌜ Valid (now t) × (i < length (entries-of (now t))) × (at + length (empty-entry inside (getD (entries-of (now t)) i blank .what)) ≤ length (now out)) ⌝ }
+    ensures { λ r. ⌜ (r ≡ at + length (empty-entry inside (getD (entries-of (now (t .entry))) i blank .what))) × (now (out .exit) ≡ splice at (empty-entry inside (getD (entries-of (now (t .entry))) i blank .what)) (now (out .entry))) ⌝ }
+{
+    let n = empty_size(t, i, inside);
+    let e = tables::entry_at(t, i);
+    if adds_null(e, inside) {
+        values::write_null(e.format as usize, e.size as usize, out, at);
+        return at + n;
+    }
+    buffer::fill(out, at, n, 0);
+    at + n
+}
+
+// Writes the empty record.
+pub fn write_empty(t: &[u8], out: &mut [u8])
+    requires { ⌜ Valid (now t) × (5 + length (empty-from false (entries-of (now t))) ≤ length (now out)) ⌝ }
+    ensures { λ _. ⌜ now (out .exit) ≡ splice 0 (record-head ++ empty-from false (entries-of (now (t .entry)))) (now (out .entry)) ⌝ }
+{
+    let n = tables::count(t);
+    let mut at = buffer::put(b"\xe5\xd9\xc3\x00\x01", out, 0);
+    let mut inside = false;
+    let mut i = 0;
+    while i < n {
+        inside = inside_next(t, i, inside);
+        at = write_entry(t, i, inside, out, at);
+        i += 1;
+    }
+}

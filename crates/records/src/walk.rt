@@ -1,0 +1,204 @@
+// Whether a slice is a stored record (refusal 2), and where each entry's bytes begin.
+ghost use mathlib.Core.Path.{_≡_};
+ghost use mathlib.Core.Bool.{true, false};
+ghost use Prim.Native.Nat.{suc, _≤_, _<_};
+ghost use lib.ListN.{length, drop, getD};
+ghost use lib.Seq.{slice};
+ghost use Rattle.rules.specs.Values.{allowed};
+ghost use Rattle.rules.specs.Table.{is-inside};
+ghost use Rattle.rules.specs.Record.{times, each, counted, stored-value, stored-cell};
+ghost use Rattle.tables.specs.Entries.{Valid, entries-of, blank, format-at};
+ghost use Rattle.records.specs.Where.{field-of, fields-of};
+ghost use Rattle.records.specs.Walk.{rest-of, Walked, has-count, behind, is-headed, Checked};
+use crate::Step;
+use values::First;
+
+// The place behind a value of a format and standard length.
+fn value_end(b: &[u8], at: usize, format: usize, size: usize) -> Step
+    requires { ⌜ (at ≤ length (now b)) × (format < 5) × (allowed (format-at format) size ≡ true) ⌝ }
+    ensures { λ r. ⌜ Walked (now (b .entry)) (rest-of (stored-value (format-at format) size (drop at (now (b .entry))))) r ⌝ }
+{
+    let first = values::first_value(b, at, size);
+    match first {
+        First::Refused(_) => Step::Bad,
+        First::Value(from, next) => {
+            if values::is_normal(&b[from..next], format, size) {
+                Step::At(next)
+            } else {
+                Step::Bad
+            }
+        }
+    }
+}
+
+// The place behind n values.
+fn values_end(b: &[u8], at: usize, n: usize, format: usize, size: usize) -> Step
+    requires { ⌜ (at ≤ length (now b)) × (format < 5) × (allowed (format-at format) size ≡ true) ⌝ }
+    ensures { λ r. ⌜ Walked (now (b .entry)) (rest-of (times n (stored-value (format-at format) size) (drop at (now (b .entry))))) r ⌝ }
+{
+    let mut p = at;
+    let mut i = 0;
+    while i < n {
+        let step = value_end(b, p, format, size);
+        match step {
+            Step::Bad => {
+                return Step::Bad;
+            }
+            Step::At(next) => {
+                p = next;
+            }
+        }
+        i += 1;
+    }
+    Step::At(p)
+}
+
+// Whether a count stands at a place, and is not over its limit.
+fn has_count(b: &[u8], at: usize) -> bool
+    ensures { λ r. ⌜ r ≡ has-count (now (b .entry)) at ⌝ }
+{
+    if b.len() <= at {
+        return false;
+    }
+    b[at] as usize <= rules::HIGHEST_INDEX
+}
+
+// The place behind the cell of a field, by its format, standard length and whether it is MU.
+fn cell_end(b: &[u8], at: usize, format: usize, size: usize, multiple: bool) -> Step
+    requires { ⌜ (at ≤ length (now b)) × (format < 5) × (allowed (format-at format) size ≡ true) ⌝ }
+    ensures { λ r. ⌜ Walked (now (b .entry)) (rest-of (counted multiple (stored-value (format-at format) size) (drop at (now (b .entry))))) r ⌝ }
+{
+    if multiple {
+        if has_count(b, at) {
+            return values_end(b, at + 1, b[at] as usize, format, size);
+        }
+        return Step::Bad;
+    }
+    value_end(b, at, format, size)
+}
+
+// The place behind the cell of entry i, where it is a field; a group by itself has no bytes.
+fn member_end(t: &[u8], b: &[u8], at: usize, i: usize) -> Step
+    requires { ⌜ Valid (now t) × (i < length (entries-of (now t))) × (at ≤ length (now b)) ⌝ }
+    ensures { λ r. ⌜ Walked (now (b .entry)) (rest-of (each stored-cell (field-of (getD (entries-of (now (t .entry))) i blank .name) (getD (entries-of (now (t .entry))) i blank .what)) (drop at (now (b .entry))))) r ⌝ }
+{
+    let e = tables::entry_at(t, i);
+    if e.format == tables::GROUP {
+        return Step::At(at);
+    }
+    cell_end(b, at, e.format as usize, e.size as usize, e.multiple)
+}
+
+// The place behind the cells of the fields among the entries from first to end, once each.
+fn members_end(t: &[u8], b: &[u8], at: usize, first: usize, end: usize) -> Step
+    requires { ⌜ Valid (now t) × (first ≤ end) × (end ≤ length (entries-of (now t))) × (at ≤ length (now b)) ⌝ }
+    ensures { λ r. ⌜ Walked (now (b .entry)) (rest-of (each stored-cell (fields-of (slice first end (entries-of (now (t .entry))))) (drop at (now (b .entry))))) r ⌝ }
+{
+    let mut p = at;
+    let mut i = first;
+    while i < end {
+        let step = member_end(t, b, p, i);
+        match step {
+            Step::Bad => {
+                return Step::Bad;
+            }
+            Step::At(next) => {
+                p = next;
+            }
+        }
+        i += 1;
+    }
+    Step::At(p)
+}
+
+// The same n times.
+fn occurrences_end(t: &[u8], b: &[u8], at: usize, n: usize, first: usize, end: usize) -> Step
+    requires { ⌜ Valid (now t) × (first ≤ end) × (end ≤ length (entries-of (now t))) × (at ≤ length (now b)) ⌝ }
+    ensures { λ r. ⌜ Walked (now (b .entry)) (rest-of (times n (each stored-cell (fields-of (slice first end (entries-of (now (t .entry)))))) (drop at (now (b .entry))))) r ⌝ }
+{
+    let mut p = at;
+    let mut i = 0;
+    while i < n {
+        let step = members_end(t, b, p, first, end);
+        match step {
+            Step::Bad => {
+                return Step::Bad;
+            }
+            Step::At(next) => {
+                p = next;
+            }
+        }
+        i += 1;
+    }
+    Step::At(p)
+}
+
+// The place behind the part that entry i begins, if it begins one.
+fn entry_end(t: &[u8], b: &[u8], at: usize, i: usize, inside: bool) -> Step
+    requires { ⌜ Valid (now t) × (i < length (entries-of (now t))) × (at ≤ length (now b)) ⌝ }
+    ensures { λ r. ⌜ Walked (now (b .entry)) (behind inside (getD (entries-of (now (t .entry))) i blank) (drop (suc i) (entries-of (now (t .entry)))) (drop at (now (b .entry)))) r ⌝ }
+{
+    let e = tables::entry_at(t, i);
+    if e.periodic {
+        if has_count(b, at) {
+            let end = tables::group_end(t, i);
+            return occurrences_end(t, b, at + 1, b[at] as usize, i + 1, end);
+        }
+        return Step::Bad;
+    }
+    if inside {
+        return Step::At(at);
+    }
+    member_end(t, b, at, i)
+}
+
+// Whether a slice is not too long for a record and has a record's head.
+fn head_right(b: &[u8]) -> bool
+    ensures { λ r. ⌜ r ≡ is-headed (now (b .entry)) ⌝ }
+{
+    if rules::LONGEST_RECORD < b.len() {
+        return false;
+    }
+    if b.len() < 5 {
+        return false;
+    }
+    buffer::stands_at(b, 0, b"\xe5\xd9\xc3\x00\x01")
+}
+
+// Whether a slice is a record, and then the place of each entry's part.
+pub struct Directory {
+    pub ok: bool,
+    pub places: [u16; 64],
+}
+
+pub fn check(t: &[u8], b: &[u8]) -> Directory
+    requires { ⌜ Valid (now t) ⌝ }
+    ensures { λ r. ⌜ Checked (entries-of (now (t .entry))) (now (b .entry)) r ⌝ }
+{
+    let mut places = [0u16; 64];
+    if head_right(b) {
+        let n = tables::count(t);
+        let mut inside = false;
+        let mut p = 5;
+        let mut i = 0;
+        while i < n {
+            places[i] = p as u16;
+            inside = crate::inside_next(t, i, inside);
+            let step = entry_end(t, b, p, i, inside);
+            match step {
+                Step::Bad => {
+                    return Directory { ok: false, places };
+                }
+                Step::At(next) => {
+                    p = next;
+                }
+            }
+            i += 1;
+        }
+        return Directory {
+            ok: p == b.len(),
+            places,
+        };
+    }
+    Directory { ok: false, places }
+}
