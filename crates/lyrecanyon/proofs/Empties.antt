@@ -25,7 +25,7 @@ empty-bytes t = record-head ++ empty-from false (entries-of t)
 
 pub empty-size : (t : Bytes) → length (empty-bytes t) ≡ 5 + length (empty-from false (entries-of t))
 unfolding empty-bytes record-head
-empty-size t = refl
+empty-size t = omega arith
 
 pub empty-refused : (t : Bytes) (room : ℕ) → is-done (table t) ≡ false → empty t room ≡ refused 1
 unfolding empty
