@@ -1,0 +1,5 @@
+pub mod Scanning
+pub mod Pairs
+pub mod Numbers
+pub mod Ways
+pub mod Back

@@ -1,0 +1,32 @@
+-- What the answers of the code mean.
+use mathlib.Core.Path.{_≡_}
+use mathlib.Core.List.{[]}
+use mathlib.Core.Option.{Option, none, some}
+use Prim.Native.Nat.{ℕ, _+_}
+use lib.ListN.{length}
+use Rattle.rules.specs.Lists.{Bytes}
+use Rattle.buffer.specs.Splice.{splice}
+use Rattle.hexadecimal.specs.Text.{decoded}
+use Rattle.hexadecimal.specs.declared.Decoded.{Decoded}
+use Rattle.hexadecimal.specs.declared.Decoded.the-variants.{Upto, NoBytes}
+use Rattle.hexadecimal.specs.declared.Number.{Number}
+use Rattle.hexadecimal.specs.declared.Number.the-variants.{Is, NoNumber}
+
+abbrev pub number-of : Option ℕ → Number
+number-of none = NoNumber
+number-of (some n) = Is n
+
+-- The place behind the bytes, written from at on.
+abbrev pub place-of : ℕ → Option Bytes → Decoded
+place-of at none = NoBytes
+place-of at (some bs) = Upto (at + length bs)
+
+-- What is written: nothing where there are no bytes.
+abbrev pub written : Option Bytes → Bytes
+written none = []
+written (some bs) = bs
+
+-- A word is decoded to out from at on, and nothing is written where it spells no bytes.
+pub record Decodes (word : Bytes) (at : ℕ) (out out′ : Bytes) (r : Decoded) : Type 0 where
+  pub answer : r ≡ place-of at (decoded word)
+  pub after : out′ ≡ splice at (written (decoded word)) out
