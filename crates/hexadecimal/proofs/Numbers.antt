@@ -85,6 +85,9 @@ places-fit n h =
     (by-order n 100000 (λ k. rw (lt-ltb n 100000 k) (places-of 5 (omega arith) (omega arith) (omega arith))) λ h5. rw (le-ltb n 100000 h5)
     (places-of 6 (omega arith) (omega arith) (omega arith))))))
 
+pub decimal-short : (n : ℕ) → n < 1000000 → length (decimal n) ≤ 6
+decimal-short n h = let p = places-fit n h in omega (arith, length-decimal n)
+
 getD-glyph : (ds : List ℕ) (j : ℕ) → j < length ds → getD (map glyph ds) j 0 ≡ glyph (getD ds j 0)
 getD-glyph [] j h = absurd (not-suc-le-zero h)
 getD-glyph (d ∷ ds) zero h = refl

@@ -1,14 +1,14 @@
 -- The ways out of `decode` and `encode`, over plain lists. Assumes nothing.
 use mathlib.Core.Path.{_≡_, refl, sym, ap}
 use mathlib.Core.Bool.{true, false}
-use mathlib.Core.List.{[], _∷_}
-use Prim.Native.Nat.{ℕ, _+_}
+use mathlib.Core.List.{[], _∷_, _++_}
+use Prim.Native.Nat.{ℕ, _+_, _<_}
 use native.Mathlib.Nat.{add-zero}
 use native.Mathlib.Omega.{arith}
-use lib.ListN.{length}
+use lib.ListN.{length, set}
 use Rattle.rules.specs.Lists.{Bytes, same}
 use Rattle.buffer.specs.Splice.{splice}
-use Rattle.buffer.proofs.Laws.{splice-nil}
+use Rattle.buffer.proofs.Laws.{splice-nil, splice-push}
 use Rattle.hexadecimal.specs.Text.{hyphen, paired, parted, is-paired, encoded}
 use Rattle.hexadecimal.specs.Answers.{Decodes}
 use Rattle.hexadecimal.specs.declared.Decoded.the-variants.{Upto, NoBytes}
@@ -41,3 +41,7 @@ pub encoded-some : (bs : Bytes) → (length bs ≡ 0 → ⊥) → encoded bs ≡
 unfolding encoded
 encoded-some [] e = absurd (e refl)
 encoded-some (b ∷ bs) e = refl
+
+-- one byte behind what was written
+pub push : (at : ℕ) (a out out′ : Bytes) (q v : ℕ) → out′ ≡ splice at a out → q ≡ at + length a → q < length out → set out′ q v ≡ splice at (a ++ (v ∷ [])) out
+push at a out out′ q v e p h = rw e (splice-push at a out q v p h)

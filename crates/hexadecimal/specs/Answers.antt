@@ -2,13 +2,15 @@
 use mathlib.Core.Path.{_≡_}
 use mathlib.Core.List.{[]}
 use mathlib.Core.Option.{Option, none, some}
-use Prim.Native.Nat.{ℕ, _+_}
+use Prim.Native.Nat.{ℕ, _+_, _*_, _≤_}
 use lib.ListN.{length}
 use Rattle.rules.specs.Lists.{Bytes}
 use Rattle.buffer.specs.Splice.{splice}
 use Rattle.hexadecimal.specs.Text.{decoded}
+use Rattle.hexadecimal.specs.Lines.{bytes-at, next-at, answer-line}
 use Rattle.hexadecimal.specs.declared.Decoded.{Decoded}
 use Rattle.hexadecimal.specs.declared.Decoded.the-variants.{Upto, NoBytes}
+use Rattle.hexadecimal.specs.declared.Taken.{Taken}
 use Rattle.hexadecimal.specs.declared.Number.{Number}
 use Rattle.hexadecimal.specs.declared.Number.the-variants.{Is, NoNumber}
 
@@ -30,3 +32,17 @@ written (some bs) = bs
 pub record Decodes (word : Bytes) (at : ℕ) (out out′ : Bytes) (r : Decoded) : Type 0 where
   pub answer : r ≡ place-of at (decoded word)
   pub after : out′ ≡ splice at (written (decoded word)) out
+
+-- The word of a line from at on is decoded to out from start on; the place behind its bytes, and the next word's.
+pub record Takes (line : Bytes) (at start : ℕ) (out out′ : Bytes) (r : Taken) : Type 0 where
+  pub end : r .end ≡ start + length (written (bytes-at at line))
+  pub next : r .next ≡ next-at at line
+  pub after : out′ ≡ splice start (written (bytes-at at line)) out
+  pub upto : 2 * r .end ≤ r .next
+  pub within : r .next ≤ length line + 1
+
+-- The line of an answer is written to out from at on; the place behind it.
+pub record Answers (number : ℕ) (bytes : Bytes) (at : ℕ) (out out′ : Bytes) (r : ℕ) : Type 0 where
+  pub after : out′ ≡ splice at (answer-line number bytes) out
+  pub behind : r ≡ at + length (answer-line number bytes)
+  pub short : r ≤ at + (2 * length bytes + 16)

@@ -1,12 +1,14 @@
 // Text of one line: byte strings in hexadecimal, numbers in decimal, and where a word or a line ends.
 ghost use mathlib.Core.Path.{_≡_};
 ghost use mathlib.Core.Bool.{true};
+ghost use mathlib.Core.List.{[], _∷_, _++_};
 ghost use Prim.Native.Nat.{_+_, _*_, _/_, _≤_, _<_};
 ghost use lib.ListN.{length, drop};
 ghost use Rattle.buffer.specs.Splice.{splice};
 ghost use Rattle.rules.specs.Lists.{same};
 ghost use Rattle.hexadecimal.specs.Text as Text;
-ghost use Rattle.hexadecimal.specs.Answers.{number-of, Decodes};
+ghost use Rattle.hexadecimal.specs.Lines as Lines;
+ghost use Rattle.hexadecimal.specs.Answers.{number-of, Decodes, Takes, Answers};
 
 // The place behind the bytes that were written; or the word spells no bytes.
 pub enum Decoded {
@@ -17,6 +19,12 @@ pub enum Decoded {
 pub enum Number {
     Is(usize),
     NoNumber,
+}
+
+// The place behind the bytes that a word gave, and where the next word of the line begins.
+pub struct Taken {
+    pub end: usize,
+    pub next: usize,
 }
 
 // The first place from at on that has the byte b, or the end.
@@ -230,4 +238,69 @@ pub fn put_number(n: usize, out: &mut [u8], at: usize) -> usize
         rest = rest / 10;
     }
     at + k
+}
+
+// The bytes of the line's word from at on, to out from start on. Where it spells none, no word follows.
+pub fn take_bytes(line: &[u8], at: usize, out: &mut [u8], start: usize) -> Taken
+    requires { ⌜ (at ≤ length (now line) + 1) × (2 * start ≤ at) × (length (now line) ≤ 2 * length (now out)) ⌝ }
+    ensures { λ r. ⌜ Takes (now (line .entry)) at start (now (out .entry)) (now (out .exit)) r ⌝ }
+{
+    if line.len() < at {
+        return Taken {
+            end: start,
+            next: line.len() + 1,
+        };
+    }
+    let stop = find(line, at, b' ');
+    let d = decode(&line[at..stop], out, start);
+    match d {
+        Decoded::Upto(end) => Taken {
+            end,
+            next: stop + 1,
+        },
+        Decoded::NoBytes => Taken {
+            end: start,
+            next: line.len() + 1,
+        },
+    }
+}
+
+// The number that the line spells from at on.
+pub fn take_number(line: &[u8], at: usize) -> Number
+    ensures { λ r. ⌜ r ≡ number-of (Lines.number-at at (now (line .entry))) ⌝ }
+{
+    if line.len() < at {
+        return Number::NoNumber;
+    }
+    read_number(&line[at..])
+}
+
+// A number and a space.
+fn put_field(n: usize, out: &mut [u8], at: usize) -> usize
+    requires { ⌜ (n < 1000000) × (at + 7 ≤ length (now out)) ⌝ }
+    ensures { λ r. ⌜ (r ≡ at + length (Text.decimal n ++ (32 ∷ []))) × (now (out .exit) ≡ splice at (Text.decimal n ++ (32 ∷ [])) (now (out .entry))) × (r ≤ at + 7) ⌝ }
+{
+    let end = put_number(n, out, at);
+    out[end] = b' ';
+    end + 1
+}
+
+// The line of an answer, to out from at on; the place behind it.
+pub fn put_answer(number: u8, bytes: &[u8], out: &mut [u8], at: usize) -> usize
+    requires { ⌜ (length (now bytes) < 1000000) × (at + (2 * length (now bytes) + 16) ≤ length (now out)) ⌝ }
+    ensures { λ r. ⌜ Answers number (now (bytes .entry)) at (now (out .entry)) (now (out .exit)) r ⌝ }
+{
+    let behind_number = put_field(wide(number), out, at);
+    let behind_length = put_field(bytes.len(), out, behind_number);
+    let end = encode(bytes, out, behind_length);
+    out[end] = 10;
+    end + 1
+}
+
+// The line that answers what is no call.
+pub fn put_no_call(out: &mut [u8], at: usize) -> usize
+    requires { ⌜ at + 6 ≤ length (now out) ⌝ }
+    ensures { λ r. ⌜ (r ≡ at + 6) × (now (out .exit) ≡ splice at Lines.no-call-line (now (out .entry))) ⌝ }
+{
+    buffer::put(b"? 0 -\n", out, at)
 }
