@@ -2,7 +2,7 @@
 use mathlib.Core.List.{List}
 use Prim.Native.Nat.{ℕ, _+_, _*_, _≤_}
 use lib.ListN.{length}
-use Rattle.calls.specs.declared.Three.{Three}
+use Rattle.hexadecimal.specs.declared.Three.{Three}
 
 -- A line that may be a call, the area for the bytes that it spells, the room for an answer's bytes, and the output from a place on.
 pub record Areas (line bytes room out : List ℕ) (at : ℕ) : Type 0 where

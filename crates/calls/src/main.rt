@@ -1,6 +1,7 @@
 // Answers calls on the services, given as lines on standard input, by lines on standard output; tests/vectors/README.md has their form.
 // A line that is no call is answered `? 0 -`.
 use hexadecimal::Number;
+use hexadecimal::Three;
 ghost use mathlib.Core.Path.{_≡_};
 ghost use Prim.Native.Nat.{_+_, _-_, _*_, _≤_, _<_};
 ghost use lib.ListN.{length, take, drop};
@@ -39,16 +40,16 @@ fn output_area() -> [u8; 200000]
 // The number and the length that a service returned; or there is no such service yet.
 struct Answered {
     number: u8,
-    used: usize,
+    length: usize,
     known: bool,
 }
 
 fn answer_read(table: &[u8], record: &[u8], format: &[u8], room: &mut [u8]) -> Answered
-    ensures { λ r. ⌜ r .used ≤ length (now (room .entry)) ⌝ }
+    ensures { λ r. ⌜ r .length ≤ length (now (room .entry)) ⌝ }
 {
     Answered {
         number: 0,
-        used: 0,
+        length: 0,
         known: false,
     }
 }
@@ -60,31 +61,31 @@ fn answer_update(
     buffer: &[u8],
     room: &mut [u8],
 ) -> Answered
-    ensures { λ r. ⌜ r .used ≤ length (now (room .entry)) ⌝ }
+    ensures { λ r. ⌜ r .length ≤ length (now (room .entry)) ⌝ }
 {
     Answered {
         number: 0,
-        used: 0,
+        length: 0,
         known: false,
     }
 }
 
 fn answer_empty(table: &[u8], room: &mut [u8]) -> Answered
-    ensures { λ r. ⌜ r .used ≤ length (now (room .entry)) ⌝ }
+    ensures { λ r. ⌜ r .length ≤ length (now (room .entry)) ⌝ }
 {
     Answered {
         number: 0,
-        used: 0,
+        length: 0,
         known: false,
     }
 }
 
 // The line of an answer whose bytes stand in front of room, to out from at on; the place behind it.
 fn put(a: Answered, room: &[u8], out: &mut [u8], at: usize) -> usize
-    requires { ⌜ (a .used ≤ length (now room)) × (length (now room) ≤ 40000) × (at + 80016 ≤ length (now out)) ⌝ }
+    requires { ⌜ (a .length ≤ length (now room)) × (length (now room) ≤ 40000) × (at + 80016 ≤ length (now out)) ⌝ }
     ensures { λ r. ⌜ r ≤ at + 80016 ⌝ }
 {
-    let used = a.used;
+    let used = a.length;
     if a.known {
         hexadecimal::put_answer(a.number, &room[..used], out, at)
     } else {
@@ -98,33 +99,10 @@ fn least(a: usize, b: usize) -> usize
     if a < b { a } else { b }
 }
 
-// Where the bytes of a call's table, record and format end, and where its next word begins.
-struct Three {
-    table: usize,
-    record: usize,
-    format: usize,
-    next: usize,
-}
-
-fn take_three(line: &[u8], bytes: &mut [u8]) -> Three
-    requires { ⌜ (2 ≤ length (now line)) × (length (now line) ≤ 2 * length (now bytes)) ⌝ }
-    ensures { λ r. ⌜ (Parts (now (bytes .entry)) r) × (2 * r .format ≤ r .next) × (r .next ≤ length (now (line .entry)) + 1) ⌝ }
-{
-    let first = hexadecimal::take_bytes(line, 2, bytes, 0);
-    let second = hexadecimal::take_bytes(line, first.next, bytes, first.end);
-    let third = hexadecimal::take_bytes(line, second.next, bytes, second.end);
-    Three {
-        table: first.end,
-        record: second.end,
-        format: third.end,
-        next: third.next,
-    }
-}
-
 // The parts of bytes that the three words spelled are lent to the service, and room up to the length asked.
 fn ask_read(bytes: &[u8], s: Three, room: &mut [u8], asked: usize) -> Answered
     requires { ⌜ Parts (now bytes) s ⌝ }
-    ensures { λ r. ⌜ r .used ≤ length (now (room .entry)) ⌝ }
+    ensures { λ r. ⌜ r .length ≤ length (now (room .entry)) ⌝ }
 {
     let lent = least(asked, room.len());
     let table = s.table;
@@ -142,7 +120,7 @@ fn read_call(line: &[u8], bytes: &mut [u8], room: &mut [u8], out: &mut [u8], at:
     requires { ⌜ Areas (now line) (now bytes) (now room) (now out) at ⌝ }
     ensures { λ r. ⌜ r ≤ at + 80016 ⌝ }
 {
-    let s = take_three(line, bytes);
+    let s = hexadecimal::take_three(line, bytes);
     let n = hexadecimal::take_number(line, s.next);
     match n {
         Number::Is(asked) => {
@@ -155,7 +133,7 @@ fn read_call(line: &[u8], bytes: &mut [u8], room: &mut [u8], out: &mut [u8], at:
 
 fn ask_update(bytes: &[u8], s: Three, end: usize, room: &mut [u8], asked: usize) -> Answered
     requires { ⌜ (Parts (now bytes) s) × (s .format ≤ end) × (end ≤ length (now bytes)) ⌝ }
-    ensures { λ r. ⌜ r .used ≤ length (now (room .entry)) ⌝ }
+    ensures { λ r. ⌜ r .length ≤ length (now (room .entry)) ⌝ }
 {
     let lent = least(asked, room.len());
     let table = s.table;
@@ -174,7 +152,7 @@ fn update_call(line: &[u8], bytes: &mut [u8], room: &mut [u8], out: &mut [u8], a
     requires { ⌜ Areas (now line) (now bytes) (now room) (now out) at ⌝ }
     ensures { λ r. ⌜ r ≤ at + 80016 ⌝ }
 {
-    let s = take_three(line, bytes);
+    let s = hexadecimal::take_three(line, bytes);
     let buffer = hexadecimal::take_bytes(line, s.next, bytes, s.format);
     let n = hexadecimal::take_number(line, buffer.next);
     match n {
@@ -188,7 +166,7 @@ fn update_call(line: &[u8], bytes: &mut [u8], room: &mut [u8], out: &mut [u8], a
 
 fn ask_empty(bytes: &[u8], end: usize, room: &mut [u8], asked: usize) -> Answered
     requires { ⌜ end ≤ length (now bytes) ⌝ }
-    ensures { λ r. ⌜ r .used ≤ length (now (room .entry)) ⌝ }
+    ensures { λ r. ⌜ r .length ≤ length (now (room .entry)) ⌝ }
 {
     let lent = least(asked, room.len());
     answer_empty(&bytes[..end], &mut room[..lent])

@@ -1,20 +1,22 @@
 -- A word of a line, taken: the ways out of `take_bytes` over plain lists, and that the walk by places goes over the words. Assumes nothing.
 use mathlib.Core.Path.{_≡_, refl, sym, _∙_, ap}
-use mathlib.Core.List.{List, [], _∷_}
+use mathlib.Core.List.{List, [], _∷_, _++_}
 use mathlib.Core.Option.{Option, none, some}
 use Prim.Native.Nat.{ℕ, _+_, _*_, _-_, _≤_, _<_}
-use native.Mathlib.Nat.{add-zero}
+use native.Mathlib.Nat.{add-zero, zero-add}
 use native.Mathlib.Omega.{arith}
 use borrow.Author.Tests.{le-leb, lt-leb}
 use lib.Dec.{eqb}
-use lib.ListN.{length, take, drop, length-take, length-drop}
+use lib.ListN.{length, take, drop, length-append, length-take, length-drop}
 use lib.Seq.{take-all}
 use Rattle.rules.specs.Lists.{Bytes, same}
 use Rattle.rules.proofs.Steps.{by-test, by-option, some-inj, not-some}
-use Rattle.buffer.proofs.Laws.{splice-nil}
+use Rattle.buffer.specs.Splice.{splice}
+use Rattle.buffer.proofs.Laws.{splice-nil, splice-chain}
 use Rattle.hexadecimal.specs.Text.{before, hyphen, is-paired, decoded, number}
 use Rattle.hexadecimal.specs.Lines.{onto, words, word-at, bytes-at, place-behind, next-at, number-at}
-use Rattle.hexadecimal.specs.Answers.{place-of, Decodes, Takes}
+use Rattle.hexadecimal.specs.Answers.{place-of, written, Decodes, Takes, TakesThree, first-bytes, second-bytes, third-bytes}
+use Rattle.hexadecimal.specs.declared.Taken.{Taken}
 use Rattle.hexadecimal.specs.declared.Decoded.{Decoded}
 use Rattle.hexadecimal.specs.declared.Decoded.the-variants.{Upto, NoBytes}
 use Rattle.hexadecimal.proofs.Pairs.{length-paired, decoded-hyphen, decoded-pairs, decoded-none}
@@ -110,3 +112,33 @@ words-first (c ∷ s) = by-test (eqb c 32) (λ e. rw e) (λ e. rw e (ap (onto c)
 pub words-at : (at : ℕ) (line : Bytes) → words (drop at line) ≡ word-at at line ∷ words-behind (drop (before 32 (drop at line)) (drop at line))
 unfolding word-at
 words-at at line = words-first (drop at line)
+
+-- three words, taken one behind the other
+pub takes-three : (line out out₁ out₂ out₃ : Bytes) (a b c : Taken) → length line ≤ 2 * length out
+    → Takes line 2 0 out out₁ a → Takes line (a .next) (a .end) out₁ out₂ b → Takes line (b .next) (b .end) out₂ out₃ c
+    → TakesThree line out out₃ (record { table = a .end; «record» = b .end; format = c .end; next = c .next })
+unfolding first-bytes second-bytes third-bytes
+takes-three line out out₁ out₂ out₃ a b c h s t u =
+    let p = s .next in
+    let q : b .next ≡ next-at (next-at 2 line) line = t .next ∙ ap (λ n. next-at n line) p in
+    let bs₁ = written (bytes-at 2 line) in
+    let bs₂ = written (bytes-at (next-at 2 line) line) in
+    let bs₃ = written (bytes-at (next-at (next-at 2 line) line) line) in
+    let e₁ : a .end ≡ length bs₁ = s .end ∙ zero-add (length bs₁) in
+    let e₂ : b .end ≡ a .end + length bs₂ = rw p at (t .end) in
+    let e₃ : c .end ≡ b .end + length bs₃ = rw q at (u .end) in
+    let w₂ : out₂ ≡ splice (a .end) bs₂ out₁ = rw p at (t .after) in
+    let w₃ : out₃ ≡ splice (b .end) bs₃ out₂ = rw q at (u .after) in
+    let m = t .upto in
+    let n = u .upto in
+    let l = length-append bs₁ bs₂ in
+    let two = splice-chain 0 bs₁ bs₂ out out₁ out₂ (a .end) (s .after) w₂ (omega arith) (omega (arith, s .upto, s .within)) in
+    record {
+      table = e₁;
+      record-end = e₂;
+      format = e₃;
+      next = u .next ∙ ap (λ n. next-at n line) q;
+      after = splice-chain 0 (bs₁ ++ bs₂) bs₃ out out₂ out₃ (b .end) two w₃ (omega arith) (omega (arith, t .upto, t .within));
+      upto = u .upto;
+      within = u .within;
+    }

@@ -8,7 +8,7 @@ ghost use Rattle.buffer.specs.Splice.{splice};
 ghost use Rattle.rules.specs.Lists.{same};
 ghost use Rattle.hexadecimal.specs.Text as Text;
 ghost use Rattle.hexadecimal.specs.Lines as Lines;
-ghost use Rattle.hexadecimal.specs.Answers.{number-of, Decodes, Takes, Answers};
+ghost use Rattle.hexadecimal.specs.Answers.{number-of, Decodes, Takes, TakesThree, Answers};
 
 // The place behind the bytes that were written; or the word spells no bytes.
 pub enum Decoded {
@@ -262,6 +262,30 @@ pub fn take_bytes(line: &[u8], at: usize, out: &mut [u8], start: usize) -> Taken
             end: start,
             next: line.len() + 1,
         },
+    }
+}
+
+// Where the bytes of a call's table, record and format end, and where its next word begins.
+pub struct Three {
+    pub table: usize,
+    pub record: usize,
+    pub format: usize,
+    pub next: usize,
+}
+
+// The bytes of the three words behind a line's first word, which is one letter, to out one behind the other.
+pub fn take_three(line: &[u8], out: &mut [u8]) -> Three
+    requires { ⌜ (2 ≤ length (now line)) × (length (now line) ≤ 2 * length (now out)) ⌝ }
+    ensures { λ r. ⌜ TakesThree (now (line .entry)) (now (out .entry)) (now (out .exit)) r ⌝ }
+{
+    let first = take_bytes(line, 2, out, 0);
+    let second = take_bytes(line, first.next, out, first.end);
+    let third = take_bytes(line, second.next, out, second.end);
+    Three {
+        table: first.end,
+        record: second.end,
+        format: third.end,
+        next: third.next,
     }
 }
 
