@@ -6,7 +6,7 @@ ghost use mathlib.Core.Path.{_≡_};
 ghost use Prim.Native.Nat.{_+_, _-_, _*_, _≤_, _<_};
 ghost use lib.ListN.{length, take, drop};
 ghost use Rattle.buffer.specs.Splice.{splice};
-ghost use Rattle.calls.specs.Areas.{Areas, Parts};
+ghost use Rattle.calls.specs.Parts.{Parts};
 
 // A line of 160,000 bytes, the longest that can be a call, and its newline.
 fn input_area() -> [u8; 160001]
@@ -37,21 +37,28 @@ fn output_area() -> [u8; 200000]
     [0; 200000]
 }
 
-// The number and the length that a service returned; or there is no such service yet.
+// The number and the length that a service returned. What is no call has no known answer, and so has every call until the
+// services are there.
 struct Answered {
     number: u8,
     length: usize,
     known: bool,
 }
 
-fn answer_read(table: &[u8], record: &[u8], format: &[u8], room: &mut [u8]) -> Answered
-    ensures { λ r. ⌜ r .length ≤ length (now (room .entry)) ⌝ }
+fn no_call() -> Answered
+    ensures { λ r. ⌜ r .length ≡ 0 ⌝ }
 {
     Answered {
         number: 0,
         length: 0,
         known: false,
     }
+}
+
+fn answer_read(table: &[u8], record: &[u8], format: &[u8], room: &mut [u8]) -> Answered
+    ensures { λ r. ⌜ r .length ≤ length (now (room .entry)) ⌝ }
+{
+    no_call()
 }
 
 fn answer_update(
@@ -63,34 +70,13 @@ fn answer_update(
 ) -> Answered
     ensures { λ r. ⌜ r .length ≤ length (now (room .entry)) ⌝ }
 {
-    Answered {
-        number: 0,
-        length: 0,
-        known: false,
-    }
+    no_call()
 }
 
 fn answer_empty(table: &[u8], room: &mut [u8]) -> Answered
     ensures { λ r. ⌜ r .length ≤ length (now (room .entry)) ⌝ }
 {
-    Answered {
-        number: 0,
-        length: 0,
-        known: false,
-    }
-}
-
-// The line of an answer whose bytes stand in front of room, to out from at on; the place behind it.
-fn put(a: Answered, room: &[u8], out: &mut [u8], at: usize) -> usize
-    requires { ⌜ (a .length ≤ length (now room)) × (length (now room) ≤ 40000) × (at + 80016 ≤ length (now out)) ⌝ }
-    ensures { λ r. ⌜ r ≤ at + 80016 ⌝ }
-{
-    let used = a.length;
-    if a.known {
-        hexadecimal::put_answer(a.number, &room[..used], out, at)
-    } else {
-        hexadecimal::put_no_call(out, at)
-    }
+    no_call()
 }
 
 fn least(a: usize, b: usize) -> usize
@@ -99,7 +85,7 @@ fn least(a: usize, b: usize) -> usize
     if a < b { a } else { b }
 }
 
-// The parts of bytes that the three words spelled are lent to the service, and room up to the length asked.
+// The parts of bytes that a call's words spelled are lent to the service, and room up to the length asked.
 fn ask_read(bytes: &[u8], s: Three, room: &mut [u8], asked: usize) -> Answered
     requires { ⌜ Parts (now bytes) s ⌝ }
     ensures { λ r. ⌜ r .length ≤ length (now (room .entry)) ⌝ }
@@ -114,21 +100,6 @@ fn ask_read(bytes: &[u8], s: Three, room: &mut [u8], asked: usize) -> Answered
         &bytes[record..format],
         &mut room[..lent],
     )
-}
-
-fn read_call(line: &[u8], bytes: &mut [u8], room: &mut [u8], out: &mut [u8], at: usize) -> usize
-    requires { ⌜ Areas (now line) (now bytes) (now room) (now out) at ⌝ }
-    ensures { λ r. ⌜ r ≤ at + 80016 ⌝ }
-{
-    let s = hexadecimal::take_three(line, bytes);
-    let n = hexadecimal::take_number(line, s.next);
-    match n {
-        Number::Is(asked) => {
-            let a = ask_read(bytes, s, room, asked);
-            put(a, room, out, at)
-        }
-        Number::NoNumber => hexadecimal::put_no_call(out, at),
-    }
 }
 
 fn ask_update(bytes: &[u8], s: Three, end: usize, room: &mut [u8], asked: usize) -> Answered
@@ -148,22 +119,6 @@ fn ask_update(bytes: &[u8], s: Three, end: usize, room: &mut [u8], asked: usize)
     )
 }
 
-fn update_call(line: &[u8], bytes: &mut [u8], room: &mut [u8], out: &mut [u8], at: usize) -> usize
-    requires { ⌜ Areas (now line) (now bytes) (now room) (now out) at ⌝ }
-    ensures { λ r. ⌜ r ≤ at + 80016 ⌝ }
-{
-    let s = hexadecimal::take_three(line, bytes);
-    let buffer = hexadecimal::take_bytes(line, s.next, bytes, s.format);
-    let n = hexadecimal::take_number(line, buffer.next);
-    match n {
-        Number::Is(asked) => {
-            let a = ask_update(bytes, s, buffer.end, room, asked);
-            put(a, room, out, at)
-        }
-        Number::NoNumber => hexadecimal::put_no_call(out, at),
-    }
-}
-
 fn ask_empty(bytes: &[u8], end: usize, room: &mut [u8], asked: usize) -> Answered
     requires { ⌜ end ≤ length (now bytes) ⌝ }
     ensures { λ r. ⌜ r .length ≤ length (now (room .entry)) ⌝ }
@@ -172,37 +127,72 @@ fn ask_empty(bytes: &[u8], end: usize, room: &mut [u8], asked: usize) -> Answere
     answer_empty(&bytes[..end], &mut room[..lent])
 }
 
-fn empty_call(line: &[u8], bytes: &mut [u8], room: &mut [u8], out: &mut [u8], at: usize) -> usize
-    requires { ⌜ Areas (now line) (now bytes) (now room) (now out) at ⌝ }
-    ensures { λ r. ⌜ r ≤ at + 80016 ⌝ }
+fn read_call(line: &[u8], bytes: &mut [u8], room: &mut [u8]) -> Answered
+    requires { ⌜ (2 ≤ length (now line)) × (length (now line) ≤ 2 * length (now bytes)) ⌝ }
+    ensures { λ r. ⌜ r .length ≤ length (now (room .entry)) ⌝ }
+{
+    let s = hexadecimal::take_three(line, bytes);
+    let n = hexadecimal::take_number(line, s.next);
+    match n {
+        Number::Is(asked) => ask_read(bytes, s, room, asked),
+        Number::NoNumber => no_call(),
+    }
+}
+
+fn update_call(line: &[u8], bytes: &mut [u8], room: &mut [u8]) -> Answered
+    requires { ⌜ (2 ≤ length (now line)) × (length (now line) ≤ 2 * length (now bytes)) ⌝ }
+    ensures { λ r. ⌜ r .length ≤ length (now (room .entry)) ⌝ }
+{
+    let s = hexadecimal::take_three(line, bytes);
+    let buffer = hexadecimal::take_bytes(line, s.next, bytes, s.format);
+    let n = hexadecimal::take_number(line, buffer.next);
+    match n {
+        Number::Is(asked) => ask_update(bytes, s, buffer.end, room, asked),
+        Number::NoNumber => no_call(),
+    }
+}
+
+fn empty_call(line: &[u8], bytes: &mut [u8], room: &mut [u8]) -> Answered
+    requires { ⌜ (2 ≤ length (now line)) × (length (now line) ≤ 2 * length (now bytes)) ⌝ }
+    ensures { λ r. ⌜ r .length ≤ length (now (room .entry)) ⌝ }
 {
     let table = hexadecimal::take_bytes(line, 2, bytes, 0);
     let n = hexadecimal::take_number(line, table.next);
     match n {
-        Number::Is(asked) => {
-            let a = ask_empty(bytes, table.end, room, asked);
-            put(a, room, out, at)
-        }
-        Number::NoNumber => hexadecimal::put_no_call(out, at),
+        Number::Is(asked) => ask_empty(bytes, table.end, room, asked),
+        Number::NoNumber => no_call(),
     }
 }
 
-// The answer to a line, to out from at on; the place behind it. The first word is one letter, the kind of call.
-fn answer_line(line: &[u8], bytes: &mut [u8], room: &mut [u8], out: &mut [u8], at: usize) -> usize
-    requires { ⌜ (length (now line) ≤ 2 * length (now bytes)) × (length (now room) ≤ 40000) × (at + 80016 ≤ length (now out)) ⌝ }
-    ensures { λ r. ⌜ r ≤ at + 80016 ⌝ }
+// The call that a line makes, by its first word, which is one letter. The bytes of the answer stand in front of room.
+fn answer_call(line: &[u8], bytes: &mut [u8], room: &mut [u8]) -> Answered
+    requires { ⌜ length (now line) ≤ 2 * length (now bytes) ⌝ }
+    ensures { λ r. ⌜ r .length ≤ length (now (room .entry)) ⌝ }
 {
     if line.len() < 2 {
-        return hexadecimal::put_no_call(out, at);
+        return no_call();
     }
     if line[1] != b' ' {
-        return hexadecimal::put_no_call(out, at);
+        return no_call();
     }
     match line[0] {
-        b'R' => read_call(line, bytes, room, out, at),
-        b'U' => update_call(line, bytes, room, out, at),
-        b'E' => empty_call(line, bytes, room, out, at),
-        _ => hexadecimal::put_no_call(out, at),
+        b'R' => read_call(line, bytes, room),
+        b'U' => update_call(line, bytes, room),
+        b'E' => empty_call(line, bytes, room),
+        _ => no_call(),
+    }
+}
+
+// The line of an answer whose bytes stand in front of room, to out from at on; the place behind it.
+fn put(a: Answered, room: &[u8], out: &mut [u8], at: usize) -> usize
+    requires { ⌜ (a .length ≤ length (now room)) × (length (now room) ≤ 40000) × (at + 80016 ≤ length (now out)) ⌝ }
+    ensures { λ r. ⌜ r ≤ at + 80016 ⌝ }
+{
+    let used = a.length;
+    if a.known {
+        hexadecimal::put_answer(a.number, &room[..used], out, at)
+    } else {
+        hexadecimal::put_no_call(out, at)
     }
 }
 
@@ -243,7 +233,8 @@ fn next_line(
         return used;
     }
     let at = with_room(out, used);
-    answer_line(line, bytes, room, out, at)
+    let a = answer_call(line, bytes, room);
+    put(a, room, out, at)
 }
 
 // Where the bytes of a line begin that has not ended, whether it is the end of one that was too long, and how much of the output is used.
