@@ -6,7 +6,7 @@ ghost use mathlib.Core.Path.{_≡_};
 ghost use Prim.Native.Nat.{_+_, _-_, _*_, _≤_, _<_};
 ghost use lib.ListN.{length, take, drop};
 ghost use Rattle.buffer.specs.Splice.{splice};
-ghost use Rattle.calls.specs.Parts.{Parts};
+ghost use Rattle.calls.specs.Areas.{Areas, Parts};
 
 // A line of 160,000 bytes, the longest that can be a call, and its newline.
 fn input_area() -> [u8; 160001]
@@ -253,7 +253,7 @@ fn answer_lines(
     room: &mut [u8],
     out: &mut [u8],
 ) -> Lines
-    requires { ⌜ (from ≤ length (now input)) × (length (now input) ≤ 2 * length (now bytes) + 1) × (length (now room) ≤ 40000) × (80016 ≤ length (now out)) ⌝ }
+    requires { ⌜ (from ≤ length (now input)) × Areas (now input) (now bytes) (now room) (now out) ⌝ }
     ensures { λ r. ⌜ (r .at ≤ length (now (input .entry))) × (r .used ≤ length (now (out .entry))) ⌝ }
 {
     let mut at = 0;
@@ -340,7 +340,7 @@ fn read_more(input: &mut [u8], held: usize) -> usize
 
 // One read, and the answers to the lines that it ended.
 fn turn(input: &mut [u8], s: State, bytes: &mut [u8], room: &mut [u8], out: &mut [u8]) -> State
-    requires { ⌜ (s .held < length (now input)) × (length (now input) ≤ 2 * length (now bytes) + 1) × (length (now room) ≤ 40000) × (80016 ≤ length (now out)) ⌝ }
+    requires { ⌜ (s .held < length (now input)) × Areas (now input) (now bytes) (now room) (now out) ⌝ }
     ensures { λ r. ⌜ r .held < length (now (input .entry)) ⌝ }
 {
     let held = s.held;
@@ -358,7 +358,7 @@ fn turn(input: &mut [u8], s: State, bytes: &mut [u8], room: &mut [u8], out: &mut
 
 // The input has ended, and its last line lacks a newline if any bytes are held.
 fn last_line(input: &[u8], held: usize, bytes: &mut [u8], room: &mut [u8], out: &mut [u8])
-    requires { ⌜ (held < length (now input)) × (length (now input) ≤ 2 * length (now bytes) + 1) × (length (now room) ≤ 40000) × (80016 ≤ length (now out)) ⌝ }
+    requires { ⌜ (held < length (now input)) × Areas (now input) (now bytes) (now room) (now out) ⌝ }
 {
     if held == 0 {
         return;
@@ -370,7 +370,7 @@ fn last_line(input: &[u8], held: usize, bytes: &mut [u8], room: &mut [u8], out: 
 // Reads to the end of the input. A proved loop has to end, and nothing says that the input does, so the loop counts its turns
 // down from a number that no run uses up.
 fn answer_all(input: &mut [u8], bytes: &mut [u8], room: &mut [u8], out: &mut [u8])
-    requires { ⌜ (0 < length (now input)) × (length (now input) ≤ 2 * length (now bytes) + 1) × (length (now room) ≤ 40000) × (80016 ≤ length (now out)) ⌝ }
+    requires { ⌜ (0 < length (now input)) × Areas (now input) (now bytes) (now room) (now out) ⌝ }
 {
     let mut turns = u64::MAX;
     let mut s = State {

@@ -21,7 +21,7 @@ slice-aggregate-answer-lines : tie.Need-slice-aggregate-answer-lines
 slice-aggregate-answer-lines c = simp length-take (omega arith)
 
 answer-lines-requires : tie.Need-answer-lines-requires
-answer-lines-requires c κs = (simp length-take (omega arith), simp length-take (omega arith), omega arith, omega arith)
+answer-lines-requires c κs = (simp length-take (omega arith), (simp length-take (omega arith), omega arith, omega arith))
 
 keep-requires : tie.Need-keep-requires
 keep-requires c κs =
