@@ -1,0 +1,39 @@
+-- `calls::put` is safe: an answer's line is no longer than the digits of room's bytes and what stands before them. Assumes nothing.
+use native.Mathlib.Omega.{arith}
+use lib.ListN.{length-take}
+use borrow.Author.Needs.{needs}
+use Rattle.calls.proofs.put.Statement.{statement}
+use Rattle.calls.proofs.put.Tie as tie
+
+slice-aggregate-put-answer : tie.Need-slice-aggregate-put-answer
+slice-aggregate-put-answer c = simp length-take (omega arith)
+
+put-answer-requires : tie.Need-put-answer-requires
+put-answer-requires c κs = simp length-take (omega arith, omega arith)
+
+put-no-call-requires : tie.Need-put-no-call-requires
+put-no-call-requires c κs = search needs
+
+same-length : tie.Need-same-length
+same-length c = search needs
+
+returns : tie.Need-returns
+returns c = let e = simp length-take at (c .before .before .put-answer .ensures .short) in omega arith
+
+same-length-2 : tie.Need-same-length-2
+same-length-2 c = search needs
+
+returns-2 : tie.Need-returns-2
+returns-2 c = search needs
+
+pub put-spec : {M : Type 1} → statement M
+put-spec =
+    tie.close
+    (tie.spec
+    slice-aggregate-put-answer
+    put-answer-requires
+    put-no-call-requires
+    same-length
+    returns
+    same-length-2
+    returns-2)

@@ -1,0 +1,7 @@
+pub mod Scanning
+pub mod Pairs
+pub mod Numbers
+pub mod Ways
+pub mod Taking
+pub mod AnswerLine
+pub mod Back

@@ -1,0 +1,330 @@
+// Text of one line: byte strings in hexadecimal, numbers in decimal, and where a word or a line ends.
+ghost use mathlib.Core.Path.{_≡_};
+ghost use mathlib.Core.Bool.{true};
+ghost use mathlib.Core.List.{[], _∷_, _++_};
+ghost use Prim.Native.Nat.{_+_, _*_, _≤_, _<_};
+ghost use lib.ListN.{length, drop};
+ghost use Rattle.buffer.specs.Splice.{splice};
+ghost use Rattle.rules.specs.Lists.{same};
+ghost use Rattle.hexadecimal.specs.Text as Text;
+ghost use Rattle.hexadecimal.specs.Lines as Lines;
+ghost use Rattle.hexadecimal.specs.Answers.{number-of, Decodes, Takes, TakesThree, Answers};
+
+// The place behind the bytes that were written; or the word spells no bytes.
+pub enum Decoded {
+    Upto(usize),
+    NoBytes,
+}
+
+pub enum Number {
+    Is(usize),
+    NoNumber,
+}
+
+// The place behind the bytes that a word gave, and where the next word of the line begins.
+pub struct Taken {
+    pub end: usize,
+    pub next: usize,
+}
+
+// The first place from at on that has the byte b, or the end.
+pub fn find(s: &[u8], at: usize, b: u8) -> usize
+    requires { ⌜ at ≤ length (now s) ⌝ }
+    ensures { λ r. ⌜ (r ≡ at + Text.before b (drop at (now (s .entry)))) × (at ≤ r) × (r ≤ length (now (s .entry))) ⌝ }
+{
+    let mut i = at;
+    while i < s.len() {
+        if s[i] == b {
+            return i;
+        }
+        i += 1;
+    }
+    i
+}
+
+fn is_between(low: u8, high: u8, c: u8) -> bool
+    ensures { λ r. ⌜ r ≡ Text.between low high c ⌝ }
+{
+    if low <= c { c <= high } else { false }
+}
+
+// What a digit stands for; 16 for any other character.
+fn value_of(c: u8) -> u8
+    ensures { λ r. ⌜ r ≡ Text.value c ⌝ }
+{
+    if is_between(b'0', b'9', c) {
+        return c - 48;
+    }
+    if is_between(b'A', b'F', c) {
+        return c - 55;
+    }
+    if is_between(b'a', b'f', c) {
+        return c - 87;
+    }
+    16
+}
+
+fn glyph_of(d: u8) -> u8
+    requires { ⌜ d < 16 ⌝ }
+    ensures { λ r. ⌜ r ≡ Text.glyph d ⌝ }
+{
+    if d < 10 { 48 + d } else { 87 + d }
+}
+
+fn has_digits(base: u8, w: &[u8]) -> bool
+    ensures { λ r. ⌜ r ≡ Text.all-digits base (now (w .entry)) ⌝ }
+{
+    let mut i = 0;
+    while i < w.len() {
+        if value_of(w[i]) < base {
+            i += 1;
+        } else {
+            return false;
+        }
+    }
+    true
+}
+
+fn is_hyphen(w: &[u8]) -> bool
+    ensures { λ r. ⌜ r ≡ same (now (w .entry)) Text.hyphen ⌝ }
+{
+    if w.len() == 1 { w[0] == b'-' } else { false }
+}
+
+fn is_paired(w: &[u8]) -> bool
+    ensures { λ r. ⌜ r ≡ Text.is-paired (now (w .entry)) ⌝ }
+{
+    if w.len() < 2 {
+        return false;
+    }
+    if w.len() % 2 == 0 {
+        has_digits(16, w)
+    } else {
+        false
+    }
+}
+
+fn pair(high: u8, low: u8) -> u8
+    requires { ⌜ (Text.value high < 16) × (Text.value low < 16) ⌝ }
+    ensures { λ r. ⌜ r ≡ 16 * Text.value high + Text.value low ⌝ }
+{
+    16 * value_of(high) + value_of(low)
+}
+
+// The byte of each pair of digits, to out from at on; the place behind them.
+fn put_pairs(w: &[u8], out: &mut [u8], at: usize) -> usize
+    requires { ⌜ (Text.is-paired (now w) ≡ true) × (2 * at + length (now w) ≤ 2 * length (now out)) ⌝ }
+    ensures { λ r. ⌜ (r ≡ at + length (Text.paired (now (w .entry)))) × (now (out .exit) ≡ splice at (Text.paired (now (w .entry))) (now (out .entry))) ⌝ }
+{
+    let n = w.len() / 2;
+    let mut i = 0;
+    while i < n {
+        out[at + i] = pair(w[2 * i], w[2 * i + 1]);
+        i += 1;
+    }
+    at + n
+}
+
+// The bytes that a word spells, to out from at on; a word takes no more than half its own length.
+pub fn decode(word: &[u8], out: &mut [u8], at: usize) -> Decoded
+    requires { ⌜ 2 * at + length (now word) ≤ 2 * length (now out) ⌝ }
+    ensures { λ r. ⌜ Decodes (now (word .entry)) at (now (out .entry)) (now (out .exit)) r ⌝ }
+{
+    if is_hyphen(word) {
+        return Decoded::Upto(at);
+    }
+    if is_paired(word) {
+        let end = put_pairs(word, out, at);
+        return Decoded::Upto(end);
+    }
+    Decoded::NoBytes
+}
+
+// Two digits for each byte, to out from at on; the place behind them.
+fn put_digits(src: &[u8], out: &mut [u8], at: usize) -> usize
+    requires { ⌜ at + 2 * length (now src) ≤ length (now out) ⌝ }
+    ensures { λ r. ⌜ (r ≡ at + 2 * length (now (src .entry))) × (now (out .exit) ≡ splice at (Text.parted (now (src .entry))) (now (out .entry))) ⌝ }
+{
+    let mut i = 0;
+    while i < src.len() {
+        let b = src[i];
+        out[at + 2 * i] = glyph_of(b / 16);
+        out[at + 2 * i + 1] = glyph_of(b % 16);
+        i += 1;
+    }
+    at + 2 * i
+}
+
+// The word that spells the bytes, to out from at on; the place behind it.
+pub fn encode(src: &[u8], out: &mut [u8], at: usize) -> usize
+    requires { ⌜ at + (2 * length (now src) + 1) ≤ length (now out) ⌝ }
+    ensures { λ r. ⌜ (r ≡ at + length (Text.encoded (now (src .entry)))) × (now (out .exit) ≡ splice at (Text.encoded (now (src .entry))) (now (out .entry))) ⌝ }
+{
+    if src.len() == 0 {
+        out[at] = b'-';
+        return at + 1;
+    }
+    put_digits(src, out, at)
+}
+
+fn wide(x: u8) -> usize
+    ensures { λ r. ⌜ r ≡ x ⌝ }
+{
+    x as usize
+}
+
+fn spell(w: &[u8]) -> usize
+    requires { ⌜ (length (now w) ≤ 6) × (Text.all-digits 10 (now w) ≡ true) ⌝ }
+    ensures { λ r. ⌜ r ≡ Text.spelled-number (now (w .entry)) ⌝ }
+{
+    let mut n = 0;
+    let mut i = 0;
+    while i < w.len() {
+        n = n * 10 + wide(value_of(w[i]));
+        i += 1;
+    }
+    n
+}
+
+// The number that a word of one to six decimal digits spells.
+pub fn read_number(word: &[u8]) -> Number
+    ensures { λ r. ⌜ r ≡ number-of (Text.number (now (word .entry))) ⌝ }
+{
+    if word.len() < 1 {
+        return Number::NoNumber;
+    }
+    if 6 < word.len() {
+        return Number::NoNumber;
+    }
+    if has_digits(10, word) {
+        Number::Is(spell(word))
+    } else {
+        Number::NoNumber
+    }
+}
+
+fn places(n: usize) -> usize
+    ensures { λ r. ⌜ r ≡ Text.places n ⌝ }
+{
+    if n < 10 {
+        return 1;
+    }
+    if n < 100 {
+        return 2;
+    }
+    if n < 1000 {
+        return 3;
+    }
+    if n < 10000 {
+        return 4;
+    }
+    if n < 100000 {
+        return 5;
+    }
+    6
+}
+
+// The decimal digits of n, to out from at on; the place behind them.
+pub fn put_number(n: usize, out: &mut [u8], at: usize) -> usize
+    requires { ⌜ (n < 1000000) × (at + 6 ≤ length (now out)) ⌝ }
+    ensures { λ r. ⌜ (r ≡ at + length (Text.decimal n)) × (now (out .exit) ≡ splice at (Text.decimal n) (now (out .entry))) ⌝ }
+{
+    let k = places(n);
+    let mut i = k;
+    let mut rest = n;
+    while 0 < i {
+        i -= 1;
+        out[at + i] = glyph_of((rest % 10) as u8);
+        rest = rest / 10;
+    }
+    at + k
+}
+
+// The bytes of the line's word from at on, to out from start on. Where it spells none, no word follows.
+pub fn take_bytes(line: &[u8], at: usize, out: &mut [u8], start: usize) -> Taken
+    requires { ⌜ (at ≤ length (now line) + 1) × (2 * start ≤ at) × (length (now line) ≤ 2 * length (now out)) ⌝ }
+    ensures { λ r. ⌜ Takes (now (line .entry)) at start (now (out .entry)) (now (out .exit)) r ⌝ }
+{
+    if line.len() < at {
+        return Taken {
+            end: start,
+            next: line.len() + 1,
+        };
+    }
+    let stop = find(line, at, b' ');
+    let d = decode(&line[at..stop], out, start);
+    match d {
+        Decoded::Upto(end) => Taken {
+            end,
+            next: stop + 1,
+        },
+        Decoded::NoBytes => Taken {
+            end: start,
+            next: line.len() + 1,
+        },
+    }
+}
+
+// Where the bytes of a call's table, record and format end, and where its next word begins.
+pub struct Three {
+    pub table: usize,
+    pub record: usize,
+    pub format: usize,
+    pub next: usize,
+}
+
+// The bytes of the three words behind a line's first word, which is one letter, to out one behind the other.
+pub fn take_three(line: &[u8], out: &mut [u8]) -> Three
+    requires { ⌜ (2 ≤ length (now line)) × (length (now line) ≤ 2 * length (now out)) ⌝ }
+    ensures { λ r. ⌜ TakesThree (now (line .entry)) (now (out .entry)) (now (out .exit)) r ⌝ }
+{
+    let first = take_bytes(line, 2, out, 0);
+    let second = take_bytes(line, first.next, out, first.end);
+    let third = take_bytes(line, second.next, out, second.end);
+    Three {
+        table: first.end,
+        record: second.end,
+        format: third.end,
+        next: third.next,
+    }
+}
+
+// The number that the line spells from at on.
+pub fn take_number(line: &[u8], at: usize) -> Number
+    ensures { λ r. ⌜ r ≡ number-of (Lines.number-at at (now (line .entry))) ⌝ }
+{
+    if line.len() < at {
+        return Number::NoNumber;
+    }
+    read_number(&line[at..])
+}
+
+// A number and a space.
+fn put_field(n: usize, out: &mut [u8], at: usize) -> usize
+    requires { ⌜ (n < 1000000) × (at + 7 ≤ length (now out)) ⌝ }
+    ensures { λ r. ⌜ (r ≡ at + length (Text.decimal n ++ (32 ∷ []))) × (now (out .exit) ≡ splice at (Text.decimal n ++ (32 ∷ [])) (now (out .entry))) × (r ≤ at + 7) ⌝ }
+{
+    let end = put_number(n, out, at);
+    out[end] = b' ';
+    end + 1
+}
+
+// The line of an answer, to out from at on; the place behind it.
+pub fn put_answer(number: u8, bytes: &[u8], out: &mut [u8], at: usize) -> usize
+    requires { ⌜ (length (now bytes) < 1000000) × (at + (2 * length (now bytes) + 16) ≤ length (now out)) ⌝ }
+    ensures { λ r. ⌜ Answers number (now (bytes .entry)) at (now (out .entry)) (now (out .exit)) r ⌝ }
+{
+    let behind_number = put_field(wide(number), out, at);
+    let behind_length = put_field(bytes.len(), out, behind_number);
+    let end = encode(bytes, out, behind_length);
+    out[end] = 10;
+    end + 1
+}
+
+// The line that answers what is no call.
+pub fn put_no_call(out: &mut [u8], at: usize) -> usize
+    requires { ⌜ at + 6 ≤ length (now out) ⌝ }
+    ensures { λ r. ⌜ (r ≡ at + 6) × (now (out .exit) ≡ splice at Lines.no-call-line (now (out .entry))) ⌝ }
+{
+    buffer::put(b"? 0 -\n", out, at)
+}
