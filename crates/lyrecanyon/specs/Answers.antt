@@ -43,3 +43,9 @@ pub record Settled (o : Outcome Bytes) (entry exit : Bytes) (r : Answer) : Type 
   pub number : answer-number r ≡ outcome-number o
   pub size : answer-length r ≡ length (bytes-of o)
   pub bytes : exit ≡ bytes-of o ++ drop (length (bytes-of o)) entry
+
+-- The same as C has it: the number returned, the length used, and the lent slice.
+pub record Exported (o : Outcome Bytes) (entry exit : Bytes) (used number : ℕ) : Type 0 where
+  pub number-is : number ≡ outcome-number o
+  pub used-is : used ≡ length (bytes-of o)
+  pub bytes-are : exit ≡ bytes-of o ++ drop (length (bytes-of o)) entry

@@ -1,11 +1,10 @@
 // Whether a slice is a stored record (refusal 2), and where each entry's bytes begin.
 ghost use mathlib.Core.Path.{_≡_};
-ghost use mathlib.Core.Bool.{true, false};
+ghost use mathlib.Core.Bool.{true};
 ghost use Prim.Native.Nat.{suc, _≤_, _<_};
 ghost use lib.ListN.{length, drop, getD};
 ghost use lib.Seq.{slice};
 ghost use Rattle.rules.specs.Values.{allowed};
-ghost use Rattle.rules.specs.Table.{is-inside};
 ghost use Rattle.rules.specs.Record.{times, each, counted, stored-value, stored-cell};
 ghost use Rattle.tables.specs.Entries.{Valid, entries-of, blank, format-at};
 ghost use Rattle.records.specs.Where.{field-of, fields-of};

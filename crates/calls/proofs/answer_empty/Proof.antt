@@ -1,0 +1,28 @@
+-- `calls::answer_empty` meets its contract: what the service writes lies in the room. Assumes nothing.
+use native.Mathlib.Omega.{arith}
+use lib.ListN.{length}
+use Rattle.lyrecanyon.proofs.Empties.{empty-within}
+use borrow.Author.Needs.{needs}
+use Rattle.calls.proofs.answer_empty.Statement.{statement}
+use Rattle.calls.proofs.answer_empty.Tie as tie
+
+empty-requires : tie.Need-empty-requires
+empty-requires c κs = search needs
+
+number-requires : tie.Need-number-requires
+number-requires c κs = search needs
+
+length-requires : tie.Need-length-requires
+length-requires c κs = search needs
+
+same-length : tie.Need-same-length
+same-length c = search needs
+
+returns : tie.Need-returns
+returns c =
+    let s = c .before .before .before .before .before .before .before .before in
+    omega (arith, c .length .ensures, c .before .before .before .before .empty .ensures .size, empty-within (s .args .table .now) (length (s .args .room .now)))
+
+pub answer-empty-spec : {M : Type 1} → statement M
+answer-empty-spec =
+    tie.close (tie.spec empty-requires number-requires length-requires same-length returns)
