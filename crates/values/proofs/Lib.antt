@@ -6,3 +6,4 @@ pub mod Nulls
 pub mod Numbered
 pub mod Carried
 pub mod Chosen
+pub mod Written
