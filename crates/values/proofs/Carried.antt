@@ -272,7 +272,7 @@ only-alpha fixed v e = cc
 only-alpha packed v e = cc
 only-alpha unpacked v e = cc
 
-only-alpha-0 : (g : Format) → allowed g 0 ≡ true → g ≡ alpha
+pub only-alpha-0 : (g : Format) → allowed g 0 ≡ true → g ≡ alpha
 unfolding allowed
 only-alpha-0 alpha e = refl
 only-alpha-0 binary e = cc

@@ -7,3 +7,4 @@ pub mod Numbered
 pub mod Carried
 pub mod Chosen
 pub mod Written
+pub mod Meant

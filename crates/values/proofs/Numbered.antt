@@ -62,7 +62,7 @@ module _ (k n : ℕ) (h : k < 5) (a : allowed (format-at k) n ≡ true) where
       let l = five (λ k. 3 ≤ k → getD greatest k 0 ≤ 29) (λ q. absurd (omega arith)) (λ q. absurd (omega arith)) (λ q. absurd (omega arith)) (λ _. omega arith) (λ _. omega arith) k h p in
       omega (arith, at-most)
 
-either : (n : ℕ) → (eqb n 2 || eqb n 4) ≡ true → (n ≡ 2) ⊎ (n ≡ 4)
+pub either : (n : ℕ) → (eqb n 2 || eqb n 4) ≡ true → (n ≡ 2) ⊎ (n ≡ 4)
 either n e = go (eqb n 2) refl (eqb n 4) refl e
   where
     go : (a : Bool) → eqb n 2 ≡ a → (b : Bool) → eqb n 4 ≡ b → (a || b) ≡ true → (n ≡ 2) ⊎ (n ≡ 4)
