@@ -109,8 +109,11 @@ module _ (n : ℕ) (below : Bool) (x : ℕ) (h : 0 < n) (p : below ≡ true → 
       let ds = digits 10 n x in
       let size = length-digits 10 n x in
       let a = nines n x in
-      rw (need-true (all (λ b. eqb (b / 16) 15) (but-last (zoned ds (sign-written below)))) 8 (zoned-zones ds (sign-written below) a),
-      zoned-digits ds (sign-written below) a, zoned-sign ds (sign-written below) (omega arith) a)
+      rw (
+        need-true (all (λ b. eqb (b / 16) 15) (but-last (zoned ds (sign-written below)))) 8 (zoned-zones ds (sign-written below) a),
+        zoned-digits ds (sign-written below) a,
+        zoned-sign ds (sign-written below) (omega arith) a,
+      )
       (decimal-means ds below x a (spelled-digits 10 n x (lit< tt) l) p)
 
   pub written-means : (d : Bool) → x < 10 ^ places d n → meaning (decimal-format d) (written d n below x) ≡ done (number below x)
