@@ -23,6 +23,7 @@ use Rattle.decimals.specs.Decimals.{decimal-format}
 use Rattle.decimals.proofs.Normal.{normal-fits, normal-done, carried-value}
 use Rattle.decimals.proofs.Written.{length-written}
 use Rattle.values.specs.Formats.{ranged}
+use Rattle.values.proofs.Numbered.{and-first}
 use Rattle.values.specs.Fits.{size-of, carried-length}
 
 -- A refusal has one number: 8 of a meaning, 9 of a normal form.
@@ -151,12 +152,8 @@ module _ (f g : Format) (n : ℕ) (bs : Bytes) (e : is-done (meaning f bs) ≡ t
   pub in-the-range : in-range k (value-of (meaning f bs)) ≡ true → is-done (carried f g n bs) ≡ is-done (normal g n (value-of (meaning f bs)))
   in-the-range h = ranged-done ∙ rw h
 
-  left-true : (a b : Bool) → (a && b) ≡ true → a ≡ true
-  left-true true b h = refl
-  left-true false b h = h
-
   pub carried-range : is-done (carried f g n bs) ≡ true → in-range k (value-of (meaning f bs)) ≡ true
-  carried-range h = left-true (in-range k (value-of (meaning f bs))) _ (sym ranged-done ∙ h)
+  carried-range h = and-first (in-range k (value-of (meaning f bs))) _ (sym ranged-done ∙ h)
 
   pub carried-normal : in-range k (value-of (meaning f bs)) ≡ true → carried f g n bs ≡ normal g n (value-of (meaning f bs))
   unfolding converted

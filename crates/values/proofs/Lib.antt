@@ -2,8 +2,8 @@ pub mod Five
 pub mod Lengths
 pub mod Strip
 pub mod Cuts
-pub mod Nulls
 pub mod Numbered
+pub mod Nulls
 pub mod Carried
 pub mod Chosen
 pub mod Written

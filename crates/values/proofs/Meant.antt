@@ -1,30 +1,29 @@
 -- What is written means what was written: so null, and every value that is carried, is in normal form.
 use mathlib.Core.Path.{_≡_, refl, sym, _∙_, ap}
-use mathlib.Core.Bool.{Bool, true, false, _&&_, false≢true}
-use mathlib.Core.List.{List, [], _∷_, _++_, append-nil, append-assoc}
+use mathlib.Core.Bool.{Bool, true, false, false≢true}
+use mathlib.Core.List.{[], _∷_, _++_, append-nil, append-assoc}
 use mathlib.Core.Logic.{_⊎_, ⊎-elim}
-use Prim.Native.Nat.{ℕ, zero, suc, _+_, _-_, _*_, _^_, _≤_, _<_}
+use Prim.Native.Nat.{ℕ, zero, suc, _+_, _-_, _*_, _^_, _<_}
 use native.Mathlib.Nat.{not-suc-le-zero}
 use native.Mathlib.Omega.{arith}
 use lib.Dec.{leb, ltb, lit<}
 use lib.ListN.{length, replicate}
 use borrow.Author.Tests.{ltb-true, leb-true}
-use Rattle.rules.specs.Outcome.{Outcome, done, refused, _>>=_, need, is-done}
+use Rattle.rules.specs.Outcome.{done, is-done}
 use Rattle.rules.specs.Characters.{space}
-use Rattle.rules.specs.Lists.{Bytes, bytes-of, spelled, digits}
+use Rattle.rules.specs.Lists.{Bytes, spelled, digits}
 use Rattle.rules.specs.Values.{Format, alpha, binary, fixed, packed, unpacked, Value, text, number, allowed, strip, meaning, normal, null, null-value, content, with-length-byte, in-normal-form, twos-complement, accepted-minus, every, conversion, converts, in-range, converted, carried}
 use Rattle.rules.proofs.Steps.{from-bind, from-need, done-inj, not-done, T-true}
 use Rattle.buffer.proofs.Cases.{by-order}
 use Rattle.words.proofs.Digits.{Below, length-digits, spelled-digits, spelled-below}
 use Rattle.words.proofs.Fixed.{twos-plus, twos-minus}
 use Rattle.words.proofs.NormalForm.{is-normal-form, normal-form-is}
-use Rattle.decimals.specs.Decimals.{decimal-format, sign-of, is-minus, magnitude-of, places, written}
+use Rattle.decimals.specs.Decimals.{decimal-format, sign-of, is-minus, magnitude-of, places}
 use Rattle.decimals.proofs.Normal.{normal-fits, normal-done}
-use Rattle.decimals.proofs.Sound.{Sound, sound}
+use Rattle.decimals.proofs.Sound.{sound}
 use Rattle.values.proofs.Strip.{strip-blank, strip-again}
-use Rattle.values.proofs.Numbered.{either}
+use Rattle.values.proofs.Numbered.{either, and-second, from-one}
 use Rattle.values.proofs.Nulls.{null-done}
-use Rattle.values.proofs.Carried.{only-alpha-0}
 use Rattle.values.proofs.Written.{written-means}
 
 -- What bytes can mean: a text without trailing blanks, or a number of which zero is not below zero.
@@ -96,13 +95,6 @@ decimal-back d n below x h p e =
     let t = sym (normal-fits d n below x) ∙ ap is-done e in
     rw (← done-inj (sym (normal-done d n below x t) ∙ e)) (written-means n below x h p d (ltb-true x (10 ^ places d n) t))
 
-first-true : (a b : Bool) → (a && b) ≡ true → a ≡ true
-first-true true b e = refl
-first-true false b e = e
-
-one-up : (n m : ℕ) → (leb 1 n && leb n m) ≡ true → 0 < n
-one-up n m e = leb-true 1 n (first-true (leb 1 n) (leb n m) e)
-
 pub normal-means : (f : Format) (n : ℕ) (v : Value) {w : Bytes} → allowed f n ≡ true → Meant v → normal f n v ≡ done w
     → meaning f (content n w) ≡ done v
 unfolding normal allowed decimal-format
@@ -110,14 +102,14 @@ normal-means alpha n (text t) a m e = text-back n t m e
 normal-means alpha zero (number below x) a m e = absurd (not-done e)
 normal-means alpha (suc n) (number below x) a m e = absurd (not-done e)
 normal-means binary n (text t) a m e = absurd (not-done e)
-normal-means binary n (number false x) {w} a m e = rw (whole n w (one-up n 126 a)) (binary-back n x e)
+normal-means binary n (number false x) {w} a m e = rw (whole n w (from-one n 126 a)) (binary-back n x e)
 normal-means binary n (number true x) a m e = absurd (not-done e)
 normal-means fixed n (text t) a m e = absurd (not-done e)
 normal-means fixed n (number below x) {w} a m e = rw (whole n w (⊎-elim (λ q. omega arith) (λ q. omega arith) (either n a))) (fixed-either n (either n a) below x m e)
 normal-means packed n (text t) a m e = absurd (not-done e)
-normal-means packed n (number below x) {w} a m e = rw (whole n w (one-up n 15 a)) (decimal-back true n below x (one-up n 15 a) m e)
+normal-means packed n (number below x) {w} a m e = rw (whole n w (from-one n 15 a)) (decimal-back true n below x (from-one n 15 a) m e)
 normal-means unpacked n (text t) a m e = absurd (not-done e)
-normal-means unpacked n (number below x) {w} a m e = rw (whole n w (one-up n 29 a)) (decimal-back false n below x (one-up n 29 a) m e)
+normal-means unpacked n (number below x) {w} a m e = rw (whole n w (from-one n 29 a)) (decimal-back false n below x (from-one n 29 a) m e)
 
 -- ---- what bytes mean can be written
 
@@ -128,13 +120,9 @@ fixed-meant n x o h =
     (λ l. rw (twos-plus n x l) (λ e. absurd (false≢true e)))
     (λ l. rw (twos-minus n x l) (λ _. omega arith))
 
-second-true : (a b : Bool) → (a && b) ≡ true → b ≡ true
-second-true true b e = e
-second-true false b e = absurd (false≢true e)
-
 minus-above : (p : Bool) (bs : Bytes) → is-minus p bs ≡ true → 0 < magnitude-of p bs
 unfolding is-minus
-minus-above p bs e = ltb-true 0 (magnitude-of p bs) (second-true (accepted-minus (sign-of p bs)) (ltb 0 (magnitude-of p bs)) e)
+minus-above p bs e = ltb-true 0 (magnitude-of p bs) (and-second (accepted-minus (sign-of p bs)) (ltb 0 (magnitude-of p bs)) e)
 
 decimal-meant : (p : Bool) (bs : Bytes) (v : Value) → meaning (decimal-format p) bs ≡ done v → Meant v
 decimal-meant p bs v e =

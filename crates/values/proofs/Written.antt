@@ -1,19 +1,18 @@
 -- What is written in P and U means the number that was written.
-use mathlib.Core.Path.{_≡_, refl, sym, _∙_, ap}
+use mathlib.Core.Path.{_≡_, refl, _∙_, ap}
 use mathlib.Core.Bool.{Bool, true, false, _&&_}
 use mathlib.Core.List.{List, [], _∷_, _++_, map}
-use Prim.Native.Nat.{ℕ, zero, suc, _+_, _-_, _*_, _/_, _%_, _^_, _≤_, _<_}
+use Prim.Native.Nat.{ℕ, zero, suc, _+_, _-_, _*_, _/_, _%_, _^_, _<_}
 use native.Mathlib.Omega.{arith}
 use lib.Dec.{T, eqb, leb, ltb, leb→le, ltb→lt, le→leb, lt→ltb, lit<}
 use lib.ListN.{length, length-append}
-use borrow.Author.Tests.{lt-ltb, ltb-true, eq-eqb}
-use Rattle.rules.specs.Outcome.{Outcome, done, _>>=_, need, is-done}
-use Rattle.rules.specs.Lists.{Bytes, all, spelled, digits, but-last, last}
-use Rattle.rules.specs.Values.{number, packed, unpacked, signed, halves, pairs, zoned, accepted-plus, accepted-minus, sign-means, sign-written, decimal, meaning, normal}
-use Rattle.rules.proofs.Steps.{need-true, and-intro, and-left, and-right, true-T, done-inj}
+use borrow.Author.Tests.{lt-ltb, eq-eqb}
+use Rattle.rules.specs.Outcome.{done}
+use Rattle.rules.specs.Lists.{all, spelled, digits, but-last, last}
+use Rattle.rules.specs.Values.{number, packed, unpacked, signed, halves, pairs, zoned, accepted-plus, accepted-minus, sign-means, sign-written, decimal, meaning}
+use Rattle.rules.proofs.Steps.{need-true, and-intro, and-left, and-right, true-T}
 use Rattle.decimals.specs.Decimals.{decimal-format, places, encoded, written}
 use Rattle.decimals.proofs.Digits.{all-snoc, all-weaker, all-digits-below, length-digits, spelled-digits}
-use Rattle.decimals.proofs.Normal.{normal-fits, normal-done}
 
 -- The last of a list, and all but it.
 but-last-snoc : (ds : List ℕ) (d : ℕ) → but-last (ds ++ (d ∷ [])) ≡ ds
