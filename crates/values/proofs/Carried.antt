@@ -298,25 +298,3 @@ pub size-n : (s : Bytes) (n : ℕ) → (n ≡ 0 → ⊥) → n ≡ carried-lengt
 unfolding carried-length
 size-n s zero z = absurd (z refl)
 size-n s (suc n) z = refl
-
--- A value that is a word, carried through it.
-module _ (f g : Format) (n : ℕ) (bs : Bytes) (e : is-done (meaning f bs) ≡ true) (b : Bool) (c : conversion f g ≡ ranged b) (v : Signed)
-    (w : word-of (value-of (meaning f bs)) ≡ Number v) where
-  is-word : value-of (meaning f bs) ≡ signed-value v
-  is-word = word-number (value-of (meaning f bs)) v w .0
-
-  pub word-small : v .magnitude ≤ 2147483648
-  word-small = word-number (value-of (meaning f bs)) v w .1
-
-  pub word-in : in-range (ranged b) (signed-value v) ≡ true → is-done (normal g n (signed-value v)) ≡ is-done (carried f g n bs)
-  word-in h = sym (rw is-word at (in-the-range f g n bs e (ranged b) c (rw is-word h)))
-
-  pub word-out : in-range (ranged b) (signed-value v) ≡ false → false ≡ is-done (carried f g n bs)
-  word-out h = sym (out-of-range f g n bs e (ranged b) c (rw is-word h))
-
-  pub word-written : is-done (carried f g n bs) ≡ true → carried f g n bs ≡ normal g n (signed-value v)
-  word-written d = rw is-word at (carried-normal f g n bs e (ranged b) c (carried-range f g n bs e (ranged b) c d))
-
-pub word-beyond : (f g : Format) (n : ℕ) (bs : Bytes) → is-done (meaning f bs) ≡ true → (b : Bool) → conversion f g ≡ ranged b
-    → word-of (value-of (meaning f bs)) ≡ Outside → is-done (carried f g n bs) ≡ false
-word-beyond f g n bs e b c w = out-of-range f g n bs e (ranged b) c (word-outside (value-of (meaning f bs)) b w)
