@@ -1,6 +1,7 @@
 -- A value carried: which refusal it meets, when it is done, through a word too, and how long its bytes are.
 use mathlib.Core.Path.{_≡_, refl, sym, _∙_, ap}
 use mathlib.Core.Bool.{Bool, true, false, not, _&&_}
+use mathlib.Core.Logic.{_⊎_, ⊎-elim}
 use mathlib.Core.List.{List, _∷_, map}
 use Prim.Native.Nat.{ℕ, zero, suc, _+_, _-_, _*_, _/_, _%_, _^_, _≤_, _<_}
 use native.Mathlib.Nat.{not-suc-le-zero}
@@ -245,7 +246,7 @@ converted-done : (f g : Format) (n : ℕ) (v : Value) {b : Bytes} → converted 
 unfolding converted
 converted-done f g n v e = from-need (in-range (conversion f g) v) 9 _ e λ t k. (T-true (in-range (conversion f g) v) t, k)
 
-done-bytes : (o : Outcome Bytes) → is-done o ≡ true → o ≡ done (bytes-of o)
+pub done-bytes : (o : Outcome Bytes) → is-done o ≡ true → o ≡ done (bytes-of o)
 unfolding bytes-of
 done-bytes (done b) e = refl
 done-bytes (refused k) e = cc
@@ -298,3 +299,9 @@ pub size-n : (s : Bytes) (n : ℕ) → (n ≡ 0 → ⊥) → n ≡ carried-lengt
 unfolding carried-length
 size-n s zero z = absurd (z refl)
 size-n s (suc n) z = refl
+
+-- The length of a content of an allowed length is allowed.
+pub content-allowed : (f : Format) (size n : ℕ) → allowed f size ≡ true → ((size ≡ 0) × (n ≤ 253)) ⊎ (size ≡ n) → allowed f n ≡ true
+unfolding allowed
+content-allowed f size n a o =
+    ⊎-elim (λ z. rw (only-alpha-0 f (rw (z .0) at a)) (le-leb n 253 (z .1))) (λ e. rw e at a) o
