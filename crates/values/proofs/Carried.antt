@@ -1,4 +1,4 @@
--- A value carried: which refusal it meets, when it is done, through a word too, and how long its bytes are.
+-- A value carried: which refusal it meets, when it is done, the words in the conversion ranges, and how long its bytes are.
 use mathlib.Core.Path.{_≡_, refl, sym, _∙_, ap}
 use mathlib.Core.Bool.{Bool, true, false, not, _&&_}
 use mathlib.Core.Logic.{_⊎_, ⊎-elim}

@@ -1,4 +1,4 @@
--- What the functions of each format ask and answer, as what is asked by the numbers of the formats.
+-- From the numbers of the formats to the functions of each format: what these ask, and what they answer.
 use mathlib.Core.Path.{_≡_, refl, sym, _∙_, ap}
 use mathlib.Core.Bool.{Bool, true, false}
 use mathlib.Core.Logic.{_⊎_, ⊎-elim}

@@ -1,5 +1,5 @@
 pub mod Five
-pub mod Lengths
+pub mod Constants
 pub mod Strip
 pub mod Cuts
 pub mod Numbered

@@ -1,4 +1,4 @@
--- Formats by number: which each number is, and the lengths that an allowed one has.
+-- Formats by number: which each number is, the lengths that are allowed, and which numbers convert.
 use mathlib.Core.Path.{_≡_, refl, sym, _∙_, ap}
 use mathlib.Core.Bool.{Bool, true, false, not, _&&_, _||_, false≢true}
 use mathlib.Core.Logic.{_⊎_, inl, inr}
@@ -12,7 +12,7 @@ use Rattle.rules.proofs.Steps.{by-test}
 use Rattle.decimals.specs.Decimals.{decimal-format}
 use Rattle.values.specs.Formats.{format-at, ranged}
 use Rattle.values.proofs.Five.{five}
-use Rattle.values.proofs.Lengths.{least, greatest, allowed-is}
+use Rattle.values.proofs.Constants.{least, greatest, allowed-is}
 
 pub at-alpha : (k : ℕ) → k ≡ 0 → format-at k ≡ alpha
 unfolding format-at

@@ -14,8 +14,8 @@ ghost use Rattle.values.specs.Formats.{format-at, kind-of};
 ghost use Rattle.values.specs.Places.{Found};
 ghost use Rattle.values.specs.Fits.{fitted, size-of};
 
-pub mod carrying;
-pub mod numbers;
+mod carrying;
+mod numbers;
 pub mod texts;
 
 pub const ALPHA: usize = 0;

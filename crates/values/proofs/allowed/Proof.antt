@@ -1,5 +1,5 @@
 -- `values::allowed` meets its contract: the tables of lengths hold document 01's, and 3 is no length of F.
-use Rattle.values.proofs.Lengths.{too-short, too-long, not-three, any-length}
+use Rattle.values.proofs.Constants.{too-short, too-long, not-three, any-length}
 use borrow.Author.Needs.{needs}
 use Rattle.values.proofs.allowed.Statement.{statement}
 use Rattle.values.proofs.allowed.Tie as tie

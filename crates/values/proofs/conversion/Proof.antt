@@ -1,5 +1,5 @@
 -- `values::conversion` meets its contract: each of the twenty-five cells, by computation.
-use Rattle.values.proofs.Lengths.{converts-at}
+use Rattle.values.proofs.Constants.{converts-at}
 use borrow.Author.Needs.{needs}
 use Rattle.values.proofs.conversion.Statement.{statement}
 use Rattle.values.proofs.conversion.Tie as tie

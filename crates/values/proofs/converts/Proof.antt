@@ -4,7 +4,7 @@ use Rattle.rules.specs.Values.{converts}
 use Rattle.values.specs.Formats.{format-at, kind-of}
 use Rattle.values.specs.declared.Kind.{Kind}
 use Rattle.values.specs.declared.Kind.the-variants.{Never, Every, Word, Natural}
-use Rattle.values.proofs.Lengths.{any-value, converts-by}
+use Rattle.values.proofs.Constants.{any-value, converts-by}
 use borrow.Author.Needs.{needs}
 use Rattle.values.proofs.converts.Statement.{statement}
 use Rattle.values.proofs.converts.Tie as tie
