@@ -1,6 +1,6 @@
 -- Format B: a number fits n bytes when all before the last n are zeros, and its bytes are those last n, zeros to the left.
 use mathlib.Core.Path.{_≡_, refl, sym, _∙_, ap}
-use mathlib.Core.Bool.{Bool, true, false}
+use mathlib.Core.Bool.{Bool, true, false, false≢true}
 use mathlib.Core.List.{_++_}
 use Prim.Native.Nat.{ℕ, zero, suc, _+_, _*_, _-_, _^_, _≤_, _<_}
 use native.Mathlib.Nat.{pow-le-pow-right, mul-le-mul-right}
@@ -21,9 +21,6 @@ use Rattle.words.proofs.Digits.{Below, spelled-behind, spelled-below, spelled-g
 use Rattle.words.proofs.Scans.{spelled-turn, spelled-end}
 use Rattle.words.proofs.NormalForm.{is-normal-form, no-length-byte}
 use Rattle.words.proofs.Fixed.{is-done-need, done-need}
-
-true-false : false ≡ true → ⊥
-true-false e = let z : _≡_ {A = ℕ} 0 1 = cc in omega arith
 
 -- Carried from B to B a value is written as it is meant.
 carried-is : (n : ℕ) (s : Bytes) → carried binary binary n s ≡ normal binary n (number false (spelled 256 s 0))
@@ -52,7 +49,7 @@ pub word-bytes : (n : ℕ) (below : Bool) (x : ℕ) → is-done (normal binary n
     → digits 256 n x ≡ bytes-of (normal binary n (number below x))
 unfolding bytes-of
 word-bytes n false x d = rw (normal-is n x (ltb-true x (256 ^ n) (sym (fits-is n x) ∙ d)))
-word-bytes n true x d = absurd (true-false (sym (never-minus n x) ∙ d))
+word-bytes n true x d = absurd (false≢true (sym (never-minus n x) ∙ d))
 
 carried-fits : (n : ℕ) (s : Bytes) → is-done (carried binary binary n s) ≡ ltb (spelled 256 s 0) (256 ^ n)
 carried-fits n s = rw (carried-is n s) (fits-is n (spelled 256 s 0))

@@ -1,2 +1,2 @@
 pub mod Five
-pub mod Lengths
+pub mod Constants

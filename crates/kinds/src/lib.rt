@@ -44,43 +44,21 @@ pub enum Kind {
     Natural,
 }
 
+const NEVER: Kind = Kind::Never;
+
+const EVERY: Kind = Kind::Every;
+
+const WORD: Kind = Kind::Word;
+
+const NATURAL: Kind = Kind::Natural;
+
 // Row the field's format, column the format in effect.
 const CONVERTS: [[Kind; 5]; 5] = [
-    [
-        Kind::Every,
-        Kind::Never,
-        Kind::Never,
-        Kind::Never,
-        Kind::Never,
-    ],
-    [
-        Kind::Never,
-        Kind::Every,
-        Kind::Natural,
-        Kind::Natural,
-        Kind::Natural,
-    ],
-    [
-        Kind::Never,
-        Kind::Natural,
-        Kind::Every,
-        Kind::Word,
-        Kind::Word,
-    ],
-    [
-        Kind::Never,
-        Kind::Natural,
-        Kind::Word,
-        Kind::Every,
-        Kind::Every,
-    ],
-    [
-        Kind::Never,
-        Kind::Natural,
-        Kind::Word,
-        Kind::Every,
-        Kind::Every,
-    ],
+    [EVERY, NEVER, NEVER, NEVER, NEVER],
+    [NEVER, EVERY, NATURAL, NATURAL, NATURAL],
+    [NEVER, NATURAL, EVERY, WORD, WORD],
+    [NEVER, NATURAL, WORD, EVERY, EVERY],
+    [NEVER, NATURAL, WORD, EVERY, EVERY],
 ];
 
 // Which values convert from a format to another.

@@ -1,6 +1,7 @@
--- A value carried: which refusal it meets, when it is done, through a word too, and how long its bytes are.
+-- A value carried: which refusal it meets, when it is done, the words in the conversion ranges, and how long its bytes are.
 use mathlib.Core.Path.{_≡_, refl, sym, _∙_, ap}
 use mathlib.Core.Bool.{Bool, true, false, not, _&&_}
+use mathlib.Core.Logic.{_⊎_, ⊎-elim}
 use mathlib.Core.List.{List, _∷_, map}
 use Prim.Native.Nat.{ℕ, zero, suc, _+_, _-_, _*_, _/_, _%_, _^_, _≤_, _<_}
 use native.Mathlib.Nat.{not-suc-le-zero}
@@ -23,6 +24,7 @@ use Rattle.decimals.specs.Decimals.{decimal-format}
 use Rattle.decimals.proofs.Normal.{normal-fits, normal-done, carried-value}
 use Rattle.decimals.proofs.Written.{length-written}
 use Rattle.values.specs.Formats.{ranged}
+use Rattle.values.proofs.Numbered.{and-first}
 use Rattle.values.specs.Fits.{size-of, carried-length}
 
 -- A refusal has one number: 8 of a meaning, 9 of a normal form.
@@ -151,12 +153,8 @@ module _ (f g : Format) (n : ℕ) (bs : Bytes) (e : is-done (meaning f bs) ≡ t
   pub in-the-range : in-range k (value-of (meaning f bs)) ≡ true → is-done (carried f g n bs) ≡ is-done (normal g n (value-of (meaning f bs)))
   in-the-range h = ranged-done ∙ rw h
 
-  left-true : (a b : Bool) → (a && b) ≡ true → a ≡ true
-  left-true true b h = refl
-  left-true false b h = h
-
   pub carried-range : is-done (carried f g n bs) ≡ true → in-range k (value-of (meaning f bs)) ≡ true
-  carried-range h = left-true (in-range k (value-of (meaning f bs))) _ (sym ranged-done ∙ h)
+  carried-range h = and-first (in-range k (value-of (meaning f bs))) _ (sym ranged-done ∙ h)
 
   pub carried-normal : in-range k (value-of (meaning f bs)) ≡ true → carried f g n bs ≡ normal g n (value-of (meaning f bs))
   unfolding converted
@@ -248,7 +246,7 @@ converted-done : (f g : Format) (n : ℕ) (v : Value) {b : Bytes} → converted 
 unfolding converted
 converted-done f g n v e = from-need (in-range (conversion f g) v) 9 _ e λ t k. (T-true (in-range (conversion f g) v) t, k)
 
-done-bytes : (o : Outcome Bytes) → is-done o ≡ true → o ≡ done (bytes-of o)
+pub done-bytes : (o : Outcome Bytes) → is-done o ≡ true → o ≡ done (bytes-of o)
 unfolding bytes-of
 done-bytes (done b) e = refl
 done-bytes (refused k) e = cc
@@ -272,7 +270,7 @@ only-alpha fixed v e = cc
 only-alpha packed v e = cc
 only-alpha unpacked v e = cc
 
-only-alpha-0 : (g : Format) → allowed g 0 ≡ true → g ≡ alpha
+pub only-alpha-0 : (g : Format) → allowed g 0 ≡ true → g ≡ alpha
 unfolding allowed
 only-alpha-0 alpha e = refl
 only-alpha-0 binary e = cc
@@ -302,24 +300,8 @@ unfolding carried-length
 size-n s zero z = absurd (z refl)
 size-n s (suc n) z = refl
 
--- A value that is a word, carried through it.
-module _ (f g : Format) (n : ℕ) (bs : Bytes) (e : is-done (meaning f bs) ≡ true) (b : Bool) (c : conversion f g ≡ ranged b) (v : Signed)
-    (w : word-of (value-of (meaning f bs)) ≡ Number v) where
-  is-word : value-of (meaning f bs) ≡ signed-value v
-  is-word = word-number (value-of (meaning f bs)) v w .0
-
-  pub word-small : v .magnitude ≤ 2147483648
-  word-small = word-number (value-of (meaning f bs)) v w .1
-
-  pub word-in : in-range (ranged b) (signed-value v) ≡ true → is-done (normal g n (signed-value v)) ≡ is-done (carried f g n bs)
-  word-in h = sym (rw is-word at (in-the-range f g n bs e (ranged b) c (rw is-word h)))
-
-  pub word-out : in-range (ranged b) (signed-value v) ≡ false → false ≡ is-done (carried f g n bs)
-  word-out h = sym (out-of-range f g n bs e (ranged b) c (rw is-word h))
-
-  pub word-written : is-done (carried f g n bs) ≡ true → carried f g n bs ≡ normal g n (signed-value v)
-  word-written d = rw is-word at (carried-normal f g n bs e (ranged b) c (carried-range f g n bs e (ranged b) c d))
-
-pub word-beyond : (f g : Format) (n : ℕ) (bs : Bytes) → is-done (meaning f bs) ≡ true → (b : Bool) → conversion f g ≡ ranged b
-    → word-of (value-of (meaning f bs)) ≡ Outside → is-done (carried f g n bs) ≡ false
-word-beyond f g n bs e b c w = out-of-range f g n bs e (ranged b) c (word-outside (value-of (meaning f bs)) b w)
+-- The length of a content of an allowed length is allowed.
+pub content-allowed : (f : Format) (size n : ℕ) → allowed f size ≡ true → ((size ≡ 0) × (n ≤ 253)) ⊎ (size ≡ n) → allowed f n ≡ true
+unfolding allowed
+content-allowed f size n a o =
+    ⊎-elim (λ z. rw (only-alpha-0 f (rw (z .0) at a)) (le-leb n 253 (z .1))) (λ e. rw e at a) o

@@ -1,4 +1,4 @@
--- What the functions of each format ask and answer, as what is asked by the numbers of the formats.
+-- From the numbers of the formats to the functions of each format: what these ask, and what they answer.
 use mathlib.Core.Path.{_≡_, refl, sym, _∙_, ap}
 use mathlib.Core.Bool.{Bool, true, false}
 use mathlib.Core.Logic.{_⊎_, ⊎-elim}
@@ -9,20 +9,20 @@ use lib.ListN.{length}
 use borrow.Author.Tests.{le-leb}
 use Rattle.rules.specs.Outcome.{done, is-done}
 use Rattle.rules.specs.Lists.{Bytes, spelled}
-use Rattle.rules.specs.Values.{alpha, binary, fixed, number, allowed, Kind, every, word, natural, conversion, meaning, normal, carried, in-normal-form, twos-complement}
+use Rattle.rules.specs.Values.{alpha, binary, fixed, number, allowed, Kind, every, word, natural, conversion, meaning, normal, carried, in-normal-form, twos-complement, in-range}
 use Rattle.buffer.proofs.Cases.{by-order}
 use Rattle.words.specs.Words.{signed-value, word-of, value-of}
 use Rattle.words.specs.declared.Signed.{Signed}
-use Rattle.words.specs.declared.Word.the-variants.{Number}
+use Rattle.words.specs.declared.Word.the-variants.{Number, Outside}
 use Rattle.words.proofs.Digits.{Below}
 use Rattle.words.proofs.Fixed.{twos-plus, twos-minus, fixed-normal}
 use Rattle.binaries.proofs.Binary.{binary-normal}
 use Rattle.decimals.specs.Decimals.{decimal-format}
 use Rattle.values.specs.Formats.{format-at, ranged}
-use Rattle.values.specs.Fits.{Carrying}
+use Rattle.values.specs.Fits.{Asked, Carrying}
 use Rattle.kinds.proofs.Five.{five}
-use Rattle.values.proofs.Numbered.{at-alpha, at-binary, at-fixed, at-decimal, some-size, two-four, every-low, every-high}
-use Rattle.values.proofs.Carried.{every-carried, carried-size}
+use Rattle.values.proofs.Numbered.{at-alpha, at-binary, at-fixed, at-decimal, some-size, size-253, size-29, two-four, every-low, every-high, ranged-from}
+use Rattle.values.proofs.Carried.{every-carried, carried-size, out-of-range, in-the-range, carried-range, carried-normal, word-number, word-outside}
 
 -- A, B and F mean something whatever the bytes.
 pub low-value : (k : ℕ) (s : Bytes) → k < 5 → k < 3 → is-done (meaning (format-at k) s) ≡ true
@@ -53,29 +53,74 @@ fixed-word-is s v o e =
     rw (← q, le-leb (v .magnitude) 2147483648 (fixed-small (length s) (spelled 256 s 0) v o q))
 
 -- Every value converts: the formats are the same, or both decimal.
-module _ (from to n : ℕ) (s : Bytes) (h : from < 5) (l : to < 5) (c : conversion (format-at from) (format-at to) ≡ every) where
-  pub as-alpha : from ≡ 0 → carried alpha alpha n s ≡ carried (format-at from) (format-at to) n s
-  as-alpha e = rw (at-alpha from e, at-alpha to (every-low from to h l (omega arith) c ∙ e))
+module _ {from to n : ℕ} {s : Bytes} (a : Asked from to n s) (c : conversion (format-at from) (format-at to) ≡ every) where
+  there-low : from < 3 → to ≡ from
+  there-low h = every-low from to (a .source) (a .target) h c
 
-  pub as-binary : from ≡ 1 → carried binary binary n s ≡ carried (format-at from) (format-at to) n s
-  as-binary e = rw (at-binary from e, at-binary to (every-low from to h l (omega arith) c ∙ e))
-
-  pub as-fixed : (v : Signed) → from ≡ 2 → done (signed-value v) ≡ meaning fixed s → normal fixed n (signed-value v) ≡ carried (format-at from) (format-at to) n s
-  unfolding conversion
-  as-fixed v e m =
-      rw (at-fixed from e, at-fixed to (every-low from to h l (omega arith) c ∙ e)) (sym (every-carried fixed fixed n s refl (sym m)))
-
-  pub as-decimal : 3 ≤ from → carried (decimal-format (eqb from 3)) (decimal-format (eqb to 3)) n s ≡ carried (format-at from) (format-at to) n s
-  as-decimal p = rw (at-decimal from h p, at-decimal to l (every-high from to h l p c))
-
-  pub fixed-there : from ≡ 2 → allowed (format-at to) n ≡ true → (n ≡ 2) ⊎ (n ≡ 4)
-  fixed-there e a = two-four to n (every-low from to h l (omega arith) c ∙ e) a
+  there-high : 3 ≤ from → 3 ≤ to
+  there-high h = every-high from to (a .source) (a .target) h c
 
   pub number-there : 0 < from → 0 < to
   number-there p =
       by-order from 3
-      (λ q. let e = every-low from to h l q c in omega arith)
-      (λ q. let e = every-high from to h l q c in omega arith)
+      (λ q. let e = there-low q in omega arith)
+      (λ q. let e = there-high q in omega arith)
+
+  pub as-alpha : from ≡ 0 → carried alpha alpha n s ≡ carried (format-at from) (format-at to) n s
+  as-alpha e = rw (at-alpha from e, at-alpha to (there-low (omega arith) ∙ e))
+
+  pub as-binary : from ≡ 1 → carried binary binary n s ≡ carried (format-at from) (format-at to) n s
+  as-binary e = rw (at-binary from e, at-binary to (there-low (omega arith) ∙ e))
+
+  pub fixed-there : from ≡ 2 → (n ≡ 2) ⊎ (n ≡ 4)
+  fixed-there e = two-four to n (there-low (omega arith) ∙ e) (a .length-there)
+
+  pub as-fixed : (v : Signed) → from ≡ 2 → done (signed-value v) ≡ meaning fixed s → normal fixed n (signed-value v) ≡ carried (format-at from) (format-at to) n s
+  unfolding conversion
+  as-fixed v e m =
+      rw (at-fixed from e, at-fixed to (there-low (omega arith) ∙ e)) (sym (every-carried fixed fixed n s refl (sym m)))
+
+  module _ (h : 3 ≤ from) where
+    pub as-decimal : carried (decimal-format (eqb from 3)) (decimal-format (eqb to 3)) n s ≡ carried (format-at from) (format-at to) n s
+    as-decimal = rw (at-decimal from (a .source) h, at-decimal to (a .target) (there-high h))
+
+    pub decimal-value : is-done (meaning (decimal-format (eqb from 3)) s) ≡ true
+    decimal-value = rw (at-decimal from (a .source) h) at (a .value)
+
+    pub decimal-sizes : (length s ≤ 253) × (0 < n) × (n ≤ 29)
+    decimal-sizes = (
+      size-253 from (length s) (a .source) (a .size),
+      some-size to n (a .target) (a .length-there) (number-there (omega arith)),
+      size-29 to n (a .target) (a .length-there) (there-high h),
+    )
+
+-- A value that is a word, carried through it.
+module _ {from to n : ℕ} {s : Bytes} (a : Asked from to n s) (b : Bool) (c : conversion (format-at from) (format-at to) ≡ ranged b) where
+  pub word-source : (0 < from) × (from < 5) × (allowed (format-at from) (length s) ≡ true) × (is-done (meaning (format-at from) s) ≡ true)
+  word-source = (ranged-from from to b c, a .source, a .size, a .value)
+
+  pub word-beyond : word-of (value-of (meaning (format-at from) s)) ≡ Outside → is-done (carried (format-at from) (format-at to) n s) ≡ false
+  word-beyond w =
+      out-of-range (format-at from) (format-at to) n s (a .value) (ranged b) c (word-outside (value-of (meaning (format-at from) s)) b w)
+
+  module _ {v : Signed} (w : word-of (value-of (meaning (format-at from) s)) ≡ Number v) where
+    is-word : value-of (meaning (format-at from) s) ≡ signed-value v
+    is-word = word-number (value-of (meaning (format-at from) s)) v w .0
+
+    pub word-small : v .magnitude ≤ 2147483648
+    word-small = word-number (value-of (meaning (format-at from) s)) v w .1
+
+    pub word-in : in-range (ranged b) (signed-value v) ≡ true → is-done (normal (format-at to) n (signed-value v)) ≡ is-done (carried (format-at from) (format-at to) n s)
+    word-in h = sym (rw is-word at (in-the-range (format-at from) (format-at to) n s (a .value) (ranged b) c (rw is-word h)))
+
+    pub word-out : in-range (ranged b) (signed-value v) ≡ false → false ≡ is-done (carried (format-at from) (format-at to) n s)
+    word-out h = sym (out-of-range (format-at from) (format-at to) n s (a .value) (ranged b) c (rw is-word h))
+
+    pub word-written : is-done (carried (format-at from) (format-at to) n s) ≡ true → carried (format-at from) (format-at to) n s ≡ normal (format-at to) n (signed-value v)
+    word-written d =
+        rw is-word at
+        (carried-normal (format-at from) (format-at to) n s (a .value) (ranged b) c
+        (carried-range (format-at from) (format-at to) n s (a .value) (ranged b) c d))
 
 -- The room for a number.
 pub carrying-room : {from to n : ℕ} {s : Bytes} {at room : ℕ} → Carrying from to n s at room → 0 < to → at + n ≤ room

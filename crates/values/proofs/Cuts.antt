@@ -1,18 +1,21 @@
 -- The first value of a run of bytes, at each way that the code answers.
-use mathlib.Core.Path.{_≡_, refl, sym, _∙_}
+use mathlib.Core.Path.{ap, _≡_, refl, sym, _∙_}
 use mathlib.Core.Bool.{_&&_}
+use mathlib.Core.Logic.{_⊎_, inl, inr}
 use mathlib.Core.List.{[], _∷_}
 use Prim.Native.Nat.{ℕ, zero, suc, _+_, _-_, _≤_, _<_}
 use native.Mathlib.Nat.{not-suc-le-zero, le-of-suc-le-suc}
 use native.Mathlib.Numerals.{add-one}
 use native.Mathlib.Omega.{arith}
-use lib.Dec.{leb}
+use lib.Dec.{leb, leb→le}
 use lib.ListN.{length, take, drop, getD, length-drop, drop-of-length-le}
-use lib.Seq.{drop-cons, drop-drop}
+use lib.Seq.{drop-cons, drop-drop, length-take-le}
 use borrow.Author.Tests.{le-leb}
 use Rattle.rules.specs.Outcome.{done, refused, _>>=_, need}
 use Rattle.rules.specs.Lists.{Bytes, cut}
 use Rattle.rules.specs.Values.{first-value}
+use Rattle.rules.proofs.Steps.{not-done, from-done, from-need, and-right}
+use Rattle.buffer.proofs.Cases.{by-order}
 use Rattle.values.specs.Places.{Found}
 use Rattle.values.specs.declared.First.{First}
 use Rattle.values.specs.declared.First.the-variants.{Value, Refused}
@@ -88,3 +91,24 @@ module _ (s : Bytes) (at n : ℕ) (h : at < length s) (e : n ≡ getD s at 0) wh
 -- A length given as 0.
 pub at-zero : (s : Bytes) (at size : ℕ) (r : First) → size ≡ 0 → Found s at (first-value 0 (drop at s)) r → Found s at (first-value size (drop at s)) r
 at-zero s at size r z f = rw z f
+
+-- The content of the first value has its length, or at most 253 bytes behind a length byte.
+cut-length : (k n : ℕ) (bs v rest : Bytes) → cut k n bs ≡ done (v, rest) → length v ≡ n
+cut-length k n bs v rest e =
+    by-order (length bs) n
+    (λ h. absurd (not-done (sym (cut-short k n bs h) ∙ e)))
+    (λ h. from-done (sym (cut-enough k n bs h) ∙ e) λ p _. ap length (sym p) ∙ length-take-le n bs h)
+
+pub first-content : (size : ℕ) (bs v rest : Bytes) → first-value size bs ≡ done (v, rest) → ((size ≡ 0) × (length v ≤ 253)) ⊎ (size ≡ length v)
+unfolding first-value
+first-content zero [] v rest e = absurd (not-done e)
+first-content zero (n ∷ bs) v rest e =
+    from-need (leb 1 n && leb n 254) 8 _ e λ t k.
+    let l = leb→le n 254 (and-right (leb 1 n) (leb n 254) t) in
+    let q = cut-length 7 (n - 1) bs v rest k in
+    inl (refl, omega arith)
+first-content (suc size) bs v rest e = inr (sym (cut-length 7 (suc size) bs v rest e))
+
+pub found-content : (s : Bytes) (at size from next : ℕ) → Found s at (first-value size (drop at s)) (Value from next)
+    → ((size ≡ 0) × (length (take (next - from) (drop from s)) ≤ 253)) ⊎ (size ≡ length (take (next - from) (drop from s)))
+found-content s at size from next f = first-content size (drop at s) (take (next - from) (drop from s)) (drop next s) (sym (f .answer))

@@ -1,11 +1,11 @@
 -- Null of each format, byte by byte, and its length.
 use mathlib.Core.Path.{_≡_, refl, sym, _∙_, ap}
-use mathlib.Core.Bool.{true, false, _&&_}
+use mathlib.Core.Bool.{true, false, false≢true}
 use mathlib.Core.List.{List, [], _∷_, _++_}
 use Prim.Native.Nat.{ℕ, zero, suc, _+_, _-_, _*_, _^_, _≤_, _<_}
 use native.Mathlib.Nat.{one-le-pow, sub-zero}
 use native.Mathlib.Omega.{arith}
-use lib.Dec.{ltb, leb, eqb, lit<}
+use lib.Dec.{ltb, eqb, lit<}
 use lib.ListN.{length, getD, replicate, length-append, length-replicate}
 use borrow.Author.Tests.{lt-ltb, eqb-true, eqb-false}
 use Rattle.rules.specs.Outcome.{done}
@@ -17,10 +17,8 @@ use Rattle.words.proofs.Digits.{digits-zero}
 use Rattle.words.proofs.Fixed.{done-need}
 use Rattle.values.specs.Formats.{format-at}
 use Rattle.kinds.proofs.Five.{five}
+use Rattle.values.proofs.Numbered.{from-one}
 use Rattle.values.proofs.Strip.{normal-text-0, normal-text}
-
-false-true : false ≡ true → ⊥
-false-true e = let z : _≡_ {A = ℕ} 0 1 = cc in omega arith
 
 pow-above : (b n : ℕ) → 0 < b → 0 < b ^ n
 pow-above b n h = one-le-pow n b h
@@ -74,17 +72,13 @@ normal-null-unpacked n =
     ∙ ap done (rw (digits-zero 10 n) (zone-zeros n))
 
 -- Every allowed length holds null.
-some-length : (n : ℕ) → (leb 1 n && leb n 15) ≡ true → 0 < n
-some-length zero e = absurd (false-true e)
-some-length (suc n) e = omega arith
-
 pub null-done : (f : Format) (n : ℕ) → allowed f n ≡ true → normal f n (null-value f) ≡ done (null f n)
 unfolding allowed
 null-done alpha zero h = null-from alpha 0 normal-null-0 .1
 null-done alpha (suc n) h = null-from alpha (suc n) (normal-null-alpha (suc n) (λ e. omega arith)) .1
 null-done binary n h = null-from binary n (normal-null-binary n) .1
 null-done fixed n h = null-from fixed n (normal-null-fixed n) .1
-null-done packed n h = null-from packed n (normal-null-packed n (some-length n h)) .1
+null-done packed n h = null-from packed n (normal-null-packed n (from-one n 15 h)) .1
 null-done unpacked n h = null-from unpacked n (normal-null-unpacked n) .1
 
 -- Null by the number of its format.
@@ -110,7 +104,7 @@ unfolding allowed format-at
 at-0 =
     five (λ k. allowed (format-at k) 0 ≡ true → null (format-at k) 0 ≡ 1 ∷ [])
     (λ _. null-from alpha 0 normal-null-0 .0)
-    (λ e. absurd (false-true e)) (λ e. absurd (false-true e)) (λ e. absurd (false-true e)) (λ e. absurd (false-true e))
+    (λ e. absurd (false≢true e)) (λ e. absurd (false≢true e)) (λ e. absurd (false≢true e)) (λ e. absurd (false≢true e))
 
 pub null-0 : (k n : ℕ) → k < 5 → n ≡ 0 → allowed (format-at k) n ≡ true → null (format-at k) n ≡ 1 ∷ []
 null-0 k n h z a = rw z (at-0 k h (rw z at a))

@@ -1,17 +1,18 @@
--- Formats by number: which each number is, and the lengths that an allowed one has.
+-- Formats by number: which each number is, the lengths that are allowed, and which numbers convert.
 use mathlib.Core.Path.{_≡_, refl, sym, _∙_, ap}
-use mathlib.Core.Bool.{Bool, true, false, not, _&&_, _||_}
+use mathlib.Core.Bool.{Bool, true, false, not, _&&_, _||_, false≢true}
 use mathlib.Core.Logic.{_⊎_, inl, inr}
 use Prim.Native.Nat.{ℕ, _<_, _≤_}
 use native.Mathlib.Omega.{arith}
 use lib.Dec.{eqb, leb}
 use lib.ListN.{getD}
-use borrow.Author.Tests.{leb-true, eqb-true}
+use borrow.Author.Tests.{le-leb, lt-leb, leb-true, eqb-true}
 use Rattle.rules.specs.Values.{Format, alpha, binary, fixed, packed, unpacked, allowed, Kind, never, every, word, natural, conversion}
+use Rattle.rules.proofs.Steps.{by-test}
 use Rattle.decimals.specs.Decimals.{decimal-format}
 use Rattle.values.specs.Formats.{format-at, ranged}
 use Rattle.kinds.proofs.Five.{five}
-use Rattle.kinds.proofs.Lengths.{least, greatest, allowed-is}
+use Rattle.kinds.proofs.Constants.{least, greatest, allowed-is}
 
 pub at-alpha : (k : ℕ) → k ≡ 0 → format-at k ≡ alpha
 unfolding format-at
@@ -31,21 +32,32 @@ at-decimal =
     five (λ k. 3 ≤ k → format-at k ≡ decimal-format (eqb k 3))
     (λ h. absurd (omega arith)) (λ h. absurd (omega arith)) (λ h. absurd (omega arith)) (λ _. refl) (λ _. refl)
 
--- An allowed length lies within the two of its format.
-parts : (a b c : Bool) → (a && (b && c)) ≡ true → (a ≡ true) × (b ≡ true)
-parts true true c e = (refl, refl)
-parts true false c e = (refl, e)
-parts false b c e = (e, cc)
+-- Both sides of a test that passes.
+pub and-first : (a b : Bool) → (a && b) ≡ true → a ≡ true
+and-first true b e = refl
+and-first false b e = e
 
+pub and-second : (a b : Bool) → (a && b) ≡ true → b ≡ true
+and-second true b e = e
+and-second false b e = absurd (false≢true e)
+
+-- A length from 1 on.
+pub from-one : (n m : ℕ) → (leb 1 n && leb n m) ≡ true → 0 < n
+from-one n m e = leb-true 1 n (and-first (leb 1 n) (leb n m) e)
+
+-- An allowed length lies within the two of its format.
 module _ (k n : ℕ) (h : k < 5) (a : allowed (format-at k) n ≡ true) where
-  both : (leb (getD least k 0) n ≡ true) × (leb n (getD greatest k 0) ≡ true)
-  both = parts (leb (getD least k 0) n) (leb n (getD greatest k 0)) (not (eqb k 2 && eqb n 3)) (sym (allowed-is k h n) ∙ a)
+  inside : (leb (getD least k 0) n && (leb n (getD greatest k 0) && not (eqb k 2 && eqb n 3))) ≡ true
+  inside = sym (allowed-is k h n) ∙ a
 
   at-least : getD least k 0 ≤ n
-  at-least = leb-true (getD least k 0) n (both .0)
+  at-least = leb-true (getD least k 0) n (and-first (leb (getD least k 0) n) (leb n (getD greatest k 0) && not (eqb k 2 && eqb n 3)) inside)
 
   at-most : n ≤ getD greatest k 0
-  at-most = leb-true n (getD greatest k 0) (both .1)
+  at-most =
+      leb-true n (getD greatest k 0)
+      (and-first (leb n (getD greatest k 0)) (not (eqb k 2 && eqb n 3))
+      (and-second (leb (getD least k 0) n) (leb n (getD greatest k 0) && not (eqb k 2 && eqb n 3)) inside))
 
   pub some-size : 0 < k → 0 < n
   some-size p =
@@ -62,82 +74,81 @@ module _ (k n : ℕ) (h : k < 5) (a : allowed (format-at k) n ≡ true) where
       let l = five (λ k. 3 ≤ k → getD greatest k 0 ≤ 29) (λ q. absurd (omega arith)) (λ q. absurd (omega arith)) (λ q. absurd (omega arith)) (λ _. omega arith) (λ _. omega arith) k h p in
       omega (arith, at-most)
 
-either : (n : ℕ) → (eqb n 2 || eqb n 4) ≡ true → (n ≡ 2) ⊎ (n ≡ 4)
+pub either : (n : ℕ) → (eqb n 2 || eqb n 4) ≡ true → (n ≡ 2) ⊎ (n ≡ 4)
 either n e = go (eqb n 2) refl (eqb n 4) refl e
   where
     go : (a : Bool) → eqb n 2 ≡ a → (b : Bool) → eqb n 4 ≡ b → (a || b) ≡ true → (n ≡ 2) ⊎ (n ≡ 4)
     go true p b q e = inl (eqb-true n 2 p)
     go false p true q e = inr (eqb-true n 4 q)
-    go false p false q e = absurd (let z : _≡_ {A = ℕ} 0 1 = cc in omega arith)
+    go false p false q e = absurd (false≢true e)
 
 pub two-four : (k n : ℕ) → k ≡ 2 → allowed (format-at k) n ≡ true → (n ≡ 2) ⊎ (n ≡ 4)
 unfolding allowed format-at
 two-four k n e a = either n (rw e at a)
 
--- Which numbers convert: all values of a format to itself and between P and U, ranges between numbers alone.
-pub every-low : (from to : ℕ) → from < 5 → to < 5 → from < 3 → conversion (format-at from) (format-at to) ≡ every → to ≡ from
-unfolding conversion format-at
-every-low from to h l =
-    five (λ from. from < 3 → conversion (format-at from) (format-at to) ≡ every → to ≡ from)
-    (λ _. five (λ to. conversion alpha (format-at to) ≡ every → to ≡ 0) (λ _. refl) (λ e. cc) (λ e. cc) (λ e. cc) (λ e. cc) to l)
-    (λ _. five (λ to. conversion binary (format-at to) ≡ every → to ≡ 1) (λ e. cc) (λ _. refl) (λ e. cc) (λ e. cc) (λ e. cc) to l)
-    (λ _. five (λ to. conversion fixed (format-at to) ≡ every → to ≡ 2) (λ e. cc) (λ e. cc) (λ _. refl) (λ e. cc) (λ e. cc) to l)
-    (λ q. absurd (omega arith))
-    (λ q. absurd (omega arith))
-    from h
+-- Which numbers convert: all values of a format to itself and between P and U; a range between numbers alone.
+is-every : Kind → Bool
+is-every never = false
+is-every every = true
+is-every word = false
+is-every natural = false
 
--- The kinds as numbers, so that two different ones are never equal.
-abbrev code : Kind → ℕ
-code never = 0
-code every = 1
-code word = 2
-code natural = 3
+Every : ℕ → Type 0
+Every from = (to : ℕ) → to < 5 → is-every (conversion (format-at from) (format-at to)) ≡ (eqb to from || (leb 3 from && leb 3 to))
 
-apart : {A : Type 0} (j k : Kind) → j ≡ k → (code j ≡ code k → ⊥) → A
-apart j k e f = absurd (f (ap code e))
+alike : (from : ℕ) → from < 5 → Every from
+unfolding Every is-every conversion format-at
+alike =
+    five Every (five _ refl refl refl refl refl) (five _ refl refl refl refl refl) (five _ refl refl refl refl refl)
+    (five _ refl refl refl refl refl) (five _ refl refl refl refl refl)
 
-pub every-high : (from to : ℕ) → from < 5 → to < 5 → 3 ≤ from → conversion (format-at from) (format-at to) ≡ every → 3 ≤ to
-unfolding conversion format-at
-every-high from to h l =
-    five (λ from. 3 ≤ from → conversion (format-at from) (format-at to) ≡ every → 3 ≤ to)
-    (λ q. absurd (omega arith))
-    (λ q. absurd (omega arith))
-    (λ q. absurd (omega arith))
-    (λ _. five (λ to. conversion packed (format-at to) ≡ every → 3 ≤ to) (λ e. apart never every e (λ q. omega arith)) (λ e. apart natural every e (λ q. omega arith)) (λ e. apart word every e (λ q. omega arith)) (λ _. omega arith) (λ _. omega arith) to l)
-    (λ _. five (λ to. conversion unpacked (format-at to) ≡ every → 3 ≤ to) (λ e. apart never every e (λ q. omega arith)) (λ e. apart natural every e (λ q. omega arith)) (λ e. apart word every e (λ q. omega arith)) (λ _. omega arith) (λ _. omega arith) to l)
-    from h
+module _ (from to : ℕ) (h : from < 5) (l : to < 5) where
+  alike-at : conversion (format-at from) (format-at to) ≡ every → (eqb to from || (leb 3 from && leb 3 to)) ≡ true
+  unfolding Every is-every
+  alike-at e = sym (alike from h to l) ∙ ap is-every e
 
-to-alpha : (f : Format) (b : Bool) → conversion f alpha ≡ ranged b → ⊥
-unfolding conversion
-to-alpha alpha true e = apart every natural e (λ q. omega arith)
-to-alpha alpha false e = apart every word e (λ q. omega arith)
-to-alpha binary true e = apart never natural e (λ q. omega arith)
-to-alpha binary false e = apart never word e (λ q. omega arith)
-to-alpha fixed true e = apart never natural e (λ q. omega arith)
-to-alpha fixed false e = apart never word e (λ q. omega arith)
-to-alpha packed true e = apart never natural e (λ q. omega arith)
-to-alpha packed false e = apart never word e (λ q. omega arith)
-to-alpha unpacked true e = apart never natural e (λ q. omega arith)
-to-alpha unpacked false e = apart never word e (λ q. omega arith)
+  pub every-low : from < 3 → conversion (format-at from) (format-at to) ≡ every → to ≡ from
+  every-low q e = by-test (eqb to from) (eqb-true to from) (λ n. absurd (false≢true (sym (rw (n, lt-leb 3 from q)) ∙ alike-at e)))
 
-from-alpha : (g : Format) (b : Bool) → conversion alpha g ≡ ranged b → ⊥
-unfolding conversion
-from-alpha alpha true e = apart every natural e (λ q. omega arith)
-from-alpha alpha false e = apart every word e (λ q. omega arith)
-from-alpha binary true e = apart never natural e (λ q. omega arith)
-from-alpha binary false e = apart never word e (λ q. omega arith)
-from-alpha fixed true e = apart never natural e (λ q. omega arith)
-from-alpha fixed false e = apart never word e (λ q. omega arith)
-from-alpha packed true e = apart never natural e (λ q. omega arith)
-from-alpha packed false e = apart never word e (λ q. omega arith)
-from-alpha unpacked true e = apart never natural e (λ q. omega arith)
-from-alpha unpacked false e = apart never word e (λ q. omega arith)
+  pub every-high : 3 ≤ from → conversion (format-at from) (format-at to) ≡ every → 3 ≤ to
+  every-high q e =
+      by-test (eqb to from)
+      (λ y. let z = eqb-true to from y in omega arith)
+      (λ n. leb-true 3 to (sym (rw (n, le-leb 3 from q)) ∙ alike-at e))
+
+through-word : Kind → Bool
+through-word never = false
+through-word every = false
+through-word word = true
+through-word natural = true
+
+from-alpha : (g : Format) → through-word (conversion alpha g) ≡ false
+unfolding through-word conversion
+from-alpha alpha = refl
+from-alpha binary = refl
+from-alpha fixed = refl
+from-alpha packed = refl
+from-alpha unpacked = refl
+
+to-alpha : (f : Format) → through-word (conversion f alpha) ≡ false
+unfolding through-word conversion
+to-alpha alpha = refl
+to-alpha binary = refl
+to-alpha fixed = refl
+to-alpha packed = refl
+to-alpha unpacked = refl
+
+not-ranged : (k : Kind) (b : Bool) → through-word k ≡ false → k ≡ ranged b → ⊥
+unfolding through-word
+not-ranged k true h e = false≢true (sym h ∙ ap through-word e)
+not-ranged k false h e = false≢true (sym h ∙ ap through-word e)
 
 above-zero : (n : ℕ) → (n ≡ 0 → ⊥) → 0 < n
 above-zero n z = omega (arith, z)
 
-pub ranged-from : (from to : ℕ) (b : Bool) → conversion (format-at from) (format-at to) ≡ ranged b → 0 < from
-ranged-from from to b e = above-zero from (λ z. from-alpha (format-at to) b (rw (at-alpha from z) at e))
+module _ (from to : ℕ) (b : Bool) (e : conversion (format-at from) (format-at to) ≡ ranged b) where
+  pub ranged-from : 0 < from
+  ranged-from = above-zero from (λ z. not-ranged _ b (from-alpha (format-at to)) (rw (at-alpha from z) at e))
 
-pub ranged-to : (from to : ℕ) (b : Bool) → conversion (format-at from) (format-at to) ≡ ranged b → 0 < to
-ranged-to from to b e = above-zero to (λ z. to-alpha (format-at from) b (rw (at-alpha to z) at e))
+  pub ranged-to : 0 < to
+  ranged-to = above-zero to (λ z. not-ranged _ b (to-alpha (format-at from)) (rw (at-alpha to z) at e))

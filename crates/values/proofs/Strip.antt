@@ -34,6 +34,10 @@ before-other : (b : ℕ) → (b ≡ space → ⊥) → before b [] ≡ b ∷ []
 unfolding before
 before-other b h = rw (ne-eqb b space h, before)
 
+before-blank : (b : ℕ) → b ≡ space → before b [] ≡ []
+unfolding before
+before-blank b h = rw (eq-eqb b space h, before)
+
 strip-nil : strip [] ≡ []
 unfolding strip
 strip-nil = refl
@@ -53,6 +57,20 @@ pub strip-keep : (xs : Bytes) (b : ℕ) → (b ≡ space → ⊥) → strip (xs 
 strip-keep [] b h = strip-cons b [] ∙ rw strip-nil (before-other b h)
 strip-keep (x ∷ xs) b h = strip-cons x (xs ++ (b ∷ [])) ∙ ap (before x) (strip-keep xs b h) ∙ before-some x xs b
 
+-- A text has no trailing blank.
+before-again : (b : ℕ) (t : Bytes) → strip t ≡ t → strip (before b t) ≡ before b t
+unfolding before
+before-again b [] e =
+    by-test (eqb b space)
+    (λ q. rw (before-blank b (eqb-true b space q)) strip-nil)
+    (λ q. let k = before-other b (eqb-false b space q) in
+    rw k (strip-cons b [] ∙ rw strip-nil k))
+before-again b (x ∷ xs) e = strip-cons b (x ∷ xs) ∙ ap (before b) e
+
+pub strip-again : (s : Bytes) → strip (strip s) ≡ strip s
+strip-again [] = ap strip strip-nil
+strip-again (b ∷ bs) = rw (strip-cons b bs) (before-again b (strip bs) (strip-again bs))
+
 -- The turns of the scan from the right.
 module _ (s : Bytes) (j : ℕ) (p : 0 < j) (h : j ≤ length s) where
   last-of : take j s ≡ take (j - 1) s ++ (getD s (j - 1) 0 ∷ [])
@@ -69,10 +87,6 @@ text-none s zero h = strip-nil
 text-none s (suc j) h = absurd (not-suc-le-zero h)
 
 -- Blanks to the right give the bytes back.
-before-blank : (b : ℕ) → b ≡ space → before b [] ≡ []
-unfolding before
-before-blank b h = rw (eq-eqb b space h, before)
-
 padded : (b : ℕ) (bs t : Bytes) → t ++ replicate (length bs - length t) space ≡ bs
     → before b t ++ replicate (suc (length bs) - length (before b t)) space ≡ b ∷ bs
 unfolding before

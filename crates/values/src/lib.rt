@@ -1,4 +1,4 @@
-// The five formats: which lengths they have, which convert, where a value ends, null, normal form, and a value carried from one to another.
+// The five formats: where a value ends, null, normal form, and a value carried from one to another.
 // A format is a number: 0 A, 1 B, 2 F, 3 P, 4 U.
 ghost use mathlib.Core.Path.{_≡_};
 ghost use mathlib.Core.Bool.{true};
@@ -14,8 +14,8 @@ ghost use Rattle.values.specs.Formats.{format-at};
 ghost use Rattle.values.specs.Places.{Found};
 ghost use Rattle.values.specs.Fits.{fitted, size-of};
 
-pub mod carrying;
-pub mod numbers;
+mod carrying;
+mod numbers;
 pub mod texts;
 
 use kinds::ALPHA;

@@ -1,10 +1,8 @@
 -- `kinds::allowed` meets its contract: the tables of lengths hold document 01's, and 3 is no length of F.
-use Rattle.kinds.proofs.Lengths.{too-short, too-long, not-three, any-length}
+use Rattle.kinds.proofs.Constants.{too-short, too-long, not-three, any-length}
 use borrow.Author.Needs.{needs}
 use Rattle.kinds.proofs.allowed.Statement.{statement}
 use Rattle.kinds.proofs.allowed.Tie as tie
-use Rattle.kinds.proofs.allowed.Reads as reads
-use Rattle.kinds.proofs.allowed.Lts as lts
 
 mul-if1 : tie.Need-mul-if1
 mul-if1 c = search needs

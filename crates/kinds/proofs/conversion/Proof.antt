@@ -1,10 +1,8 @@
 -- `kinds::conversion` meets its contract: each of the twenty-five cells, by computation.
-use Rattle.kinds.proofs.Lengths.{converts-at}
+use Rattle.kinds.proofs.Constants.{converts-at}
 use borrow.Author.Needs.{needs}
 use Rattle.kinds.proofs.conversion.Statement.{statement}
 use Rattle.kinds.proofs.conversion.Tie as tie
-use Rattle.kinds.proofs.conversion.Reads as reads
-use Rattle.kinds.proofs.conversion.Lts as lts
 
 mul-result : tie.Need-mul-result
 mul-result c = search needs

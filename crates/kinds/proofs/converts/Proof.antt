@@ -4,13 +4,10 @@ use Rattle.rules.specs.Values.{converts}
 use Rattle.kinds.specs.Formats.{format-at, kind-of}
 use Rattle.kinds.specs.declared.Kind.{Kind}
 use Rattle.kinds.specs.declared.Kind.the-variants.{Never, Every, Word, Natural}
-use Rattle.kinds.proofs.Lengths.{any-value, converts-by}
+use Rattle.kinds.proofs.Constants.{any-value, converts-by}
 use borrow.Author.Needs.{needs}
 use Rattle.kinds.proofs.converts.Statement.{statement}
 use Rattle.kinds.proofs.converts.Tie as tie
-use Rattle.kinds.proofs.converts.Reads as reads
-use Rattle.kinds.proofs.converts.Lts as lts
-use Rattle.kinds.proofs.conversion.Reads as conversion-reads
 
 -- What the kind that was found says.
 answer : (c : tie.After-conversion) (k : Kind) → c .conversion .result ≡ k

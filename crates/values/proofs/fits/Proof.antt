@@ -25,7 +25,8 @@ returns c =
     let i = c .before in
     let a = i .before .before .before .before .before in
     let d = sym (i .before .carries .ensures) ∙ i .if2 .taken in
-    ap done (c .carried-size .ensures ∙ carried-size-is (format-at (a .args .from)) (format-at (a .args .to)) (a .args .n) (a .args .s .now) (a .pre .3) d) ∙ sym (does-fit (format-at (a .args .from)) (format-at (a .args .to)) (a .args .n) (a .args .s .now) d)
+    ap done (c .carried-size .ensures ∙ carried-size-is (format-at (a .args .from)) (format-at (a .args .to)) (a .args .n) (a .args .s .now) (a .pre .3) d)
+    ∙ sym (does-fit (format-at (a .args .from)) (format-at (a .args .to)) (a .args .n) (a .args .s .now) d)
 
 returns-2 : tie.Need-returns-2
 returns-2 c =

@@ -17,7 +17,8 @@ is-normal-text-requires c κs = search needs
 returns : tie.Need-returns
 returns c =
     let a = c .before .before .before in
-    c .is-normal-text .ensures ∙ ap (λ f. in-normal-form f (a .args .size) (a .args .s .now)) (sym (at-alpha (a .args .format) (c .before .if1 .taken)))
+    c .is-normal-text .ensures
+    ∙ ap (λ f. in-normal-form f (a .args .size) (a .args .s .now)) (sym (at-alpha (a .args .format) (c .before .if1 .taken)))
 
 returns-2 : tie.Need-returns-2
 returns-2 c =

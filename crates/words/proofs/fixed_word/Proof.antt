@@ -20,7 +20,8 @@ returns : tie.Need-returns
 unfolding meaning
 returns c =
     let d = c .before .decode in
-    ap (λ v. done (signed-value v)) (c .split .ensures ∙ ap sign-of (toZ-ofZ {w = w32} {z = d .result} (record { sfits = d .ok }))) ∙ ap done (d .ensures)
+    ap (λ v. done (signed-value v)) (c .split .ensures ∙ ap sign-of (toZ-ofZ {w = w32} {z = d .result} (record { sfits = d .ok })))
+    ∙ ap done (d .ensures)
 
 pub fixed-word-spec : {M : Type 1} → statement M
 fixed-word-spec = tie.close (tie.spec decode-requires split-requires returns)

@@ -11,7 +11,7 @@ carry-text-requires : tie.Need-carry-text-requires
 carry-text-requires c κs =
     let i = c .before in
     let a = i .before .before .before in
-    rw (as-alpha (a .args .from) (a .args .to) (a .args .n) (a .args .s .now) (a .pre .0 .asked .source) (a .pre .0 .asked .target) (a .pre .1) (i .if1 .taken)) (a .pre .0 .fits, a .pre .0 .enough)
+    rw (as-alpha (a .pre .0 .asked) (a .pre .1) (i .if1 .taken)) (a .pre .0 .fits, a .pre .0 .enough)
 
 carry-number-requires : tie.Need-carry-number-requires
 carry-number-requires c κs = search needs
@@ -24,7 +24,7 @@ returns c =
     let i = c .before .before .before .before in
     let a = i .before .before .before in
     c .before .before .carry-text .ensures
-    ∙ ap (λ o. splice (a .args .at) (bytes-of o) (a .args .out .now)) (as-alpha (a .args .from) (a .args .to) (a .args .n) (a .args .s .now) (a .pre .0 .asked .source) (a .pre .0 .asked .target) (a .pre .1) (i .if1 .taken))
+    ∙ ap (λ o. splice (a .args .at) (bytes-of o) (a .args .out .now)) (as-alpha (a .pre .0 .asked) (a .pre .1) (i .if1 .taken))
 
 same-length-2 : tie.Need-same-length-2
 same-length-2 c = search needs

@@ -4,8 +4,8 @@ use native.Mathlib.Omega.{arith}
 use mathlib.Core.Path.{ap, _∙_}
 use Rattle.rules.specs.Lists.{bytes-of}
 use Rattle.buffer.specs.Splice.{splice}
-use Rattle.values.proofs.Numbered.{two-four, some-size, size-29, size-253, every-high}
-use Rattle.values.proofs.Chosen.{as-binary, as-fixed, as-decimal, fixed-there, number-there, carrying-room}
+use Rattle.values.proofs.Numbered.{two-four}
+use Rattle.values.proofs.Chosen.{as-binary, as-fixed, as-decimal, fixed-there, number-there, decimal-sizes, carrying-room}
 use borrow.Author.Needs.{needs}
 use Rattle.values.proofs.carrying.carry_number.Statement.{statement}
 use Rattle.values.proofs.carrying.carry_number.Tie as tie
@@ -14,7 +14,7 @@ carry-binary-requires : tie.Need-carry-binary-requires
 carry-binary-requires c κs =
     let i = c .before in
     let a = i .before .before .before in
-    (rw (as-binary (a .args .from) (a .args .to) (a .args .n) (a .args .s .now) (a .pre .0 .asked .source) (a .pre .0 .asked .target) (a .pre .1) (i .if1 .taken)) (a .pre .0 .fits), carrying-room (a .pre .0) (number-there (a .args .from) (a .args .to) (a .args .n) (a .args .s .now) (a .pre .0 .asked .source) (a .pre .0 .asked .target) (a .pre .1) (a .pre .2)))
+    (rw (as-binary (a .pre .0 .asked) (a .pre .1) (i .if1 .taken)) (a .pre .0 .fits), carrying-room (a .pre .0) (number-there (a .pre .0 .asked) (a .pre .1) (a .pre .2)))
 
 fixed-word-requires : tie.Need-fixed-word-requires
 fixed-word-requires c κs = let a = c .before .before .before .before in two-four (a .args .from) _ (c .if2 .taken) (a .pre .0 .asked .size)
@@ -24,9 +24,9 @@ write-fixed-requires c κs =
     let i = c .before .before in
     let a = i .before .before .before .before in
     let w = c .before .fixed-word in (
-      fixed-there (a .args .from) (a .args .to) (a .args .n) (a .args .s .now) (a .pre .0 .asked .source) (a .pre .0 .asked .target) (a .pre .1) (i .if2 .taken) (a .pre .0 .asked .length-there),
-      rw (as-fixed (a .args .from) (a .args .to) (a .args .n) (a .args .s .now) (a .pre .0 .asked .source) (a .pre .0 .asked .target) (a .pre .1) (w .result) (i .if2 .taken) (w .ensures)) (a .pre .0 .fits),
-      carrying-room (a .pre .0) (number-there (a .args .from) (a .args .to) (a .args .n) (a .args .s .now) (a .pre .0 .asked .source) (a .pre .0 .asked .target) (a .pre .1) (a .pre .2)),
+      fixed-there (a .pre .0 .asked) (a .pre .1) (i .if2 .taken),
+      rw (as-fixed (a .pre .0 .asked) (a .pre .1) (w .result) (i .if2 .taken) (w .ensures)) (a .pre .0 .fits),
+      carrying-room (a .pre .0) (number-there (a .pre .0 .asked) (a .pre .1) (a .pre .2)),
     )
 
 carry-requires : tie.Need-carry-requires
@@ -34,13 +34,12 @@ carry-requires c κs =
     let i = c .before in
     let a = i .before .before .before .before in
     let high : 3 ≤ a .args .from = omega (arith, i .if2 .left, i .before .if1 .left, a .pre .2) in
-    let p = a .pre .0 .asked in
-    let there = number-there (a .args .from) (a .args .to) (a .args .n) (a .args .s .now) (a .pre .0 .asked .source) (a .pre .0 .asked .target) (a .pre .1) (a .pre .2) in (
-      rw (as-decimal (a .args .from) (a .args .to) (a .args .n) (a .args .s .now) (a .pre .0 .asked .source) (a .pre .0 .asked .target) (a .pre .1) high) (a .pre .0 .fits),
-      size-253 (a .args .from) _ (p .source) (p .size),
-      some-size (a .args .to) (a .args .n) (p .target) (p .length-there) there,
-      size-29 (a .args .to) (a .args .n) (p .target) (p .length-there) (every-high (a .args .from) (a .args .to) (p .source) (p .target) high (a .pre .1)),
-      carrying-room (a .pre .0) there,
+    let sizes = decimal-sizes (a .pre .0 .asked) (a .pre .1) high in (
+      rw (as-decimal (a .pre .0 .asked) (a .pre .1) high) (a .pre .0 .fits),
+      sizes .0,
+      sizes .1,
+      sizes .2,
+      carrying-room (a .pre .0) (number-there (a .pre .0 .asked) (a .pre .1) (a .pre .2)),
     )
 
 same-length : tie.Need-same-length
@@ -51,7 +50,7 @@ returns c =
     let i = c .before .before .before .before in
     let a = i .before .before .before in
     c .before .before .carry-binary .ensures
-    ∙ ap (λ o. splice (a .args .at) (bytes-of o) (a .args .out .now)) (as-binary (a .args .from) (a .args .to) (a .args .n) (a .args .s .now) (a .pre .0 .asked .source) (a .pre .0 .asked .target) (a .pre .1) (i .if1 .taken))
+    ∙ ap (λ o. splice (a .args .at) (bytes-of o) (a .args .out .now)) (as-binary (a .pre .0 .asked) (a .pre .1) (i .if1 .taken))
 
 same-length-2 : tie.Need-same-length-2
 same-length-2 c = search needs
@@ -62,7 +61,7 @@ returns-2 c =
     let a = i .before .before .before .before in
     let w = c .before .before .before .before .fixed-word in
     c .before .before .write-fixed .ensures
-    ∙ ap (λ o. splice (a .args .at) (bytes-of o) (a .args .out .now)) (as-fixed (a .args .from) (a .args .to) (a .args .n) (a .args .s .now) (a .pre .0 .asked .source) (a .pre .0 .asked .target) (a .pre .1) (w .result) (i .if2 .taken) (w .ensures))
+    ∙ ap (λ o. splice (a .args .at) (bytes-of o) (a .args .out .now)) (as-fixed (a .pre .0 .asked) (a .pre .1) (w .result) (i .if2 .taken) (w .ensures))
 
 same-length-3 : tie.Need-same-length-3
 same-length-3 c = search needs
@@ -73,7 +72,7 @@ returns-3 c =
     let a = i .before .before .before .before in
     let high : 3 ≤ a .args .from = omega (arith, i .if2 .left, i .before .if1 .left, a .pre .2) in
     c .before .before .carry .ensures
-    ∙ ap (λ o. splice (a .args .at) (bytes-of o) (a .args .out .now)) (as-decimal (a .args .from) (a .args .to) (a .args .n) (a .args .s .now) (a .pre .0 .asked .source) (a .pre .0 .asked .target) (a .pre .1) high)
+    ∙ ap (λ o. splice (a .args .at) (bytes-of o) (a .args .out .now)) (as-decimal (a .pre .0 .asked) (a .pre .1) high)
 
 pub carry-number-spec : {M : Type 1} → statement M
 carry-number-spec =

@@ -8,9 +8,8 @@ use Rattle.words.specs.Words.{word-of, value-of}
 use Rattle.words.specs.declared.Word.the-variants.{Number}
 use Rattle.buffer.specs.Splice.{splice}
 use Rattle.values.specs.Formats.{format-at}
-use Rattle.values.proofs.Numbered.{ranged-from, ranged-to}
-use Rattle.values.proofs.Carried.{word-written, word-beyond}
-use Rattle.values.proofs.Chosen.{which, carrying-room}
+use Rattle.values.proofs.Numbered.{ranged-to}
+use Rattle.values.proofs.Chosen.{which, carrying-room, word-source, word-written, word-beyond}
 use borrow.Author.Needs.{needs}
 use Rattle.values.proofs.carrying.carry_word.Statement.{statement}
 use Rattle.values.proofs.carrying.carry_word.Tie as tie
@@ -23,8 +22,7 @@ to-word-requires : tie.Need-to-word-requires
 to-word-requires c κs =
     let a = c .before .before in
     let r = which (a .pre .1) in
-    let p = a .pre .0 .asked in
-    (ranged-from (a .args .from) (a .args .to) (r .0) (r .1), p .source, p .size, p .value)
+    word-source (a .pre .0 .asked) (r .0) (r .1)
 
 enum-known-word : tie.Need-enum-known-word
 enum-known-word c = search needs
@@ -36,7 +34,7 @@ write-word-requires c κs =
     let r = which (a .pre .1) in
     let p = a .pre .0 .asked in
     let there = ranged-to (a .args .from) (a .args .to) (r .0) (r .1) in
-    (there, p .target, p .length-there, sym (ap is-done (word-written (format-at (a .args .from)) (format-at (a .args .to)) (a .args .n) (a .args .s .now) (a .pre .0 .asked .value) (r .0) (r .1) _ (told w) (a .pre .0 .fits))) ∙ a .pre .0 .fits, carrying-room (a .pre .0) there)
+    (there, p .target, p .length-there, sym (ap is-done (word-written (a .pre .0 .asked) (r .0) (r .1) (told w) (a .pre .0 .fits))) ∙ a .pre .0 .fits, carrying-room (a .pre .0) there)
 
 enum-told : tie.Need-enum-told
 enum-told c = search needs
@@ -50,14 +48,14 @@ returns c =
     let a = w .before .before .before .before .before in
     let r = which (a .pre .1) in
     c .before .before .write-word .ensures
-    ∙ ap (λ o. splice (a .args .at) (bytes-of o) (a .args .out .now)) (sym (word-written (format-at (a .args .from)) (format-at (a .args .to)) (a .args .n) (a .args .s .now) (a .pre .0 .asked .value) (r .0) (r .1) _ (told w) (a .pre .0 .fits)))
+    ∙ ap (λ o. splice (a .args .at) (bytes-of o) (a .args .out .now)) (sym (word-written (a .pre .0 .asked) (r .0) (r .1) (told w) (a .pre .0 .fits)))
 
 returns-2 : tie.Need-returns-2
 returns-2 c =
     let t = c .before .before in
     let a = t .before .before .before in
     let r = which (a .pre .1) in
-    absurd (false≢true (sym (word-beyond (format-at (a .args .from)) (format-at (a .args .to)) (a .args .n) (a .args .s .now) (a .pre .0 .asked .value) (r .0) (r .1) (sym (t .to-word .ensures) ∙ c .enum-told .given .1)) ∙ a .pre .0 .fits))
+    absurd (false≢true (sym (word-beyond (a .pre .0 .asked) (r .0) (r .1) (sym (t .to-word .ensures) ∙ c .enum-told .given .1)) ∙ a .pre .0 .fits))
 
 pub carry-word-spec : {M : Type 1} → statement M
 carry-word-spec =

@@ -4,8 +4,8 @@ use Rattle.rules.specs.Values.{meaning}
 use Rattle.words.specs.Words.{word-of, value-of}
 use Rattle.words.specs.declared.Word.the-variants.{Number}
 use Rattle.values.specs.Formats.{format-at}
-use Rattle.values.proofs.Numbered.{ranged-from, ranged-to}
-use Rattle.values.proofs.Carried.{word-small, word-in, word-out, word-beyond}
+use Rattle.values.proofs.Numbered.{ranged-to}
+use Rattle.values.proofs.Chosen.{word-source, word-small, word-in, word-out, word-beyond}
 use borrow.Author.Needs.{needs}
 use Rattle.values.proofs.carrying.word_fits.Statement.{statement}
 use Rattle.values.proofs.carrying.word_fits.Tie as tie
@@ -17,7 +17,7 @@ told c = sym (c .before .before .to-word .ensures) ∙ c .word .given .1
 to-word-requires : tie.Need-to-word-requires
 to-word-requires c κs =
     let a = c .before in
-    (ranged-from (a .args .from) (a .args .to) (a .args .natural) (a .pre .1), a .pre .0 .source, a .pre .0 .size, a .pre .0 .value)
+    word-source (a .pre .0) (a .args .natural) (a .pre .1)
 
 enum-known-word : tie.Need-enum-known-word
 enum-known-word c = search needs
@@ -26,7 +26,7 @@ within-range-requires : tie.Need-within-range-requires
 within-range-requires c κs =
     let w = c .before in
     let a = w .before .before .before .before in
-    word-small (format-at (a .args .from)) (format-at (a .args .to)) (a .args .n) (a .args .s .now) (a .pre .0 .value) (a .args .natural) (a .pre .1) _ (told w)
+    word-small (a .pre .0) (a .args .natural) (a .pre .1) (told w)
 
 fits-word-requires : tie.Need-fits-word-requires
 fits-word-requires c κs =
@@ -38,7 +38,7 @@ returns c =
     let i = c .before in
     let w = i .before .before .before in
     let a = w .before .before .before .before in
-    c .fits-word .ensures ∙ word-in (format-at (a .args .from)) (format-at (a .args .to)) (a .args .n) (a .args .s .now) (a .pre .0 .value) (a .args .natural) (a .pre .1) _ (told w) (sym (i .before .within-range .ensures) ∙ i .if1 .taken)
+    c .fits-word .ensures ∙ word-in (a .pre .0) (a .args .natural) (a .pre .1) (told w) (sym (i .before .within-range .ensures) ∙ i .if1 .taken)
 
 enum-told : tie.Need-enum-told
 enum-told c = search needs
@@ -47,13 +47,13 @@ returns-2 : tie.Need-returns-2
 returns-2 c =
     let w = c .before .before .before in
     let a = w .before .before .before .before in
-    word-out (format-at (a .args .from)) (format-at (a .args .to)) (a .args .n) (a .args .s .now) (a .pre .0 .value) (a .args .natural) (a .pre .1) _ (told w) (sym (c .before .within-range .ensures) ∙ c .if1 .left)
+    word-out (a .pre .0) (a .args .natural) (a .pre .1) (told w) (sym (c .before .within-range .ensures) ∙ c .if1 .left)
 
 returns-3 : tie.Need-returns-3
 returns-3 c =
     let t = c .before .before in
     let a = t .before .before in
-    sym (word-beyond (format-at (a .args .from)) (format-at (a .args .to)) (a .args .n) (a .args .s .now) (a .pre .0 .value) (a .args .natural) (a .pre .1) (sym (t .to-word .ensures) ∙ c .enum-told .given .1))
+    sym (word-beyond (a .pre .0) (a .args .natural) (a .pre .1) (sym (t .to-word .ensures) ∙ c .enum-told .given .1))
 
 pub word-fits-spec : {M : Type 1} → statement M
 word-fits-spec =

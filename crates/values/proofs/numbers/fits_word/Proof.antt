@@ -14,7 +14,8 @@ binary-fits-word-requires c κs = let a = c .before in some-size (a .args .forma
 returns : tie.Need-returns
 returns c =
     let a = c .before .before in
-    c .binary-fits-word .ensures ∙ ap (λ f. is-done (normal f (a .args .n) (signed-value (a .args .v)))) (sym (at-binary (a .args .format) (c .before .if1 .taken)))
+    c .binary-fits-word .ensures
+    ∙ ap (λ f. is-done (normal f (a .args .n) (signed-value (a .args .v)))) (sym (at-binary (a .args .format) (c .before .if1 .taken)))
 
 fixed-fits-requires : tie.Need-fixed-fits-requires
 fixed-fits-requires c κs = let a = c .before .before in two-four (a .args .format) (a .args .n) (c .if2 .taken) (a .pre .2)
@@ -22,7 +23,8 @@ fixed-fits-requires c κs = let a = c .before .before in two-four (a .args .form
 returns-2 : tie.Need-returns-2
 returns-2 c =
     let a = c .before .before .before in
-    c .fixed-fits .ensures ∙ ap (λ f. is-done (normal f (a .args .n) (signed-value (a .args .v)))) (sym (at-fixed (a .args .format) (c .before .if2 .taken)))
+    c .fixed-fits .ensures
+    ∙ ap (λ f. is-done (normal f (a .args .n) (signed-value (a .args .v)))) (sym (at-fixed (a .args .format) (c .before .if2 .taken)))
 
 fits-word-requires : tie.Need-fits-word-requires
 fits-word-requires c κs =
@@ -32,7 +34,8 @@ fits-word-requires c κs =
 returns-3 : tie.Need-returns-3
 returns-3 c =
     let a = c .before .before .before in
-    c .fits-word .ensures ∙ ap (λ f. is-done (normal f (a .args .n) (signed-value (a .args .v)))) (sym (at-decimal (a .args .format) (a .pre .1) (omega (arith, c .before .if2 .left, c .before .before .if1 .left, a .pre .0))))
+    c .fits-word .ensures
+    ∙ ap (λ f. is-done (normal f (a .args .n) (signed-value (a .args .v)))) (sym (at-decimal (a .args .format) (a .pre .1) (omega (arith, c .before .if2 .left, c .before .before .if1 .left, a .pre .0))))
 
 pub fits-word-spec : {M : Type 1} → statement M
 fits-word-spec =

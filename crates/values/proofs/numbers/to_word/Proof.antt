@@ -34,7 +34,8 @@ to-word-requires c κs =
 returns-3 : tie.Need-returns-3
 returns-3 c =
     let a = c .before .before .before .before in
-    c .to-word .ensures ∙ ap (λ f. word-of (value-of (meaning f (a .args .s .now)))) (sym (at-decimal (a .args .format) (a .pre .1) (omega (arith, c .before .if2 .left, c .before .before .if1 .left, a .pre .0))))
+    c .to-word .ensures
+    ∙ ap (λ f. word-of (value-of (meaning f (a .args .s .now)))) (sym (at-decimal (a .args .format) (a .pre .1) (omega (arith, c .before .if2 .left, c .before .before .if1 .left, a .pre .0))))
 
 pub to-word-spec : {M : Type 1} → statement M
 to-word-spec =
