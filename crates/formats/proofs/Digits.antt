@@ -1,20 +1,21 @@
 -- Reading a number a digit at a time: what is left to read spells the number as the whole does.
 use mathlib.Core.Path.{_≡_, refl, sym, _∙_}
-use mathlib.Core.Bool.{true, false}
-use mathlib.Core.List.{[], _∷_}
+use mathlib.Core.Bool.{true, false, _&&_}
+use mathlib.Core.List.{List, [], _∷_}
 use Prim.Native.Nat.{ℕ, zero, suc, _+_, _-_, _*_, _^_, _≤_, _<_}
 use native.Mathlib.Nat.{add-zero, zero-add}
 use native.Mathlib.Omega.{arith}
 use lib.Dec.{eqb, leb}
 use lib.ListN.{length, getD}
 use borrow.Author.Tests.{le-leb, lt-leb, leb-true, ne-eqb}
-use Rattle.rules.specs.Outcome.{Outcome, done, refused}
+use Rattle.rules.specs.Outcome.{Outcome, done, refused, _>>=_, need}
 use Rattle.rules.specs.Limits.{most-digits}
 use Rattle.rules.specs.Characters.{digit, digit-0, hyphen}
 use Rattle.rules.specs.Lists.{Bytes, spelled, nothing}
 use Rattle.rules.specs.Format.{leading-digits, number-first}
 use Rattle.formats.specs.Part.{part}
-use Rattle.formats.specs.Numbers.{spelling, range-end, alone, within, Numbered}
+use Rattle.formats.specs.Elements.{number-bound}
+use Rattle.formats.specs.Numbers.{range-end, alone, within, Numbered}
 use Rattle.formats.specs.declared.numbers.Number.{Number}
 use Rattle.formats.specs.declared.numbers.Number.the-variants.{Value, Bad}
 use Rattle.formats.proofs.Parts.{part-nil, part-cons}
@@ -27,6 +28,11 @@ digit-bounds b e =
     let h = and-true (leb 0xF0 b) (leb b 0xF9) e in
     (leb-true _ _ (h .0), leb-true _ _ (h .1))
 
+-- The number that k digits and those that follow spell, of which the k spell n.
+unfoldable pub spelling : ℕ → ℕ → List ℕ × Bytes → Outcome (ℕ × Bytes)
+spelling k n r = need (leb 1 (k + length (r .0)) && leb (k + length (r .0)) most-digits) 3 >>= λ _. done (spelled 10 (r .0) n, r .1)
+
+-- From the first digit to the end: no digit read yet, one more, the last one read, nothing left, and one too many.
 start : (bs : Bytes) → number-first bs ≡ spelling 0 0 (leading-digits bs)
 unfolding number-first spelling
 start bs = rw zero-add refl
@@ -61,7 +67,7 @@ pub record Read (f : Bytes) (at upto n i : ℕ) : Type 0 where
   pub left : number-first (part f at upto) ≡ spelling (i - at) n (leading-digits (part f i upto))
 
 -- Three digits spell less than a thousand.
-few-small : (k : ℕ) → k ≤ most-digits → 10 ^ k ≤ 1000
+few-small : (k : ℕ) → k ≤ most-digits → 10 ^ k ≤ number-bound
 few-small zero h = omega arith
 few-small (suc zero) h = omega arith
 few-small (suc (suc zero)) h = omega arith
@@ -81,22 +87,12 @@ read-first {f} {at} {upto} {n} h k d e s =
       left = start (part f at upto) ∙ rw (part-cons f at upto h k, one, e) (go 0 0 (getD f at 0) (part f (at + 1) upto) d ∙ rw zero-add refl);
     }
 
-below-three : (k : ℕ) → k < most-digits → 10 ^ k ≤ 100
-below-three zero h = omega arith
-below-three (suc zero) h = omega arith
-below-three (suc (suc zero)) h = omega arith
-below-three (suc (suc (suc k))) h = omega arith
-
-pub read-value : {f : Bytes} {at upto n i : ℕ} → Read f at upto n i → n < 1000
+pub read-value : {f : Bytes} {at upto n i : ℕ} → Read f at upto n i → n < number-bound
 read-value {f} {at} {upto} {n} {i} w = omega (arith, few-small (i - at) (omega arith))
 
 module _ {f : Bytes} {at upto n i : ℕ} (w : Read f at upto n i) (h : i < upto) where
   first : part f i upto ≡ getD f i 0 ∷ part f (i + 1) upto
   first = part-cons f i upto h (w .room)
-
-  -- Room for one more digit.
-  pub read-room : (i - at ≡ most-digits → ⊥) → n < 100
-  read-room d = omega (arith, below-three (i - at) (omega arith))
 
   pub read-turn : {d : ℕ} → digit (getD f i 0) ≡ true → (i - at ≡ most-digits → ⊥) → d ≡ getD f i 0 - digit-0 → d < 10
       → Read f at upto (n * 10 + d) (i + 1)

@@ -1,14 +1,12 @@
 -- Numbers in a format: what the code answers of them.
 use mathlib.Core.Path.{_≡_}
 use mathlib.Core.Bool.{Bool, true, false, _&&_}
-use mathlib.Core.List.{List, [], _∷_}
-use Prim.Native.Nat.{ℕ, _≤_, _<_, _+_}
-use lib.Dec.{eqb, leb}
-use lib.ListN.{length}
-use Rattle.rules.specs.Outcome.{Outcome, done, refused, _>>=_, need}
-use Rattle.rules.specs.Limits.{most-digits}
+use mathlib.Core.List.{[], _∷_}
+use Prim.Native.Nat.{ℕ, _≤_, _<_}
+use lib.Dec.{eqb}
+use Rattle.rules.specs.Outcome.{Outcome, done, refused}
 use Rattle.rules.specs.Characters.{hyphen}
-use Rattle.rules.specs.Lists.{Bytes, nothing, spelled}
+use Rattle.rules.specs.Lists.{Bytes, nothing}
 use Rattle.rules.specs.Format.{number-first}
 use Rattle.formats.specs.Part.{part}
 use Rattle.formats.specs.Elements.{number-bound}
@@ -20,6 +18,7 @@ abbrev pub number-of : Bytes → ℕ → Number → Outcome (ℕ × Bytes)
 number-of f upto (Value n p) = done (n, part f p upto)
 number-of f upto Bad = refused 3
 
+-- Where the bytes behind it begin, and how large a number is.
 abbrev pub within : ℕ → ℕ → Number → Type 0
 within at upto (Value n p) = (at ≤ p) × (p ≤ upto) × (n < number-bound)
 within at upto Bad = Unit {0}
@@ -28,10 +27,6 @@ within at upto Bad = Unit {0}
 pub record Numbered (f : Bytes) (at upto : ℕ) (o : Outcome (ℕ × Bytes)) (r : Number) : Type 0 where
   pub answer : o ≡ number-of f upto r
   pub place : within at upto r
-
--- The number that k digits and those that follow spell, of which the k spell n.
-unfoldable pub spelling : ℕ → ℕ → List ℕ × Bytes → Outcome (ℕ × Bytes)
-spelling k n r = need (leb 1 (k + length (r .0)) && leb (k + length (r .0)) most-digits) 3 >>= λ _. done (spelled 10 (r .0) n, r .1)
 
 -- The end of a range that begins at k: `-l`, or k itself where no hyphen follows.
 unfoldable pub range-end : ℕ → Bytes → Outcome (ℕ × Bytes)

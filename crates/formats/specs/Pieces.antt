@@ -21,6 +21,7 @@ abbrev pub bracket-of : Bracket → Outcome rules.Range
 bracket-of (bracket.Values first last) = done (range first last)
 bracket-of bracket.Bad = refused 3
 
+-- How large their numbers are.
 abbrev pub bracket-small : Bracket → Type 0
 bracket-small (bracket.Values first last) = (first < number-bound) × (last < number-bound)
 bracket-small bracket.Bad = Unit {0}
@@ -29,7 +30,7 @@ pub record Bracketed (o : Outcome rules.Range) (r : Bracket) : Type 0 where
   pub answer : o ≡ bracket-of r
   pub small : bracket-small r
 
--- A piece.
+-- A piece, as `rules` has it.
 abbrev pub piece-of : Bytes → Piece → Outcome rules.Piece
 piece-of f (piece.Element e) = done (rules.element (element-of f e))
 piece-of f (piece.Length n) = done (rules.length-piece n)
@@ -44,6 +45,7 @@ unfinished (code.Named n) = (n .sized ≡ false) × (n .lettered ≡ false)
 unfinished (code.Count c) = Unit {0}
 unfinished (code.Series first last) = Unit {0}
 
+-- How large the numbers of a piece are.
 abbrev pub piece-sound : Bytes → Piece → Type 0
 piece-sound f (piece.Element e) = sound f e × unfinished e
 piece-sound f (piece.Length n) = n ≤ greatest-length
@@ -59,6 +61,7 @@ pub record Pieced (f : Bytes) (o : Outcome rules.Piece) (r : Piece) : Type 0 whe
 abbrev pub as-piece : Outcome rules.Element → Outcome rules.Piece
 as-piece o = o >>= λ e. done (rules.element e)
 
+-- "text of 1 to 255 bytes but 7D"
 abbrev pub no-apostrophe : Bytes → Bool
 no-apostrophe bs = all (λ b. not (eqb b apostrophe)) bs
 

@@ -34,12 +34,13 @@ by-step f (More e next) = before (element-of f e) (parsed (drop next f))
 by-step f (Last e) = done (element-of f e ∷ [])
 by-step f Bad = refused 3
 
+-- A next step is at a later place, and the numbers of the element are as large as they may be.
 abbrev pub step-place : Bytes → ℕ → Step → Type 0
 step-place f at (More e next) = (at < next) × (next ≤ length f) × sound f e
 step-place f at (Last e) = sound f e
 step-place f at Bad = Unit {0}
 
--- The elements are as o says, and a next step is at a later place.
+-- A step was made: the elements from a place on, o, are those of the step.
 pub record Stepped (f : Bytes) (at : ℕ) (o : Outcome (List rules.Element)) (r : Step) : Type 0 where
   pub answer : o ≡ by-step f r
   pub place : step-place f at r

@@ -30,6 +30,7 @@ pub record Narrowed (at upto r : ℕ) (o bs : Bytes) : Type 0 where
 unfoldable pub pending : Bytes → Outcome Pending
 pending bs = texts false bs >>= assembled
 
+-- Nothing behind the period counts.
 abbrev pub none-pending : Pending
 none-pending = record { size = none; format = none; elements = [] }
 
@@ -37,6 +38,7 @@ none-pending = record { size = none; format = none; elements = [] }
 unfoldable pub rest : Bytes → ℕ → Outcome Pending
 rest f end = elim (eqb (getD f end 0) period) [ true ↦ done none-pending | false ↦ pending (drop (end + 1) f) ]
 
+-- Where a text ends, if it does.
 abbrev pub reached : Bytes → ℕ → ℕ → Piece → Type 0
 reached f at end (piece.Element e) = (at ≤ end) × (end < length f)
 reached f at end (piece.Length n) = (at ≤ end) × (end < length f)

@@ -1,4 +1,5 @@
 // The format buffer: its syntax, one element at a time. A format is any bytes at all.
+pub mod following;
 pub mod numbers;
 pub mod pieces;
 pub mod syntax;

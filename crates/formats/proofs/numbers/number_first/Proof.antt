@@ -4,7 +4,7 @@ use Prim.Native.Nat.{_-_}
 use native.Mathlib.Omega.{arith}
 use borrow.Author.Needs.{needs}
 use borrow.Author.Tests.{not-true, not-false}
-use Rattle.formats.proofs.Digits.{Read, read-first, read-room, read-turn, read-stop, read-many, read-end, read-value, read-nothing, read-none}
+use Rattle.formats.proofs.Digits.{Read, read-first, read-turn, read-stop, read-many, read-end, read-value, read-nothing, read-none}
 use Rattle.formats.proofs.numbers.number_first.Statement.{statement}
 use Rattle.formats.proofs.numbers.number_first.Tie as tie
 
@@ -69,22 +69,18 @@ returns-4 c =
     let w = c .before .before .before .before .before .loop .inv in
     let d = c .before .before .is-digit2 in
     record {
-      answer = read-many w (c .before .before .before .before .loop-test .taken) (sym (d .ensures) ∙ not-false (d .result) (c .before .if3 .left)) (c .if4 .taken);
+      answer = read-many w (c .before .before .before .before .loop-test .taken) (sym (d .ensures) ∙ not-false (d .result) (c .before .if3 .left)) (omega arith);
       place = tt;
     }
 
 mul-n : tie.Need-mul-n Inv-loop μ-loop
-mul-n c =
-    let s = read-room (c .before .before .before .before .before .loop .inv) (c .before .before .before .before .loop-test .taken) (c .if4 .left) in
-    omega arith
+mul-n c = omega (arith, read-value (c .before .before .before .before .before .loop .inv))
 
 digit-of-requires-2 : tie.Need-digit-of-requires-2 Inv-loop μ-loop
 digit-of-requires-2 c κs = sym (c .before .before .is-digit2 .ensures) ∙ not-false (c .before .before .is-digit2 .result) (c .before .if3 .left)
 
 add-n : tie.Need-add-n Inv-loop μ-loop
-add-n c =
-    let s = read-room (c .before .before .before .before .before .before .loop .inv) (c .before .before .before .before .before .loop-test .taken) (c .before .if4 .left) in
-    omega (arith, c .digit-of2 .ensures .1)
+add-n c = omega (arith, c .digit-of2 .ensures .1, read-value (c .before .before .before .before .before .before .loop .inv))
 
 add-i-2 : tie.Need-add-i-2 Inv-loop μ-loop
 add-i-2 c = search needs

@@ -10,12 +10,12 @@ use Rattle.formats.proofs.pieces.after_number.Tie as tie
 returns : tie.Need-returns
 returns c =
     let a = c .before .before .before .args in
-    pieced-bad (number-large (a .n) (a .f .now) (a .at) (a .upto) (c .before .if1 .taken) (c .if2 .taken))
+    pieced-bad (number-large (a .n) (a .f .now) (a .at) (a .upto) (c .before .if1 .taken) (omega arith))
 
 returns-2 : tie.Need-returns-2
 returns-2 c =
     let a = c .before .before .before .args in
-    record { answer = number-length (a .n) (a .f .now) (a .at) (a .upto) (c .before .if1 .taken) (c .if2 .left); sound = c .if2 .left }
+    record { answer = number-length (a .n) (a .f .now) (a .at) (a .upto) (c .before .if1 .taken) (omega arith); sound = omega arith }
 
 returns-3 : tie.Need-returns-3
 returns-3 c =

@@ -5,8 +5,8 @@ use Rattle.formats.specs.Syntax.{then-settled}
 use Rattle.formats.proofs.Answers.{small-format}
 use Rattle.formats.proofs.StepLaws.{looked-as, stepped-last, stepped-more, stepped-later, stepped-bad, name-last, name-length, name-format, name-element, name-bad, name-alone, name-given-format}
 use borrow.Author.Needs.{needs}
-use Rattle.formats.proofs.syntax.length_behind.Statement.{statement}
-use Rattle.formats.proofs.syntax.length_behind.Tie as tie
+use Rattle.formats.proofs.following.length_behind.Statement.{statement}
+use Rattle.formats.proofs.following.length_behind.Tie as tie
 
 shared-slice-read-if1 : tie.Need-shared-slice-read-if1
 shared-slice-read-if1 c = search needs

@@ -2,8 +2,8 @@
 use native.Mathlib.Omega.{arith}
 use Rattle.formats.proofs.StepLaws.{stepped-later, only-settled}
 use borrow.Author.Needs.{needs}
-use Rattle.formats.proofs.syntax.completed.Statement.{statement}
-use Rattle.formats.proofs.syntax.completed.Tie as tie
+use Rattle.formats.proofs.following.completed.Statement.{statement}
+use Rattle.formats.proofs.following.completed.Tie as tie
 
 enum-known-e : tie.Need-enum-known-e
 enum-known-e c = search needs

@@ -5,8 +5,8 @@ use Rattle.formats.specs.Syntax.{then-settled}
 use Rattle.formats.proofs.Answers.{small-length, small-format}
 use Rattle.formats.proofs.StepLaws.{looked-as, stepped-last, stepped-more, stepped-later, stepped-bad, format-last, format-format, format-element, format-length, format-bad, name-given-length, name-given-both}
 use borrow.Author.Needs.{needs}
-use Rattle.formats.proofs.syntax.format_behind.Statement.{statement}
-use Rattle.formats.proofs.syntax.format_behind.Tie as tie
+use Rattle.formats.proofs.following.format_behind.Statement.{statement}
+use Rattle.formats.proofs.following.format_behind.Tie as tie
 
 with-length-requires : tie.Need-with-length-requires
 with-length-requires c κs = search needs

@@ -3,8 +3,8 @@ use mathlib.Core.Path.{refl}
 use native.Mathlib.Omega.{arith}
 use Rattle.formats.proofs.StepLaws.{stepped-last, stepped-more, settled-last, settled-more}
 use borrow.Author.Needs.{needs}
-use Rattle.formats.proofs.syntax.settled.Statement.{statement}
-use Rattle.formats.proofs.syntax.settled.Tie as tie
+use Rattle.formats.proofs.following.settled.Statement.{statement}
+use Rattle.formats.proofs.following.settled.Tie as tie
 
 shared-slice-read-if1 : tie.Need-shared-slice-read-if1
 shared-slice-read-if1 c = search needs
