@@ -1,0 +1,7 @@
+pub mod Spreading
+pub mod Effects
+pub mod Fields
+pub mod Settling
+pub mod Finding
+pub mod Remembering
+pub mod Testing

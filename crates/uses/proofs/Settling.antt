@@ -1,0 +1,220 @@
+-- The use rules of fields, groups, counts and series, by the tests that the code makes. Assumes nothing.
+use mathlib.Core.Path.{_≡_, refl, sym, ap, _∙_}
+use mathlib.Core.Bool.{Bool, true, false}
+use mathlib.Core.List.{List, [], _∷_, map}
+use mathlib.Core.Option.{Option, none, some}
+use Prim.Native.Nat.{ℕ, suc, _+_, _-_, _<_, _≤_}
+use native.Mathlib.Numerals.{add-one}
+use native.Mathlib.Omega.{arith}
+use lib.ListN.{length, getD, take, drop}
+use lib.Seq.{drop-cons}
+use Rattle.rules.specs.Outcome.{Outcome, done, refused, is-done}
+use Rattle.rules.specs.Lists.{absent, all}
+use Rattle.rules.specs.Values.{allowed, converts}
+use Rattle.rules.specs.Table.{What, field, group, Field, Entry, fields-below}
+use Rattle.rules.specs.Format.{Range}
+use Rattle.rules.specs.Use as rules
+use Rattle.rules.specs.Use.{Found, Spread, Asked, spread, asked, plain, just, as-stored, in-order, fields-to, use-of-field, use-of-group, use-of-count, use-of-series, values, one, group-count, value-count}
+use Rattle.rules.proofs.Steps.{T-true}
+use Rattle.rules.proofs.Uses.{spread-in-order}
+use Rattle.tables.specs.Entries.{blank, is-group, is-multiple, is-periodic}
+use Rattle.tables.specs.Places.{inside-at, found-at}
+use Rattle.tables.specs.Groups.{field-at, fields-in, group-end}
+use Rattle.tables.proofs.Bools.{clash}
+use Rattle.formats.specs.declared.Named.{Named}
+use Rattle.uses.specs.Meant.{occurrences, bracket, length-given, letter-given, spread-of, asked-at, fields-from, Settles, field-use, group-use, series-use, field-span, stored-span}
+use Rattle.uses.specs.declared.Ranges.{Ranges}
+use Rattle.uses.specs.declared.Spreads.the-variants as spreads
+use Rattle.uses.specs.declared.Effect.the-variants as effect
+use Rattle.uses.specs.declared.Use.the-variants as code
+use Rattle.uses.specs.declared.Meant.the-variants as meant
+use Rattle.uses.proofs.Spreading.{one-ordered}
+use Rattle.uses.proofs.Effects.{asked-right}
+use Rattle.uses.proofs.Fields.{group-fields, group-upto, plain-none-multiple, series-none-multiple, series-five}
+
+pub refuse : (es : List Entry) (o : Outcome rules.Use) → o ≡ refused 5 → Settles es o (meant.Refused 5)
+refuse es o e = record { answer = λ f. sym e; held = λ f. omega arith }
+
+-- A field.
+module _ (f : Field) (inside : Bool) (last : ℕ) (os vs : Option Range) (l g : Option ℕ) where
+  pub field-done : (s : Spread) (a : Asked) → spread inside (f .multiple) last os vs ≡ done s → asked f l g ≡ done a
+      → use-of-field f inside last os vs l g ≡ done (values (a ∷ []) (s .occurrences) (s .values) (s .bare))
+  unfolding use-of-field
+  field-done s a p q = rw (p, q)
+
+  pub field-astray : spread inside (f .multiple) last os vs ≡ refused 5 → use-of-field f inside last os vs l g ≡ refused 5
+  unfolding use-of-field
+  field-astray p = rw p
+
+  pub field-unfit : (s : Spread) → spread inside (f .multiple) last os vs ≡ done s → asked f l g ≡ refused 5
+      → use-of-field f inside last os vs l g ≡ refused 5
+  unfolding use-of-field
+  field-unfit s p q = rw (p, q)
+
+-- A group.
+module _ (x : Found) (os vs : Option Range) where
+  pub group-sized : (n : ℕ) (g : Option ℕ) → use-of-group x os vs (some n) g ≡ refused 5
+  unfolding use-of-group absent
+  group-sized n g = refl
+
+  pub group-lettered : (b : ℕ) → use-of-group x os vs none (some b) ≡ refused 5
+  unfolding use-of-group absent
+  group-lettered b = refl
+
+  pub group-unnamed : all plain (fields-below (x .entry .level) (x .behind)) ≡ false → use-of-group x os vs none none ≡ refused 5
+  unfolding use-of-group absent
+  group-unnamed e = rw e
+
+  module _ (e : all plain (fields-below (x .entry .level) (x .behind)) ≡ true) where
+    pub group-astray : spread (x .inside) false 0 os vs ≡ refused 5 → use-of-group x os vs none none ≡ refused 5
+    unfolding use-of-group absent
+    group-astray p = rw (e, p)
+
+    pub group-done : (s : Spread) → spread (x .inside) false 0 os vs ≡ done s
+        → use-of-group x os vs none none ≡ done (values (map as-stored (fields-below (x .entry .level) (x .behind))) (s .occurrences) (s .values) (s .bare))
+    unfolding use-of-group absent
+    group-done s p = rw (e, p)
+
+-- A count.
+module _ (n : ℕ) where
+  pub count-group : (w : What) (b : Bool) → is-periodic w ≡ true → use-of-count n w b none ≡ done (one (group-count n))
+  unfolding use-of-count absent
+  count-group (field f s m) b e = clash (sym e)
+  count-group (group p) b e = rw e
+
+  pub count-group-indexed : (w : What) (b : Bool) (i : ℕ) → is-periodic w ≡ true → use-of-count n w b (some i) ≡ refused 5
+  unfolding use-of-count absent
+  count-group-indexed (field f s m) b i e = clash (sym e)
+  count-group-indexed (group p) b i e = rw e
+
+  pub count-neither : (w : What) (b : Bool) (i : Option ℕ) → is-multiple w ≡ false → is-periodic w ≡ false → use-of-count n w b i ≡ refused 5
+  unfolding use-of-count
+  count-neither (field f s m) b none e p = rw e
+  count-neither (field f s m) b (some i) e p = rw e
+  count-neither (group p) b i e q = rw q
+
+  -- of an MU field
+  pub count-outside : (w : What) → is-multiple w ≡ true → use-of-count n w false none ≡ done (one (value-count n 1))
+  unfolding use-of-count
+  count-outside (field f s m) e = rw e
+  count-outside (group p) e = clash (sym e)
+
+  pub count-outside-indexed : (w : What) (i : ℕ) → is-multiple w ≡ true → use-of-count n w false (some i) ≡ refused 5
+  unfolding use-of-count
+  count-outside-indexed (field f s m) i e = rw e
+  count-outside-indexed (group p) i e = clash (sym e)
+
+  pub count-inside-bare : (w : What) → is-multiple w ≡ true → use-of-count n w true none ≡ refused 5
+  unfolding use-of-count
+  count-inside-bare (field f s m) e = rw e
+  count-inside-bare (group p) e = clash (sym e)
+
+  pub count-inside : (w : What) (i : ℕ) → is-multiple w ≡ true → in-order (just i) ≡ true
+      → use-of-count n w true (some i) ≡ done (one (value-count n i))
+  unfolding use-of-count
+  count-inside (field f s m) i e o = rw (e, o)
+  count-inside (group p) i e o = clash (sym e)
+
+  pub count-inside-broken : (w : What) (i : ℕ) → is-multiple w ≡ true → in-order (just i) ≡ false → use-of-count n w true (some i) ≡ refused 5
+  unfolding use-of-count
+  count-inside-broken (field f s m) i e o = rw (e, o)
+  count-inside-broken (group p) i e o = clash (sym e)
+
+-- A series.
+first-group : {A : Type 0} (w : What) (o : Outcome A) → is-group w ≡ true
+    → _≡_ {A = Outcome A} (elim w [ group p ↦ refused 5 | field f s mu ↦ o ]) (refused 5)
+first-group (field f s m) o e = clash (sym e)
+first-group (group p) o e = refl
+
+first-field : {A : Type 0} (w : What) (o : Outcome A) → is-group w ≡ false
+    → _≡_ {A = Outcome A} (elim w [ group p ↦ refused 5 | field f s mu ↦ o ]) o
+first-field (field f s m) o e = refl
+first-field (group p) o e = clash e
+
+module _ (x : Found) (n : ℕ) where
+  pub series-group : is-group (x .entry .what) ≡ true → use-of-series x n ≡ refused 5
+  unfolding use-of-series
+  series-group e = first-group (x .entry .what) _ e
+
+  module _ (e : is-group (x .entry .what) ≡ false) where
+    pub series-inside : x .inside ≡ true → use-of-series x n ≡ refused 5
+    unfolding use-of-series
+    series-inside i = first-field (x .entry .what) _ e ∙ rw i
+
+    module _ (i : x .inside ≡ false) where
+      pub series-broken : fields-to n (x .entry ∷ x .behind) ≡ refused 5 → use-of-series x n ≡ refused 5
+      unfolding use-of-series
+      series-broken p = first-field (x .entry .what) _ e ∙ rw (i, p)
+
+      pub series-done : (fs : List Field) → fields-to n (x .entry ∷ x .behind) ≡ done fs
+          → use-of-series x n ≡ done (values (map as-stored fs) (just 1) (just 1) false)
+      unfolding use-of-series
+      series-done fs p = first-field (x .entry .what) _ e ∙ rw (i, p)
+
+-- The span of a field.
+module _ (es : List Entry) (i last : ℕ) (n : Named) (h : i < length es) (g : is-group (getD es i blank .what) ≡ false) where
+  pub field-as : (r : Ranges) (k m : ℕ)
+      → spread-of (spreads.Over r) ≡ spread (inside-at es i) (field-at es i .multiple) last (occurrences n) (bracket n)
+      → asked-at (field-at es i) (effect.At k m) ≡ asked (field-at es i) (length-given n) (letter-given n)
+      → k < 5 → Settles es (field-use es i last n) (meant.As (code.Values (field-span i r k m)))
+  field-as r k m p q b =
+      let o = spread-in-order (inside-at es i) (field-at es i .multiple) last (occurrences n) (bracket n) _ (sym p) in
+      let a = asked-right (field-at es i) (length-given n) (letter-given n) _ (sym q) in
+      record {
+        answer = λ f. sym (field-done (field-at es i) (inside-at es i) last (occurrences n) (bracket n) (length-given n) (letter-given n) _ _ (sym p) (sym q));
+        held = λ f. record {
+          ordered = omega arith;
+          upto = omega arith;
+          occurrences = T-true _ (o .0);
+          values = T-true _ (o .1);
+          single = λ e. clash (sym e);
+          alone = λ e. record { next = refl; field = g; format = b; allowed = a .0; converts = a .1 };
+        };
+      }
+
+-- The span of a group.
+module _ (es : List Entry) (i : ℕ) (n : Named) (h : i < length es) (z : n .sized ≡ false) (l : n .lettered ≡ false)
+    (a : all plain (fields-below (getD es i blank .level) (drop (suc i) es)) ≡ true) where
+  pub group-as : (r : Ranges) → spread-of (spreads.Over r) ≡ spread (inside-at es i) false 0 (occurrences n) (bracket n)
+      → Settles es (group-use es i n) (meant.As (code.Values (stored-span (i + 1) (group-end es i) r)))
+  unfolding found-at
+  group-as r p =
+      let o = spread-in-order (inside-at es i) false 0 (occurrences n) (bracket n) _ (sym p) in
+      let fs = group-fields es i h in
+      record {
+        answer = λ f. rw (z, l, ← fs) (sym (group-done (found-at es i) (occurrences n) (bracket n) a _ (sym p)));
+        held = λ f. record {
+          ordered = group-upto es i h .0;
+          upto = group-upto es i h .1;
+          occurrences = T-true _ (o .0);
+          values = T-true _ (o .1);
+          single = λ e. rw (← fs) (plain-none-multiple _ a);
+          alone = λ e. clash e;
+        };
+      }
+
+-- The span of a series.
+module _ (es : List Entry) (i j : ℕ) (h : i < length es) (k : j < length es) (g : is-group (getD es i blank .what) ≡ false) (o : inside-at es i ≡ false) where
+  opened : drop i es ≡ getD es i blank ∷ drop (suc i) es
+  opened = drop-cons es i blank h
+
+  pub series-as : (r : Ranges) → r ≡ record { from = 1; upto = 1; «value_from» = 1; «value_upto» = 1; bare = false } → i ≤ j
+      → fields-to (getD es j blank .name) (drop i es) ≡ done (fields-in (take (suc j - i) (drop i es)))
+      → Settles es (series-use es i j) (meant.As (code.Values (stored-span i (j + 1) r)))
+  unfolding found-at fields-from
+  series-as r q u d =
+      rw (q, add-one j) (record {
+        answer = λ f. sym (series-done (found-at es i) _ g o _ (ap (fields-to (getD es j blank .name)) (sym opened) ∙ d));
+        held = λ f. record {
+          ordered = omega arith;
+          upto = omega arith;
+          occurrences = one-ordered;
+          values = one-ordered;
+          single = λ e. series-none-multiple _ _ _ d;
+          alone = λ e. clash e;
+        };
+      })
+
+  pub series-fails : is-done (fields-to (getD es j blank .name) (drop i es)) ≡ false → series-use es i j ≡ refused 5
+  unfolding found-at
+  series-fails d = series-broken (found-at es i) _ g o (series-five _ _ (rw opened at d))

@@ -1,0 +1,123 @@
+-- The use rules over the elements of a format, one at a time: the elements that are left are refused as the whole is. Assumes nothing.
+use mathlib.Core.Path.{_≡_, refl, sym, subst, _∙_}
+use mathlib.Core.Bool.{true}
+use mathlib.Core.List.{List, [], _∷_}
+use Prim.Native.Nat.{ℕ, zero, suc, _<_}
+use lib.Dec.{leb}
+use lib.ListN.{length, getD, drop, replicate}
+use Rattle.rules.specs.Outcome.{Outcome, done, refused, _>>=_, is-done}
+use Rattle.rules.specs.Limits.{longest-format}
+use Rattle.rules.specs.Lists.{Bytes, look-up}
+use Rattle.rules.specs.Table.{Entry}
+use Rattle.rules.specs.Format as rules
+use Rattle.rules.specs.Format.{elements}
+use Rattle.rules.specs.Use as rules-use
+use Rattle.rules.specs.Use.{Indexes, last-index, indexes-after, use-of, uses}
+use Rattle.rules.proofs.Steps.{from-bind, from-need, done-inj, not-done}
+use Rattle.tables.proofs.Bools.{clash}
+use Rattle.formats.specs.Elements.{element-of, sound}
+use Rattle.formats.specs.Syntax.{parsed, by-step}
+use Rattle.formats.specs.declared.Element.{Element}
+use Rattle.formats.specs.declared.syntax.Step.the-variants.{More, Last, Bad}
+use Rattle.uses.specs.Meant.{use-meant, Means, Remembers, Remembered, Tested, number-of, uses-of, Use-held, Span-known}
+use Rattle.uses.specs.declared.Use.{Use}
+use Rattle.uses.specs.declared.Use.the-variants as code
+use Rattle.uses.specs.declared.Meant.{Meant}
+use Rattle.uses.specs.declared.Meant.the-variants as meant
+
+tested-then : {A B : Type 0} (o : Outcome A) (g : A → B) (r : ℕ) → Tested o r → Tested (o >>= λ a. done (g a)) r
+tested-then (done a) g r t = t
+tested-then (refused n) g r t = t
+
+module _ (es : List Entry) (ls : Indexes) (x : rules.Element) (xs : List rules.Element) where
+  first-refused : (n : ℕ) → use-of es ls x ≡ refused n → 0 < n → Tested (uses es ls (x ∷ xs)) n
+  unfolding uses
+  first-refused n e h = rw e (refl, h)
+
+  first-done : (u : rules-use.Use) → use-of es ls x ≡ done u → (r : ℕ) → Tested (uses es (indexes-after u ls) xs) r → Tested (uses es ls (x ∷ xs)) r
+  unfolding uses
+  first-done u e r t = rw e (tested-then (uses es (indexes-after u ls) xs) _ r t)
+
+no-more : (es : List Entry) (ls : Indexes) → Tested (uses es ls []) 0
+unfolding uses
+no-more es ls = refl
+
+-- The elements from a place on, and the indexes before it.
+pub record Testing (es : List Entry) (f : Bytes) (last : List ℕ) (at : ℕ) : Type 0 where
+  pub indexes : Indexes
+  pub left : List rules.Element
+  pub parsed : parsed (drop at f) ≡ done left
+  pub remembers : Remembers es last indexes
+  pub rest : (r : ℕ) → Tested (uses es indexes left) r → Tested (uses-of es f) r
+
+from-is-done : {A C : Type 0} (o : Outcome A) → is-done o ≡ true → ((a : A) → o ≡ done a → C) → C
+from-is-done (done a) e k = k a refl
+from-is-done (refused n) e k = clash (sym e)
+
+no-index : (n : ℕ) → last-index n [] ≡ 0
+unfolding last-index look-up
+no-index n = refl
+
+zeros : (k i : ℕ) → _≡_ {A = ℕ} (getD (replicate k 0) i 0) 0
+zeros zero zero = refl
+zeros zero (suc i) = refl
+zeros (suc k) zero = refl
+zeros (suc k) (suc i) = zeros k i
+
+uses-all : (es : List Entry) (f : Bytes) (xs : List rules.Element) → elements f ≡ done xs → uses-of es f ≡ uses es [] xs
+unfolding uses-of
+uses-all es f xs e = rw e
+
+parsed-all : (f : Bytes) (xs : List rules.Element) → elements f ≡ done xs → parsed f ≡ done xs
+unfolding elements parsed
+parsed-all f xs e = from-need (leb (length f) longest-format) 3 _ e λ t k. k
+
+module _ (es : List Entry) (f : Bytes) where
+  pub testing-start : is-done (elements f) ≡ true → Testing es f (replicate 64 0) 0
+  testing-start d = from-is-done (elements f) d λ xs e. record {
+    indexes = [];
+    left = xs;
+    parsed = parsed-all f xs e;
+    remembers = λ i h. zeros 64 i ∙ sym (no-index (getD es i _ .name));
+    rest = λ r t. rw (uses-all es f xs e) t;
+  }
+
+  module _ {last : List ℕ} {at : ℕ} (w : Testing es f last at) where
+    pub testing-bad : parsed (drop at f) ≡ by-step f Bad → ⊥
+    testing-bad p = not-done (sym p ∙ w .parsed)
+
+    -- The last element.
+    pub testing-last : (e : Element) (m : Meant) → Means es last e m → sound f e → parsed (drop at f) ≡ by-step f (Last e)
+        → Tested (uses-of es f) (number-of m)
+    testing-last e (meant.As u) k z p =
+        w .rest 0 (subst (λ xs. Tested (uses es (w .indexes) xs) 0) (done-inj (sym p ∙ w .parsed))
+        (first-done es (w .indexes) (element-of f e) [] (use-meant es f u) (sym (k .answer f (w .indexes) (w .remembers))) 0 (no-more es _)))
+    testing-last e (meant.Refused n) k z p =
+        w .rest n (subst (λ xs. Tested (uses es (w .indexes) xs) n) (done-inj (sym p ∙ w .parsed))
+        (first-refused es (w .indexes) (element-of f e) [] n (sym (k .answer f (w .indexes) (w .remembers))) (k .held f z)))
+
+    -- An element before others.
+    module _ (e : Element) (next : ℕ) (p : parsed (drop at f) ≡ by-step f (More e next)) where
+      pub testing-refused : (n : ℕ) → Means es last e (meant.Refused n) → sound f e → Tested (uses-of es f) n
+      testing-refused n k z =
+          from-bind (parsed (drop next f)) _ (sym p ∙ w .parsed) λ ys g q.
+          w .rest n (subst (λ xs. Tested (uses es (w .indexes) xs) n) (done-inj q)
+          (first-refused es (w .indexes) (element-of f e) ys n (sym (k .answer f (w .indexes) (w .remembers))) (k .held f z)))
+
+      pub testing-more : (u : Use) → Means es last e (meant.As u) → {after : List ℕ} → Remembered es u last after → Testing es f after next
+      testing-more u k r =
+          from-bind (parsed (drop next f)) _ (sym p ∙ w .parsed) λ ys g q. record {
+            indexes = indexes-after (use-meant es f u) (w .indexes);
+            left = ys;
+            parsed = g;
+            remembers = r .indexes f (w .indexes) (w .remembers);
+            rest = λ n t. w .rest n (subst (λ xs. Tested (uses es (w .indexes) xs) n) (done-inj q)
+                (first-done es (w .indexes) (element-of f e) ys (use-meant es f u) (sym (k .answer f (w .indexes) (w .remembers))) n t));
+          }
+
+pub span-known : (es : List Entry) (f : Bytes) (u : Use) → Use-held es f u → Span-known es u
+span-known es f (code.Blanks n) h = tt
+span-known es f (code.Text from upto) h = tt
+span-known es f (code.GroupCount i) h = tt
+span-known es f (code.ValueCount i k) h = tt
+span-known es f (code.Values s) h = h

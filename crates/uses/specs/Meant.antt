@@ -1,0 +1,235 @@
+-- What the code's uses mean in the words of `rules`.
+use mathlib.Core.Path.{_≡_}
+use mathlib.Core.Bool.{Bool, true, false, cond, _&&_}
+use mathlib.Core.List.{List, [], _∷_, map}
+use mathlib.Core.Option.{Option, some, none}
+use Prim.Native.Nat.{ℕ, _-_, _+_, _<_, _≤_}
+use lib.Dec.{ltb}
+use lib.ListN.{length, take, drop, getD}
+use Rattle.rules.specs.Outcome.{Outcome, done, refused, _>>=_, need}
+use Rattle.rules.specs.Limits.{highest-index, longest-text}
+use Rattle.rules.specs.Lists.{Bytes, filter}
+use Rattle.rules.specs.Values.{Format, allowed, converts}
+use Rattle.rules.specs.Table.{Field, Entry, group}
+use Rattle.rules.specs.Format.{Range, elements}
+use Rattle.rules.specs.Use as rules
+use Rattle.rules.specs.Use.{Asked, Spread, as-stored, in-order, spread, Indexes, last-index, format-in-effect, length-in-effect, asked, use-of}
+use Rattle.kinds.specs.Formats.{format-at}
+use Rattle.tables.specs.Entries.{blank, is-group, is-multiple}
+use Rattle.tables.specs.Places.{inside-at, found-at}
+use Rattle.tables.specs.Groups.{field-at, fields-in}
+use Rattle.formats.specs.Part.{part}
+use Rattle.formats.specs.Elements.{optional, range, element-of, sound}
+use Rattle.formats.specs.declared.Named.{Named}
+use Rattle.formats.specs.declared.Count.{Count}
+use Rattle.formats.specs.declared.Element.{Element}
+use Rattle.formats.specs.declared.Element.the-variants as element
+use Rattle.uses.specs.declared.Span.{Span}
+use Rattle.uses.specs.declared.Use.{Use}
+use Rattle.uses.specs.declared.Use.the-variants as code
+use Rattle.uses.specs.declared.Meant.{Meant}
+use Rattle.uses.specs.declared.Meant.the-variants as meant
+use Rattle.uses.specs.declared.Ranges.{Ranges}
+use Rattle.uses.specs.declared.Spreads.{Spreads}
+use Rattle.uses.specs.declared.Spreads.the-variants as spreads
+use Rattle.uses.specs.declared.Effect.{Effect}
+use Rattle.uses.specs.declared.Effect.the-variants as effect
+
+-- What may stand behind a name.
+abbrev pub occurrences : Named → Option Range
+occurrences n = optional (n .indexed) (range (n .from) (n .upto))
+
+abbrev pub bracket : Named → Option Range
+bracket n = optional (n .bracketed) (range (n .first) (n .last))
+
+abbrev pub length-given : Named → Option ℕ
+length-given n = optional (n .sized) (n .length)
+
+abbrev pub letter-given : Named → Option ℕ
+letter-given n = optional (n .lettered) (n .letter)
+
+-- The occurrences and the values that an element means.
+abbrev pub spread-of : Spreads → Outcome Spread
+spread-of (spreads.Over r) = done (record { occurrences = range (r .from) (r .upto); values = range (r .«value_from») (r .«value_upto»); bare = r .bare })
+spread-of spreads.Broken = refused 5
+
+-- In a periodic group, whatever the last index of a field is.
+abbrev pub Spread-inside : Bool → Named → Spreads → Type 0
+Spread-inside mu n r = (last : ℕ) → spread-of r ≡ spread true mu last (occurrences n) (bracket n)
+
+-- Some occurrences and values, where both ranges are in order.
+unfoldable pub ranged : Range → Range → Bool → Outcome Spread
+ranged os vs bare = do
+  _ ← need (in-order os && in-order vs) 5
+  done (record { occurrences = os; values = vs; bare = bare })
+
+-- A format by the code's number; none from 5 on.
+unfoldable pub numbered : ℕ → Option Format
+numbered k = cond (ltb k 5) (some (format-at k)) none
+
+-- The format in effect has the number k, for any field of a format.
+abbrev pub Format-in-effect : ℕ → Named → ℕ → Type 0
+Format-in-effect g x k = (f : Field) → f .format ≡ format-at g → format-in-effect f (letter-given x) ≡ numbered k
+
+abbrev pub Length-in-effect : ℕ → Named → ℕ → Type 0
+Length-in-effect s x k = (f : Field) → f .size ≡ s → length-in-effect f (length-given x) ≡ k
+
+-- A field at the format and the length in effect.
+abbrev pub asked-at : Field → Effect → Outcome Asked
+asked-at f (effect.At g n) = done (record { field = f; format = format-at g; size = n })
+asked-at f effect.Broken = refused 5
+
+abbrev pub known-format : Effect → Type 0
+known-format (effect.At g n) = g < 5
+known-format effect.Broken = Unit {0}
+
+-- The same, of any field of a format and a standard length.
+pub record Asks (g n : ℕ) (x : Named) (r : Effect) : Type 0 where
+  pub answer : (f : Field) → f .format ≡ format-at g → f .size ≡ n → asked-at f r ≡ asked f (length-given x) (letter-given x)
+  pub known : known-format r
+
+-- The fields among the entries from one number up to another.
+unfoldable pub fields-from : List Entry → ℕ → ℕ → List Field
+fields-from es first end = fields-in (take (end - first) (drop first es))
+
+-- The fields of a span, each as it is stored; or one, at the format and the length in effect.
+abbrev pub asked-by : List Entry → Bool → Span → List Asked
+asked-by es true s = map as-stored (fields-from es (s .first) (s .end))
+asked-by es false s = record { field = field-at es (s .first); format = format-at (s .format); size = s .size } ∷ []
+
+abbrev pub asked-of : List Entry → Span → List Asked
+asked-of es s = asked-by es (s .standard) s
+
+-- The use that the code's use stands for, by the entries and the format.
+abbrev pub use-meant : List Entry → Bytes → Use → rules.Use
+use-meant es f (code.Blanks n) = rules.one (rules.blanks-item n)
+use-meant es f (code.Text from upto) = rules.one (rules.text-item (part f from upto))
+use-meant es f (code.GroupCount i) = rules.one (rules.group-count (getD es i blank .name))
+use-meant es f (code.ValueCount i k) = rules.one (rules.value-count (getD es i blank .name) k)
+use-meant es f (code.Values s) =
+    rules.values (asked-of es s) (range (s .from) (s .upto)) (range (s .«value_from») (s .«value_upto»)) (s .bare)
+
+abbrev pub outcome-of : List Entry → Bytes → Meant → Outcome rules.Use
+outcome-of es f (meant.As u) = done (use-meant es f u)
+outcome-of es f (meant.Refused n) = refused n
+
+-- A span of one field, at a length and a format that are right for it.
+pub record One-field (es : List Entry) (s : Span) : Type 0 where
+  pub next : s .end ≡ s .first + 1
+  pub field : is-group (getD es (s .first) blank .what) ≡ false
+  pub format : s .format < 5
+  pub allowed : allowed (format-at (s .format)) (s .size) ≡ true
+  pub converts : converts (field-at es (s .first) .format) (format-at (s .format)) ≡ true
+
+-- What is known of a span, beside what it means: its entries and indexes lie in their bounds, and fields at their standard are not MU.
+pub record Span-held (es : List Entry) (s : Span) : Type 0 where
+  pub ordered : s .first ≤ s .end
+  pub upto : s .end ≤ length es
+  pub occurrences : in-order (range (s .from) (s .upto)) ≡ true
+  pub values : in-order (range (s .«value_from») (s .«value_upto»)) ≡ true
+  pub single : s .standard ≡ true → filter (λ a. a .field .multiple) (map as-stored (fields-from es (s .first) (s .end))) ≡ []
+  pub alone : s .standard ≡ false → One-field es s
+
+abbrev pub Use-held : List Entry → Bytes → Use → Type 0
+Use-held es f (code.Blanks n) = n < 256
+Use-held es f (code.Text from upto) = (from < upto) × (upto ≤ length f) × (upto ≤ from + longest-text)
+Use-held es f (code.GroupCount i) = (i < length es) × (getD es i blank .what ≡ group true)
+Use-held es f (code.ValueCount i k) = (i < length es) × (is-multiple (getD es i blank .what) ≡ true) × (1 ≤ k) × (k ≤ highest-index)
+Use-held es f (code.Values s) = Span-held es s
+
+abbrev pub Held : List Entry → Bytes → Meant → Type 0
+Held es f (meant.As u) = Use-held es f u
+Held es f (meant.Refused n) = 0 < n
+
+-- The rules' outcome is met, where no byte of the format matters.
+pub record Settles (es : List Entry) (o : Outcome rules.Use) (r : Meant) : Type 0 where
+  pub answer : (f : Bytes) → outcome-of es f r ≡ o
+  pub held : (f : Bytes) → Held es f r
+
+-- The rules for a name, a count and a series, by the entries that are named.
+abbrev pub field-use : List Entry → ℕ → ℕ → Named → Outcome rules.Use
+field-use es i last n =
+    rules.use-of-field (field-at es i) (inside-at es i) last (occurrences n) (bracket n) (length-given n) (letter-given n)
+
+abbrev pub group-use : List Entry → ℕ → Named → Outcome rules.Use
+group-use es i n = rules.use-of-group (found-at es i) (occurrences n) (bracket n) (length-given n) (letter-given n)
+
+abbrev pub count-use : List Entry → ℕ → Count → Outcome rules.Use
+count-use es i c = rules.use-of-count (getD es i blank .name) (getD es i blank .what) (inside-at es i) (optional (c .indexed) (c .index))
+
+abbrev pub series-use : List Entry → ℕ → ℕ → Outcome rules.Use
+series-use es i j = rules.use-of-series (found-at es i) (getD es j blank .name)
+
+-- Fields at their own formats and lengths; one at the format and the length in effect.
+abbrev pub stored-span : ℕ → ℕ → Ranges → Span
+stored-span first end r = record {
+  first = first;
+  end = end;
+  from = r .from;
+  upto = r .upto;
+  «value_from» = r .«value_from»;
+  «value_upto» = r .«value_upto»;
+  standard = true;
+  format = 0;
+  size = 0;
+  bare = r .bare;
+}
+
+abbrev pub field-span : ℕ → Ranges → ℕ → ℕ → Span
+field-span i r format size = record {
+  first = i;
+  end = i + 1;
+  from = r .from;
+  upto = r .upto;
+  «value_from» = r .«value_from»;
+  «value_upto» = r .«value_upto»;
+  standard = false;
+  format = format;
+  size = size;
+  bare = r .bare;
+}
+
+-- The last index so far of each entry.
+abbrev pub Remembers : List Entry → List ℕ → Indexes → Type 0
+Remembers es last ls = (i : ℕ) → i < length es → getD last i 0 ≡ last-index (getD es i blank .name) ls
+
+-- What an element means, behind the indexes so far.
+pub record Means (es : List Entry) (last : List ℕ) (e : Element) (r : Meant) : Type 0 where
+  pub answer : (f : Bytes) (ls : Indexes) → Remembers es last ls → outcome-of es f r ≡ use-of es ls (element-of f e)
+  pub held : (f : Bytes) → sound f e → Held es f r
+
+abbrev pub Name-means : List Entry → List ℕ → Named → Meant → Type 0
+Name-means es last n r = Means es last (element.Named n) r
+
+-- A count and a series do not depend on the indexes so far.
+abbrev pub Count-means : List Entry → Count → Meant → Type 0
+Count-means es c r = (last : List ℕ) → Means es last (element.Count c) r
+
+abbrev pub Series-means : List Entry → ℕ → ℕ → Meant → Type 0
+Series-means es n m r = (last : List ℕ) → Means es last (element.Series n m) r
+
+-- A use's span is as it is known.
+abbrev pub Span-known : List Entry → Use → Type 0
+Span-known es (code.Blanks n) = Unit {0}
+Span-known es (code.Text from upto) = Unit {0}
+Span-known es (code.GroupCount i) = Unit {0}
+Span-known es (code.ValueCount i k) = Unit {0}
+Span-known es (code.Values s) = Span-held es s
+
+-- The indexes behind a use.
+pub record Remembered (es : List Entry) (u : Use) (before after : List ℕ) : Type 0 where
+  pub same : length after ≡ length before
+  pub indexes : (f : Bytes) (ls : Indexes) → Remembers es before ls → Remembers es after (rules.indexes-after (use-meant es f u) ls)
+
+-- The number of an outcome: 0 where it was done.
+abbrev pub Tested : {A : Type 0} → Outcome A → ℕ → Type 0
+Tested (done a) r = r ≡ 0
+Tested (refused n) r = (r ≡ n) × (0 < n)
+
+abbrev pub number-of : Meant → ℕ
+number-of (meant.As u) = 0
+number-of (meant.Refused n) = n
+
+-- What the use rules say of a format.
+unfoldable pub uses-of : List Entry → Bytes → Outcome (List rules.Use)
+uses-of es f = elements f >>= rules.uses es []
