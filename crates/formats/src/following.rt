@@ -2,10 +2,10 @@
 // `end` is the place of the comma or period behind the element.
 use super::Element;
 use super::Named;
-use characters::PERIOD;
 use super::pieces::Piece;
 use super::syntax::Step;
 use super::texts::text_at;
+use characters::PERIOD;
 ghost use mathlib.Core.Path.{_≡_};
 ghost use mathlib.Core.Bool.{false};
 ghost use Prim.Native.Nat.{_≤_, _<_};

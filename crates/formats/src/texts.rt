@@ -1,10 +1,10 @@
 // The texts of a format, parted by commas and ended by a period, and the piece that each is without the spaces around it.
+use super::pieces::Piece;
+use super::pieces::piece_at;
 use characters::APOSTROPHE;
 use characters::COMMA;
 use characters::PERIOD;
 use characters::SPACE;
-use super::pieces::Piece;
-use super::pieces::piece_at;
 ghost use mathlib.Core.Path.{_≡_};
 ghost use mathlib.Core.Bool.{false};
 ghost use Prim.Native.Nat.{_+_, _≤_};

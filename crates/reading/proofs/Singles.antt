@@ -1,13 +1,16 @@
 -- One item in its room: beyond the end it is refused and nothing changes; within it, it ends behind its bytes, written where that is asked.
-use mathlib.Core.Path.{_≡_, refl, sym, _∙_, ap}
+use mathlib.Core.Path.{_≡_, refl, sym, _∙_, ap, subst}
 use mathlib.Core.Bool.{Bool, true, false}
 use mathlib.Core.List.{List, [], _∷_}
 use Prim.Native.Nat.{ℕ, _+_, _≤_, _<_}
+use native.Mathlib.Omega.{arith}
 use borrow.Author.Tests.{le-leb, lt-leb}
 use lib.Dec.{leb}
 use lib.ListN.{length, set}
 use Rattle.rules.specs.Outcome.{Outcome, done, refused}
 use Rattle.rules.specs.Lists.{Bytes, bytes-of}
+use Rattle.rules.proofs.Steps.{by-outcome, done-inj, not-done}
+use Rattle.values.specs.Fits.{size-of}
 use Rattle.buffer.specs.Splice.{splice}
 use Rattle.buffer.proofs.Laws.{splice-nil}
 use Rattle.reading.specs.Filling.{placed, left-as, within, Filling}
@@ -36,3 +39,33 @@ module _ (room at : ℕ) (bs out : Bytes) (write : Bool) where
   pub item-written : (n : ℕ) {out′ : Bytes} → write ≡ true → length bs ≤ room → n ≡ at + length bs → out′ ≡ splice at bs out → Filling (within room (done bs)) at write out out′ (At n)
   unfolding bytes-of
   item-written n w h e q = rw (within-fits room bs h, e, w) (record { answer = refl; bytes = q })
+
+-- The same of an outcome, by what a test of it said: its refusal, or how long its bytes are.
+module _ (o : Outcome Bytes) where
+  pub fit-refused : (k : ℕ) → _≡_ {A = Outcome ℕ} (refused k) (size-of o) → o ≡ refused k
+  fit-refused k e = by-outcome o (λ b h. absurd (not-done (e ∙ ap size-of h))) (λ n h. h ∙ ap refused (let q : refused k ≡ refused n = e ∙ ap size-of h in cc))
+
+  pub fit-bytes : (n : ℕ) → _≡_ {A = Outcome ℕ} (done n) (size-of o) → (o ≡ done (bytes-of o)) × (n ≡ length (bytes-of o))
+  unfolding bytes-of
+  fit-bytes n e = by-outcome o
+      (λ b h. (h ∙ ap done (ap bytes-of (sym h)), done-inj (e ∙ ap size-of h) ∙ ap length (ap bytes-of (sym h))))
+      (λ k h. absurd (not-done (sym (e ∙ ap size-of h))))
+
+  module _ (room at : ℕ) (out : Bytes) (write : Bool) where
+    pub value-refused : (k : ℕ) → o ≡ refused k → Filling (within room o) at write out out (Refused k)
+    unfolding within bytes-of
+    value-refused k e = rw e (record { answer = refl; bytes = unchanged write })
+      where
+        unchanged : (w : Bool) → out ≡ left-as w at (refused k) out
+        unchanged true = sym (splice-nil at out)
+        unchanged false = refl
+
+    module _ (n : ℕ) (e : (o ≡ done (bytes-of o)) × (n ≡ length (bytes-of o))) where
+      pub value-beyond : room < n → Filling (within room o) at write out out (Refused 7)
+      value-beyond h = subst (λ x. Filling (within room x) at write out out (Refused 7)) (sym (e .0)) (item-beyond room at (bytes-of o) out write (omega (arith, e .1)))
+
+      pub value-tested : write ≡ false → n ≤ room → Filling (within room o) at write out out (At (at + n))
+      value-tested w h = subst (λ x. Filling (within room x) at write out out (At (at + n))) (sym (e .0)) (item-tested room at (bytes-of o) out write (at + n) w (omega (arith, e .1)) (omega (arith, e .1)))
+
+      pub value-written : {out′ : Bytes} → write ≡ true → n ≤ room → out′ ≡ splice at (bytes-of o) out → Filling (within room o) at write out out′ (At (at + n))
+      value-written {out′} w h q = subst (λ x. Filling (within room x) at write out out′ (At (at + n))) (sym (e .0)) (item-written room at (bytes-of o) out write (at + n) w (omega (arith, e .1)) (omega (arith, e .1)) q)
