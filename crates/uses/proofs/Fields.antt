@@ -74,11 +74,11 @@ run-ends : (l : ℕ) (e : Entry) (es : List Entry) → e .level ≤ l → run-be
 unfolding run-below
 run-ends l e es h = rw (le-ltb l (e .level) h)
 
-no-fields : fields-in [] ≡ []
+pub no-fields : fields-in [] ≡ []
 unfolding fields-in
 no-fields = refl
 
-first-field : (e : Entry) (es : List Entry) → fields-in (e ∷ es) ≡ with-field (e .name) (e .what) (fields-in es)
+pub first-field : (e : Entry) (es : List Entry) → fields-in (e ∷ es) ≡ with-field (e .name) (e .what) (fields-in es)
 unfolding fields-in
 first-field e es = refl
 

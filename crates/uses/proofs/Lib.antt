@@ -5,3 +5,4 @@ pub mod Settling
 pub mod Finding
 pub mod Remembering
 pub mod Testing
+pub mod SpanFields

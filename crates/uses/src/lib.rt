@@ -177,21 +177,21 @@ fn format_number(letter: u8) -> usize
 }
 
 // The letter's, or the field's own.
-fn format_in_effect(format: usize, n: Named) -> usize
+fn format_in_effect(format: usize, given: Named) -> usize
     requires { ⌜ format < 5 ⌝ }
-    ensures { λ r. ⌜ Format-in-effect format n r ⌝ }
+    ensures { λ r. ⌜ Format-in-effect format given r ⌝ }
 {
-    if n.lettered {
-        return format_number(n.letter);
+    if given.lettered {
+        return format_number(given.letter);
     }
     format
 }
 
-fn length_in_effect(size: usize, n: Named) -> usize
-    ensures { λ r. ⌜ Length-in-effect size n r ⌝ }
+fn length_in_effect(size: usize, given: Named) -> usize
+    ensures { λ r. ⌜ Length-in-effect size given r ⌝ }
 {
-    if n.sized {
-        return wide(n.length);
+    if given.sized {
+        return wide(given.length);
     }
     size
 }
