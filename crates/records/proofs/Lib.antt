@@ -14,3 +14,4 @@ pub mod Ends
 pub mod Heads
 pub mod Normals
 pub mod Directories
+pub mod Placed

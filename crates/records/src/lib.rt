@@ -6,6 +6,7 @@ ghost use Rattle.rules.specs.Table.{is-inside};
 ghost use Rattle.tables.specs.Entries.{Valid, entries-of, blank};
 
 pub mod empty;
+pub mod places;
 pub mod walk;
 
 // Where a walk over a record stands: at a place behind what it was to take, or at something that is no record.
