@@ -15,3 +15,4 @@ pub mod Heads
 pub mod Normals
 pub mod Directories
 pub mod Placed
+pub mod Contents

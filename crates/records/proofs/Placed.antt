@@ -13,12 +13,13 @@ use Rattle.rules.specs.Limits.{longest-record}
 use Rattle.rules.specs.Lists.{Bytes, same, nothing}
 use Rattle.rules.specs.Values.{Format}
 use Rattle.rules.specs.Table.{What, field, group, Entry, Part, is-inside, names, differ, parts}
-use Rattle.rules.specs.Record.{Record, Occurrence, record-head, times, each, stored-cell, stored-part, stored, group-count-at, values-at}
+use Rattle.rules.specs.Record.{Record, Occurrence, record-head, times, counted, each, stored-value, stored-cell, stored-part, stored, group-count-at, values-at, value-count-at}
 use Rattle.rules.proofs.Steps.{from-bind, from-need, done-inj, not-done, true-T, by-outcome}
 use Rattle.buffer.proofs.Cases.{by-order}
-use Rattle.tables.specs.Entries.{blank, is-group}
+use Rattle.tables.specs.Entries.{blank, is-group, is-multiple, size-of, format-at, format-number}
 use Rattle.tables.specs.Places.{inside-at, inside-before, Home}
 use Rattle.tables.specs.Groups.{run-below, group-end, field-by, field-at}
+use Rattle.tables.proofs.Rows.{number-back}
 use Rattle.tables.proofs.Nesting.{run-nil, run-ends, run-deeper}
 use Rattle.records.specs.Walk.{rest-of, Walked, Checked}
 use Rattle.records.specs.Where.{inside-from, First, Deeper, fields-of}
@@ -26,9 +27,9 @@ use Rattle.records.specs.Places.{Held, Holds, Cell-of, cell-from}
 use Rattle.records.specs.declared.walk.Directory.{Directory}
 use Rattle.records.specs.declared.Step.{Step}
 use Rattle.records.specs.declared.Step.the-variants as S
-use Rattle.records.specs.declared.places.Cell.the-variants.{At}
+use Rattle.records.specs.declared.places.Cell.the-variants.{At, Nothing}
 use Rattle.records.proofs.Walks.{walked-at, walked-bad}
-use Rattle.records.proofs.Cells.{byte-there}
+use Rattle.records.proofs.Cells.{cell-many, byte-there}
 use Rattle.records.proofs.Entries.{never, differ-first, inside-first, inside-next}
 use Rattle.records.proofs.Ends.{group-fields}
 use Rattle.records.proofs.Lookups.{Grouped, outside, grouped}
@@ -59,6 +60,13 @@ field-is : (es : List Entry) (i : ℕ) (f : Format) (s : ℕ) (mu : Bool) → ge
     → field-at es i ≡ record { name = getD es i blank .name; format = f; size = s; multiple = mu }
 unfolding field-at field-by
 field-is es i f s mu w = ap (field-by (getD es i blank .name)) w
+
+-- The cell of an entry, by the numbers that the code has of it.
+pub cell-numbers : (es : List Entry) (i : ℕ) (bs : Bytes) → is-group (getD es i blank .what) ≡ false
+    → stored-cell (field-at es i) bs
+    ≡ counted (is-multiple (getD es i blank .what)) (stored-value (format-at (format-number (getD es i blank .what))) (size-of (getD es i blank .what))) bs
+unfolding stored-cell
+cell-numbers es i bs h = by-field (getD es i blank .what) h λ f s mu w. rw (field-is es i f s mu w, w, number-back f) refl
 
 -- Both ways to say that an entry lies in a periodic group.
 inside-same : (es : List Entry) (i : ℕ) → i < length es → inside-from false es i ≡ inside-at es i
@@ -144,3 +152,23 @@ module _ {es : List Entry} {b : Bytes} {places : List ℕ} {r : Record} (held : 
     cell-stands many p h S.Bad w = cell-there many λ one cell next h₁ h₂ h₃.
         let e : one ≡ drop p b = done-inj (sym h₁ ∙ h) in
         absurd (not-done (sym (walked-bad w refl) ∙ rw e at h₂))
+
+-- An MU field is a field, and its count is the byte at its cell's place; 0 where it has no cell.
+by-multiple : {C : Type 0} (w : What) → is-multiple w ≡ true → ((f : Format) (s : ℕ) → w ≡ field f s true → C) → C
+by-multiple (field f s mu) h k = k f s (ap (field f s) h)
+by-multiple (group p) h k = absurd (never refl h)
+
+pub multiple-field : (w : What) → is-multiple w ≡ true → is-group w ≡ false
+multiple-field w h = by-multiple w h λ f s e. ap is-group e
+
+module _ (es : List Entry) (b : Bytes) (i o : ℕ) (r : Record) where
+  pub values-counted : is-multiple (getD es i blank .what) ≡ true → (q : ℕ) → Cell-of es b i o r (At q)
+      → (q < length b) × (getD b q 0 ≡ value-count-at (parts es) r (getD es i blank .name) o)
+  unfolding value-count-at
+  values-counted h q x = by-multiple (getD es i blank .what) h λ f s w.
+      cell-many (getD es i blank .name) f s (drop q b) (rw (field-is es i f s true w) at (x .2)) λ tail e most t.
+      let c = byte-there b q e in (c .0, c .1)
+
+  pub values-none : Cell-of es b i o r Nothing → 0 ≡ value-count-at (parts es) r (getD es i blank .name) o
+  unfolding value-count-at
+  values-none x = sym (ap length x)

@@ -1,6 +1,6 @@
 -- Where the values of a stored record lie, by the place of each entry's part.
 use mathlib.Core.Path.{_≡_}
-use mathlib.Core.Bool.{Bool, true, false}
+use mathlib.Core.Bool.{true, false}
 use mathlib.Core.List.{List, []}
 use Prim.Native.Nat.{ℕ, _-_, _≤_, _<_}
 use lib.ListN.{length, take, drop, getD}
@@ -8,7 +8,7 @@ use Rattle.rules.specs.Outcome.{done}
 use Rattle.rules.specs.Lists.{Bytes}
 use Rattle.rules.specs.Values.{Format, content, allowed}
 use Rattle.rules.specs.Table.{Entry, parts}
-use Rattle.rules.specs.Record.{Record, counted, stored-value, stored-cell, stored, values-at}
+use Rattle.rules.specs.Record.{Record, stored-cell, stored, values-at}
 use Rattle.tables.specs.Entries.{blank}
 use Rattle.tables.specs.Groups.{field-at}
 use Rattle.records.specs.Walk.{start-of}
@@ -33,6 +33,7 @@ abbrev pub Cell-of : List Entry → Bytes → ℕ → ℕ → Record → Cell �
 Cell-of es b i o r (At q) = (q ≤ length b) × (rest : Bytes) × (stored-cell (field-at es i) (drop q b) ≡ done (values-at (parts es) r (getD es i blank .name) o, rest))
 Cell-of es b i o r Nothing = values-at (parts es) r (getD es i blank .name) o ≡ []
 
+-- The cell where a walk stands.
 abbrev pub cell-from : Step → Cell
 cell-from (S.At p) = At p
 cell-from S.Bad = Nothing
@@ -43,6 +44,11 @@ pub record Content-of (f : Format) (size : ℕ) (b v : Bytes) (from upto : ℕ) 
   pub inside : upto ≤ length b
   pub is : content size v ≡ take (upto - from) (drop from b)
   pub long : allowed f (upto - from) ≡ true
+
+-- The same of the code's answer: a value that stands there is found.
+abbrev pub Contained : Format → ℕ → Bytes → Bytes → Content → Type 0
+Contained f size b v (Lies from upto) = Content-of f size b v from upto
+Contained f size b v Absent = ⊥
 
 -- Value k of a cell: its content, or the cell has fewer values.
 abbrev pub Value-of : Format → ℕ → Bytes → List Bytes → ℕ → Content → Type 0

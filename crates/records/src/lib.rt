@@ -1,4 +1,4 @@
-// The stored record: whether a slice is one, and where each entry's bytes begin; and the empty record.
+// The stored record: whether a slice is one, where each entry's bytes begin, and where a value lies; and the empty record.
 ghost use mathlib.Core.Path.{_≡_};
 ghost use Prim.Native.Nat.{_<_};
 ghost use lib.ListN.{length, getD};

@@ -1,16 +1,21 @@
 // Where a value of a stored record lies.
 ghost use mathlib.Core.Path.{_≡_};
 ghost use mathlib.Core.Bool.{true, false};
+ghost use mathlib.Core.List.{List};
 ghost use Prim.Native.Nat.{_≤_, _<_};
 ghost use lib.ListN.{length, drop, getD};
+ghost use Rattle.rules.specs.Outcome.{done};
+ghost use Rattle.rules.specs.Lists.{Bytes};
+ghost use Rattle.rules.specs.Values.{Format, allowed};
 ghost use Rattle.rules.specs.Table.{group, parts};
-ghost use Rattle.rules.specs.Record.{Record, group-count-at, value-count-at};
-ghost use Rattle.tables.specs.Entries.{Valid, entries-of, blank, is-group, is-multiple};
+ghost use Rattle.rules.specs.Record.{Record, counted, stored-value, group-count-at, value-count-at};
+ghost use Rattle.tables.specs.Entries.{Valid, entries-of, blank, is-group, is-multiple, format-at};
 ghost use Rattle.tables.specs.Places.{Home, inside-at};
-ghost use Rattle.records.specs.Places.{Held, Holds, cell-from, Cell-of};
+ghost use Rattle.records.specs.Places.{Held, Holds, cell-from, Cell-of, Contained, Value-of};
 use crate::Step;
 use crate::walk;
 use tables::Found;
+use values::First;
 
 // The cell of a field in an occurrence: the place where it begins, or there is no such occurrence.
 pub enum Cell {
@@ -95,4 +100,59 @@ pub fn value_count(t: &[u8], b: &[u8], places: &[u16; 64], i: usize, o: usize) -
         Cell::At(p) => b[p],
         Cell::Nothing => 0,
     }
+}
+
+// The content of the value that stands at a place.
+fn content_at(b: &[u8], at: usize, size: usize) -> Content
+    requires { ⌜ at ≤ length (now b) ⌝ }
+    ensures { λ c. ⌜ ((f : Format) (v rest : Bytes) → allowed f size ≡ true → stored-value f size (drop at (now (b .entry))) ≡ done (v, rest) → Contained f size (now (b .entry)) v c) ⌝ }
+{
+    let first = values::first_value(b, at, size);
+    match first {
+        First::Refused(_) => Content::Nothing,
+        First::Value(from, upto) => Content::At(from, upto),
+    }
+}
+
+// Value k of the cell of an MU field.
+fn value_among(b: &[u8], cell: usize, format: usize, size: usize, k: usize) -> Content
+    requires { ⌜ (format < 5) × (allowed (format-at format) size ≡ true) × (1 ≤ k) ⌝ }
+    ensures { λ c. ⌜ ((vs : List Bytes) (rest : Bytes) → counted true (stored-value (format-at format) size) (drop cell (now (b .entry))) ≡ done (vs, rest) → Value-of (format-at format) size (now (b .entry)) vs k c) ⌝ }
+{
+    if walk::has_count(b, cell) {
+        if (b[cell] as usize) < k {
+            return Content::Nothing;
+        }
+        let before = walk::values_end(b, cell + 1, k - 1, format, size);
+        match before {
+            Step::Bad => {
+                return Content::Nothing;
+            }
+            Step::At(p) => {
+                return content_at(b, p, size);
+            }
+        }
+    }
+    Content::Nothing
+}
+
+// Value k of the cell that stands at a place.
+pub fn value_at(
+    b: &[u8],
+    cell: usize,
+    format: usize,
+    size: usize,
+    multiple: bool,
+    k: usize,
+) -> Content
+    requires { ⌜ (cell ≤ length (now b)) × (format < 5) × (allowed (format-at format) size ≡ true) × (1 ≤ k) ⌝ }
+    ensures { λ c. ⌜ ((vs : List Bytes) (rest : Bytes) → counted multiple (stored-value (format-at format) size) (drop cell (now (b .entry))) ≡ done (vs, rest) → Value-of (format-at format) size (now (b .entry)) vs k c) ⌝ }
+{
+    if multiple {
+        return value_among(b, cell, format, size, k);
+    }
+    if 1 < k {
+        return Content::Nothing;
+    }
+    content_at(b, cell, size)
 }

@@ -1,5 +1,5 @@
 -- `records::places::cell_in` meets its contract: two walks stand where the look-up reads, and neither can fail in a record. Assumes nothing.
-use mathlib.Core.Path.{_≡_, sym, _∙_}
+use mathlib.Core.Path.{sym, _∙_}
 use Prim.Native.Nat.{_<_}
 use native.Mathlib.Omega.{arith}
 use lib.ListN.{length}

@@ -2,7 +2,6 @@
 use native.Mathlib.Omega.{arith}
 use Rattle.tables.proofs.Tables.{valid-most, valid-names}
 use Rattle.records.proofs.Placed.{count-there}
-use borrow.Author.Needs.{needs}
 use Rattle.records.proofs.places.group_count.Statement.{statement}
 use Rattle.records.proofs.places.group_count.Tie as tie
 
