@@ -14,3 +14,5 @@ pub mod Ends
 pub mod Heads
 pub mod Normals
 pub mod Directories
+pub mod Placed
+pub mod Contents

@@ -1,3 +1,4 @@
 pub mod Empty
 pub mod Walk
 pub mod Where
+pub mod Places

@@ -1,4 +1,4 @@
-// The stored record: whether a slice is one, and where each entry's bytes begin; and the empty record.
+// The stored record: whether a slice is one, where each entry's bytes begin, and where a value lies; and the empty record.
 ghost use mathlib.Core.Path.{_≡_};
 ghost use Prim.Native.Nat.{_<_};
 ghost use lib.ListN.{length, getD};
@@ -6,6 +6,7 @@ ghost use Rattle.rules.specs.Table.{is-inside};
 ghost use Rattle.tables.specs.Entries.{Valid, entries-of, blank};
 
 pub mod empty;
+pub mod places;
 pub mod walk;
 
 // Where a walk over a record stands: at a place behind what it was to take, or at something that is no record.

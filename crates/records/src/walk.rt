@@ -31,7 +31,7 @@ fn value_end(b: &[u8], at: usize, format: usize, size: usize) -> Step
 }
 
 // The place behind n values.
-fn values_end(b: &[u8], at: usize, n: usize, format: usize, size: usize) -> Step
+pub fn values_end(b: &[u8], at: usize, n: usize, format: usize, size: usize) -> Step
     requires { ⌜ (at ≤ length (now b)) × (format < 5) × (allowed (format-at format) size ≡ true) ⌝ }
     ensures { λ r. ⌜ Walked (now (b .entry)) (rest-of (times n (stored-value (format-at format) size) (drop at (now (b .entry))))) r ⌝ }
 {
@@ -53,7 +53,7 @@ fn values_end(b: &[u8], at: usize, n: usize, format: usize, size: usize) -> Step
 }
 
 // Whether a count stands at a place, and is not over its limit.
-fn has_count(b: &[u8], at: usize) -> bool
+pub fn has_count(b: &[u8], at: usize) -> bool
     ensures { λ r. ⌜ r ≡ has-count (now (b .entry)) at ⌝ }
 {
     if b.len() <= at {
@@ -89,7 +89,7 @@ fn member_end(t: &[u8], b: &[u8], at: usize, i: usize) -> Step
 }
 
 // The place behind the cells of the fields among the entries from first to end, once each.
-fn members_end(t: &[u8], b: &[u8], at: usize, first: usize, end: usize) -> Step
+pub fn members_end(t: &[u8], b: &[u8], at: usize, first: usize, end: usize) -> Step
     requires { ⌜ Valid (now t) × (first ≤ end) × (end ≤ length (entries-of (now t))) × (at ≤ length (now b)) ⌝ }
     ensures { λ r. ⌜ Walked (now (b .entry)) (rest-of (each stored-cell (fields-of (slice first end (entries-of (now (t .entry))))) (drop at (now (b .entry))))) r ⌝ }
 {
@@ -111,7 +111,7 @@ fn members_end(t: &[u8], b: &[u8], at: usize, first: usize, end: usize) -> Step
 }
 
 // The same n times.
-fn occurrences_end(t: &[u8], b: &[u8], at: usize, n: usize, first: usize, end: usize) -> Step
+pub fn occurrences_end(t: &[u8], b: &[u8], at: usize, n: usize, first: usize, end: usize) -> Step
     requires { ⌜ Valid (now t) × (first ≤ end) × (end ≤ length (entries-of (now t))) × (at ≤ length (now b)) ⌝ }
     ensures { λ r. ⌜ Walked (now (b .entry)) (rest-of (times n (each stored-cell (fields-of (slice first end (entries-of (now (t .entry)))))) (drop at (now (b .entry))))) r ⌝ }
 {

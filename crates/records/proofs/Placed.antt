@@ -1,0 +1,174 @@
+-- The place of a group's count, of a cell and of a value in bytes that hold a record: what a look-up reads there is what stands from that place on.
+use mathlib.Core.Path.{_≡_, refl, sym, _∙_, ap}
+use mathlib.Core.Bool.{Bool, true, false}
+use mathlib.Core.List.{List, [], _∷_}
+use Prim.Native.Nat.{ℕ, zero, suc, _+_, _-_, _≤_, _<_}
+use native.Mathlib.Numerals.{add-one}
+use native.Mathlib.Omega.{arith}
+use lib.Dec.{leb}
+use lib.ListN.{length, take, drop, getD}
+use lib.Seq.{slice, getD-drop}
+use Rattle.rules.specs.Outcome.{done, is-done}
+use Rattle.rules.specs.Limits.{longest-record}
+use Rattle.rules.specs.Lists.{Bytes, same, nothing}
+use Rattle.rules.specs.Values.{Format}
+use Rattle.rules.specs.Table.{What, field, group, Entry, Part, is-inside, names, differ, parts}
+use Rattle.rules.specs.Record.{Record, Occurrence, record-head, times, counted, each, stored-value, stored-cell, stored-part, stored, group-count-at, values-at, value-count-at}
+use Rattle.rules.proofs.Steps.{from-bind, from-need, done-inj, not-done, true-T, by-outcome}
+use Rattle.buffer.proofs.Cases.{by-order}
+use Rattle.tables.specs.Entries.{blank, is-group, is-multiple, size-of, format-at, format-number}
+use Rattle.tables.specs.Places.{inside-at, inside-before, Home}
+use Rattle.tables.specs.Groups.{run-below, group-end, field-by, field-at}
+use Rattle.tables.proofs.Rows.{number-back}
+use Rattle.tables.proofs.Nesting.{run-nil, run-ends, run-deeper}
+use Rattle.records.specs.Walk.{rest-of, Walked, Checked}
+use Rattle.records.specs.Where.{inside-from, First, Deeper, fields-of}
+use Rattle.records.specs.Places.{Held, Holds, Cell-of, cell-from}
+use Rattle.records.specs.declared.walk.Directory.{Directory}
+use Rattle.records.specs.declared.Step.{Step}
+use Rattle.records.specs.declared.Step.the-variants as S
+use Rattle.records.specs.declared.places.Cell.the-variants.{At, Nothing}
+use Rattle.records.proofs.Walks.{walked-at, walked-bad}
+use Rattle.records.proofs.Cells.{cell-many, byte-there}
+use Rattle.records.proofs.Entries.{never, differ-first, inside-first, inside-next}
+use Rattle.records.proofs.Ends.{group-fields}
+use Rattle.records.proofs.Lookups.{Grouped, outside, grouped}
+use Rattle.records.proofs.Occurrences.{occurrences, values-missing, values-there}
+
+-- A check that finds a record finds its places.
+pub holds : (es : List Entry) (b : Bytes) (d : Directory) → Checked es b d → d .ok ≡ true → Holds es b (d .places)
+holds es b d c ok = by-outcome (stored (parts es) b)
+    (λ r h. (r, record { stands = h; starts = c .places ok }))
+    (λ n h. absurd (never (c .answer ∙ ap is-done h) ok))
+
+-- The body of a record is what its parts read.
+body : {C : Type 0} (ps : List Part) (b : Bytes) (r : Record) → stored ps b ≡ done r → ((rest : Bytes) → each stored-part ps (drop 5 b) ≡ done (r, rest) → C) → C
+unfolding stored
+body ps b r p k =
+    from-need (leb (length b) longest-record) 2 _ p λ t k₁.
+    from-need (same (take 5 b) record-head) 2 _ k₁ λ t₂ k₂.
+    from-bind (each stored-part ps (drop 5 b)) _ k₂ λ x h k₃.
+    from-need (nothing (x .1)) 2 _ k₃ λ t₃ k₄.
+    k (x .1) (h ∙ rw (done-inj k₄) refl)
+
+-- An entry that is no group is a field.
+pub by-field : {C : Type 0} (w : What) → is-group w ≡ false → ((f : Format) (s : ℕ) (mu : Bool) → w ≡ field f s mu → C) → C
+by-field (field f s mu) h k = k f s mu refl
+by-field (group p) h k = absurd (never h refl)
+
+field-is : (es : List Entry) (i : ℕ) (f : Format) (s : ℕ) (mu : Bool) → getD es i blank .what ≡ field f s mu
+    → field-at es i ≡ record { name = getD es i blank .name; format = f; size = s; multiple = mu }
+unfolding field-at field-by
+field-is es i f s mu w = ap (field-by (getD es i blank .name)) w
+
+-- The cell of an entry, by the numbers that the code has of it.
+pub cell-numbers : (es : List Entry) (i : ℕ) (bs : Bytes) → is-group (getD es i blank .what) ≡ false
+    → stored-cell (field-at es i) bs
+    ≡ counted (is-multiple (getD es i blank .what)) (stored-value (format-at (format-number (getD es i blank .what))) (size-of (getD es i blank .what))) bs
+unfolding stored-cell
+cell-numbers es i bs h = by-field (getD es i blank .what) h λ f s mu w. rw (field-is es i f s mu w, w, number-back f) refl
+
+-- Both ways to say that an entry lies in a periodic group.
+inside-same : (es : List Entry) (i : ℕ) → i < length es → inside-from false es i ≡ inside-at es i
+unfolding inside-at inside-before
+inside-same es zero h = inside-first false es blank h
+inside-same es (suc i) h = inside-next false es blank i h ∙ ap (λ (p : Bool). is-inside p (getD es (suc i) blank)) (inside-same es i (omega arith))
+
+-- The members of a group of level 1 have levels above 1.
+run-levels : (es : List Entry) (k : ℕ) → k < run-below 1 es → 1 < getD es k blank .level
+run-levels [] k h = absurd (omega (arith, run-nil 1))
+run-levels (e ∷ es) zero h = by-order 1 (e .level) (λ l. l) (λ l. absurd (omega (arith, run-ends 1 e es l)))
+run-levels (e ∷ es) (suc k) h = by-order 1 (e .level) (λ l. run-levels es k (omega (arith, run-deeper 1 e es l))) (λ l. absurd (omega (arith, run-ends 1 e es l)))
+
+home-deeper : (es : List Entry) (i g : ℕ) → Home es i g → Deeper es blank g i
+home-deeper es i g home k p q =
+    let z : suc g + (k - suc g) ≡ k = omega arith in
+    let l = run-levels (drop (suc g) es) (k - suc g) (omega (arith, home .within)) in
+    rw (getD-drop (suc g) es (k - suc g) blank, z) at l
+
+-- Bytes that hold a record by a table's entries, of which each is the first with its name.
+module _ {es : List Entry} {b : Bytes} {places : List ℕ} {r : Record} (held : Held es b places r) (named : differ (names es) ≡ true) where
+  own-name : (i : ℕ) → i < length es → First (getD es i blank .name) es i
+  own-name i h = differ-first es blank i h (true-T named)
+
+  -- A field outside periodic groups has its one cell at its place.
+  pub cell-outside : (i o : ℕ) → i < length es → is-group (getD es i blank .what) ≡ false → inside-at es i ≡ false → o ≡ 1 → Cell-of es b i o r (At (getD places i 0))
+  unfolding parts
+  cell-outside i o less what out one =
+      body (parts es) b r (held .stands) λ rest h.
+      by-field (getD es i blank .what) what λ f s mu w.
+      outside false es (drop 5 b) r rest h blank (getD es i blank .name) i f s mu (own-name i less) (inside-same es i less ∙ out) w λ mid q.
+      let p = held .starts i less in
+      (p .0, mid, rw (field-is es i f s mu w, p .1, one) q)
+
+  -- A periodic group's count is the byte at its place.
+  module _ (g : ℕ) (less : g < length es) (what : getD es g blank .what ≡ group true) where
+    group-there : {C : Type 0} → ((os : List Occurrence) (mid : Bytes) → Grouped false es (drop 5 b) r blank g os mid → C) → C
+    unfolding parts
+    group-there k = body (parts es) b r (held .stands) λ rest h. grouped false es (drop 5 b) r rest h blank g less what k
+
+    pub count-there : (getD places g 0 < length b) × (getD b (getD places g 0) 0 ≡ group-count-at (parts es) r (getD es g blank .name))
+    unfolding parts
+    count-there = group-there λ os mid q.
+        occurrences q λ tail h most s.
+        let c = byte-there b (getD places g 0) (held .starts g less .1 ∙ h) in
+        (c .0, c .1 ∙ sym (q .count (getD es g blank .name) (own-name g less)))
+
+  -- Entry i, a field in the periodic group that entry g is, in occurrence o.
+  module _ (i g o : ℕ) (less : i < length es) (what : is-group (getD es i blank .what) ≡ false) (some : 1 ≤ o) (home : Home es i g) where
+    pub group-before : g < i
+    group-before = by-order g i (λ l. l) (λ l. let z : g ≡ i = omega (arith, home .upto) in absurd (never (rw (← z) at what) (ap is-group (home .periodic))))
+
+    pub cell-missing : group-count-at (parts es) r (getD es g blank .name) < o → values-at (parts es) r (getD es i blank .name) o ≡ []
+    unfolding parts
+    cell-missing few = group-there g (omega (arith, group-before)) (home .periodic) λ os mid q.
+        by-field (getD es i blank .what) what λ f s mu w.
+        values-missing q (omega (arith, home .level)) (getD es i blank .name) i group-before (home-deeper es i g home) (own-name i less) f s mu w o
+        (omega (arith, q .count (getD es g blank .name) (own-name g (omega (arith, group-before)))))
+
+    pub cell-there : {C : Type 0} → o ≤ group-count-at (parts es) r (getD es g blank .name)
+        → ((one cell next : Bytes) → rest-of (times (o - 1) (each stored-cell (fields-of (slice (g + 1) (group-end es g) es))) (drop (getD places g 0 + 1) b)) ≡ done one
+        → rest-of (each stored-cell (fields-of (slice (g + 1) i es)) one) ≡ done cell
+        → stored-cell (field-at es i) cell ≡ done (values-at (parts es) r (getD es i blank .name) o, next) → C) → C
+    unfolding parts
+    cell-there many k = group-there g (omega (arith, group-before)) (home .periodic) λ os mid q.
+        occurrences q λ tail h most s.
+        by-field (getD es i blank .what) what λ f n mu w.
+        let c = byte-there b (getD places g 0) (held .starts g (omega (arith, group-before)) .1 ∙ h) in
+        values-there q (omega (arith, home .level)) (getD es i blank .name) i group-before (home-deeper es i g home) (own-name i less) f n mu w tail s (o - 1)
+        (omega (arith, q .count (getD es g blank .name) (own-name g (omega (arith, group-before))))) λ one cell next h₁ h₂ h₃.
+        let z : suc (o - 1) ≡ o = omega arith in
+        k one cell next (rw (← group-fields es g (home .level), add-one (getD places g 0), ← c .2) h₁) (rw (add-one g) h₂) (rw (field-is es i f n mu w, ← z) h₃)
+
+    -- What two walks find, over the occurrences before and the fields before.
+    pub cell-stands : (many : o ≤ group-count-at (parts es) r (getD es g blank .name)) (p : ℕ)
+        → rest-of (times (o - 1) (each stored-cell (fields-of (slice (g + 1) (group-end es g) es))) (drop (getD places g 0 + 1) b)) ≡ done (drop p b)
+        → (s : Step) → Walked b (rest-of (each stored-cell (fields-of (slice (g + 1) i es)) (drop p b))) s → Cell-of es b i o r (cell-from s)
+    cell-stands many p h (S.At q) w = cell-there many λ one cell next h₁ h₂ h₃.
+        let k = walked-at w refl in
+        let e : one ≡ drop p b = done-inj (sym h₁ ∙ h) in
+        let d : drop q b ≡ cell = done-inj (sym (k .0) ∙ rw e at h₂) in
+        (k .1, next, ap (stored-cell (field-at es i)) d ∙ h₃)
+    cell-stands many p h S.Bad w = cell-there many λ one cell next h₁ h₂ h₃.
+        let e : one ≡ drop p b = done-inj (sym h₁ ∙ h) in
+        absurd (not-done (sym (walked-bad w refl) ∙ rw e at h₂))
+
+-- An MU field is a field, and its count is the byte at its cell's place; 0 where it has no cell.
+by-multiple : {C : Type 0} (w : What) → is-multiple w ≡ true → ((f : Format) (s : ℕ) → w ≡ field f s true → C) → C
+by-multiple (field f s mu) h k = k f s (ap (field f s) h)
+by-multiple (group p) h k = absurd (never refl h)
+
+pub multiple-field : (w : What) → is-multiple w ≡ true → is-group w ≡ false
+multiple-field w h = by-multiple w h λ f s e. ap is-group e
+
+module _ (es : List Entry) (b : Bytes) (i o : ℕ) (r : Record) where
+  pub values-counted : is-multiple (getD es i blank .what) ≡ true → (q : ℕ) → Cell-of es b i o r (At q)
+      → (q < length b) × (getD b q 0 ≡ value-count-at (parts es) r (getD es i blank .name) o)
+  unfolding value-count-at
+  values-counted h q x = by-multiple (getD es i blank .what) h λ f s w.
+      cell-many (getD es i blank .name) f s (drop q b) (rw (field-is es i f s true w) at (x .2)) λ tail e most t.
+      let c = byte-there b q e in (c .0, c .1)
+
+  pub values-none : Cell-of es b i o r Nothing → 0 ≡ value-count-at (parts es) r (getD es i blank .name) o
+  unfolding value-count-at
+  values-none x = sym (ap length x)

@@ -1,0 +1,56 @@
+-- Where the values of a stored record lie, by the place of each entry's part.
+use mathlib.Core.Path.{_≡_}
+use mathlib.Core.Bool.{true, false}
+use mathlib.Core.List.{List, []}
+use Prim.Native.Nat.{ℕ, _-_, _≤_, _<_}
+use lib.ListN.{length, take, drop, getD}
+use Rattle.rules.specs.Outcome.{done}
+use Rattle.rules.specs.Lists.{Bytes}
+use Rattle.rules.specs.Values.{Format, content, allowed}
+use Rattle.rules.specs.Table.{Entry, parts}
+use Rattle.rules.specs.Record.{Record, stored-cell, stored, values-at}
+use Rattle.tables.specs.Entries.{blank}
+use Rattle.tables.specs.Groups.{field-at}
+use Rattle.records.specs.Walk.{start-of}
+use Rattle.records.specs.declared.Step.{Step}
+use Rattle.records.specs.declared.Step.the-variants as S
+use Rattle.records.specs.declared.places.Cell.{Cell}
+use Rattle.records.specs.declared.places.Cell.the-variants.{At, Nothing}
+use Rattle.records.specs.declared.places.Content.{Content}
+use Rattle.records.specs.declared.places.Content.the-variants.{At as Lies, Nothing as Absent}
+
+-- The bytes hold the record r, and each entry's part stands from its place on.
+pub record Held (es : List Entry) (b : Bytes) (places : List ℕ) (r : Record) : Type 0 where
+  pub stands : stored (parts es) b ≡ done r
+  pub starts : (j : ℕ) → j < length es → (getD places j 0 ≤ length b) × (drop (getD places j 0) b ≡ start-of false es (drop 5 b) j)
+
+-- They hold some record.
+abbrev pub Holds : List Entry → Bytes → List ℕ → Type 0
+Holds es b places = (r : Record) × Held es b places r
+
+-- The cell of entry i in occurrence o of a record: from a place on, or there is none.
+abbrev pub Cell-of : List Entry → Bytes → ℕ → ℕ → Record → Cell → Type 0
+Cell-of es b i o r (At q) = (q ≤ length b) × (rest : Bytes) × (stored-cell (field-at es i) (drop q b) ≡ done (values-at (parts es) r (getD es i blank .name) o, rest))
+Cell-of es b i o r Nothing = values-at (parts es) r (getD es i blank .name) o ≡ []
+
+-- The cell where a walk stands.
+abbrev pub cell-from : Step → Cell
+cell-from (S.At p) = At p
+cell-from S.Bad = Nothing
+
+-- The content of a value v, without its length byte: between two places, and so long as its format allows.
+pub record Content-of (f : Format) (size : ℕ) (b v : Bytes) (from upto : ℕ) : Type 0 where
+  pub ordered : from ≤ upto
+  pub inside : upto ≤ length b
+  pub is : content size v ≡ take (upto - from) (drop from b)
+  pub long : allowed f (upto - from) ≡ true
+
+-- The same of the code's answer: a value that stands there is found.
+abbrev pub Contained : Format → ℕ → Bytes → Bytes → Content → Type 0
+Contained f size b v (Lies from upto) = Content-of f size b v from upto
+Contained f size b v Absent = ⊥
+
+-- Value k of a cell: its content, or the cell has fewer values.
+abbrev pub Value-of : Format → ℕ → Bytes → List Bytes → ℕ → Content → Type 0
+Value-of f size b vs k (Lies from upto) = (k ≤ length vs) × Content-of f size b (getD vs (k - 1) []) from upto
+Value-of f size b vs k Absent = length vs < k
