@@ -11,6 +11,7 @@ use lib.ListN.{length, take, drop, getD, length-append, List·getD-append}
 use lib.Seq.{take-suc, take-all, length-take-le, getD-at}
 use Rattle.rules.specs.Lists.{all, spelled, digits}
 use Rattle.rules.proofs.Steps.{and-left, and-right, and-intro, T-true}
+pub use Rattle.words.proofs.Digits.{spelled-behind, spelled-snoc, length-digits, spelled-digits}
 use Rattle.decimals.specs.Decimals.{place}
 
 -- ---- what holds of each of a list
@@ -48,22 +49,6 @@ pub snoc : (ds : List ℕ) (n : ℕ) → length ds ≡ suc n → ds ≡ take n d
 snoc ds n e = sym (take-all (suc n) ds (omega arith)) ∙ take-suc ds n 0 (omega arith)
 
 -- ---- spelled
-
-pub spelled-snoc : (b : ℕ) (ds : List ℕ) (d a : ℕ) → spelled b (ds ++ (d ∷ [])) a ≡ spelled b ds a * b + d
-unfolding spelled
-spelled-snoc b [] d a = refl
-spelled-snoc b (e ∷ ds) d a = spelled-snoc b ds d (a * b + e)
-
--- what stands before the digits counts a power of the base for each
-pub spelled-behind : (b : ℕ) (ds : List ℕ) (a : ℕ) → spelled b ds a ≡ a * b ^ length ds + spelled b ds 0
-unfolding spelled
-spelled-behind b [] a = rw (pow-zero b) (omega arith)
-spelled-behind b (d ∷ ds) a =
-    let l = length ds in
-    let p : a * b * b ^ l ≡ a * b ^ suc l = mul-assoc a b (b ^ l) ∙ ap (λ n. a * n) (sym (pow-succ' b l)) in
-    let q : (a * b + d) * b ^ l ≡ a * b * b ^ l + d * b ^ l = add-mul (a * b) d (b ^ l) in
-    let z : 0 * b + d ≡ d = rw (zero-mul b) (omega arith) in
-    rw (z, spelled-behind b ds (a * b + d), spelled-behind b ds d) (omega arith)
 
 -- leading zeros spell nothing
 pub spelled-zero : (b : ℕ) (ds : List ℕ) → spelled b (0 ∷ ds) 0 ≡ spelled b ds 0
@@ -106,23 +91,10 @@ spelled-grows b ds a o =
 
 -- ---- digits
 
-pub length-digits : (b n x : ℕ) → length (digits b n x) ≡ n
-unfolding digits
-length-digits b zero x = refl
-length-digits b (suc n) x = length-append (digits b n (x / b)) _ ∙ (let h = length-digits b n (x / b) in omega arith)
-
 pub all-digits-below : (b n x : ℕ) → 0 < b → T (all (λ d. ltb d b) (digits b n x))
 unfolding digits all
 all-digits-below b zero x o = tt
 all-digits-below b (suc n) x o = all-snoc (λ d. ltb d b) (digits b n (x / b)) (x % b) (all-digits-below b n (x / b) o) (lt→ltb (x % b) b (mod-lt x o))
-
--- the digits of a number below the power spell it
-pub spelled-digits : (b n x : ℕ) → 0 < b → x < b ^ n → spelled b (digits b n x) 0 ≡ x
-unfolding spelled digits
-spelled-digits b zero x o h = let z = rw (pow-zero b) at h in omega arith
-spelled-digits b (suc n) x o h =
-    let q : x / b < b ^ n = div-lt-iff-lt-mul o .1 (rw (pow-suc b n) at h) in
-    rw (spelled-snoc b (digits b n (x / b)) (x % b) 0, spelled-digits b n (x / b) o q) (div-add-mod' x b)
 
 -- the digits of what digits spell are they
 digits-spelled-at : (b n : ℕ) (ds : List ℕ) → length ds ≡ n → T (all (λ d. ltb d b) ds) → digits b n (spelled b ds 0) ≡ ds
