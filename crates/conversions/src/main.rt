@@ -1,8 +1,8 @@
 // Answers conversions, given as lines on standard input, by lines on standard output.
-// A line `P 00150F U 5` has the format and the bytes of a value as it stands in a record buffer, and the format and length that it is
-// asked for. V as first format is A of length 0. A hyphen as first format asks for null, and as second, at any length, whether the value is in
-// normal form, so that it may stand in a record. An answer is `0 LENGTH BYTES`, or a number of document 01 as `9 0 -`; to what is no
-// such line it is `? 0 -`.
+// A line `P 00150F U 5` has the format and the bytes of a value as it stands in a record buffer, and the format and length that
+// it is asked for. V as first format is A of length 0. A hyphen as first format asks for null, and as second, at any length,
+// whether the value is in normal form, so that it may stand in a record. An answer is `0 LENGTH BYTES`, or a number of
+// document 01 as `9 0 -`; to what is no such line it is `? 0 -`.
 use hexadecimal::Number;
 use values::First;
 use values::Fit;
@@ -119,11 +119,12 @@ fn answer_content(
     Answer::NoCase
 }
 
+// The length of a value of so many bytes.
 fn size_of(letter: u8, length: usize) -> usize {
     if letter == b'V' { 0 } else { length }
 }
 
-// What the value that stands in front of bytes gives.
+// What the value gives that stands in front of s.
 fn answer_value(s: &[u8], source: u8, target: u8, n: usize, room: &mut [u8]) -> Answer
     ensures { λ r. ⌜ used r ≤ length (now (room .entry)) ⌝ }
 {
@@ -204,7 +205,7 @@ fn answer_lines(input: &[u8], bytes: &mut [u8], room: &mut [u8], out: &mut [u8])
     }
 }
 
-// The input is read up to 65,536 bytes.
+// At most 65,536 bytes of the input are read.
 fn main() {
     let mut input = io::large_buffer();
     let mut bytes = io::large_buffer();
