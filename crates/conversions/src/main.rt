@@ -1,0 +1,216 @@
+// Answers conversions, given as lines on standard input, by lines on standard output.
+// A line `P 00150F U 5` has the format and the bytes of a value as it stands in a record buffer, and the format and length that
+// it is asked for. V as first format is A of length 0. A hyphen as first format asks for null, and as second, at any length,
+// whether the value is in normal form, so that it may stand in a record. An answer is `0 LENGTH BYTES`, or a number of
+// document 01 as `9 0 -`; to what is no such line it is `? 0 -`.
+use hexadecimal::Number;
+use values::First;
+use values::Fit;
+ghost use mathlib.Core.Path.{_≡_};
+ghost use mathlib.Core.Bool.{true, _&&_};
+ghost use mathlib.Core.Logic.{_⊎_};
+ghost use Prim.Native.Nat.{_+_, _*_, _≤_, _<_};
+ghost use lib.Dec.{ltb};
+ghost use lib.ListN.{length};
+ghost use Rattle.rules.specs.Values.{allowed};
+ghost use Rattle.kinds.specs.Formats.{format-at};
+ghost use Rattle.conversions.specs.Cases.{used, Areas};
+
+// How many bytes in front of room are the value, or the number of the refusal.
+enum Answer {
+    Done(usize),
+    Refused(u8),
+    NoCase,
+}
+
+// The number of a format, which is 5 for what is none.
+fn format_of(letter: u8) -> usize {
+    match letter {
+        b'A' => kinds::ALPHA,
+        b'V' => kinds::ALPHA,
+        b'B' => kinds::BINARY,
+        b'F' => kinds::FIXED,
+        b'P' => kinds::PACKED,
+        b'U' => kinds::UNPACKED,
+        _ => 5,
+    }
+}
+
+// Whether there is such a format, and it has values of a length.
+fn has_length(format: usize, size: usize) -> bool
+    ensures { λ r. ⌜ r ≡ (ltb format 5 && allowed (format-at format) size) ⌝ }
+{
+    if format < 5 {
+        return kinds::allowed(format, size);
+    }
+    false
+}
+
+// Null at a format and length.
+fn null(format: usize, n: usize, room: &mut [u8]) -> Answer
+    ensures { λ r. ⌜ used r ≤ length (now (room .entry)) ⌝ }
+{
+    if has_length(format, n) {
+        let size = values::null_length(format, n);
+        if room.len() < size {
+            return Answer::Refused(7);
+        }
+        values::write_null(format, n, room, 0);
+        return Answer::Done(size);
+    }
+    Answer::NoCase
+}
+
+// The content s of a value at another format and length.
+fn convert(s: &[u8], from: usize, to: usize, n: usize, room: &mut [u8]) -> Answer
+    requires { ⌜ (from < 5) × (allowed (format-at from) (length (now s)) ≡ true) ⌝ }
+    ensures { λ r. ⌜ used r ≤ length (now (room .entry)) ⌝ }
+{
+    if has_length(to, n) {
+        let fit = values::fits(s, from, to, n);
+        match fit {
+            Fit::Refused(k) => {
+                return Answer::Refused(k);
+            }
+            Fit::Bytes(size) => {
+                if room.len() < size {
+                    return Answer::Refused(7);
+                }
+                values::carry(s, from, to, n, room, 0);
+                return Answer::Done(size);
+            }
+        }
+    }
+    Answer::NoCase
+}
+
+// The content s of a value, if it is in normal form.
+fn keep(s: &[u8], format: usize, size: usize, room: &mut [u8]) -> Answer
+    requires { ⌜ (format < 5) × (allowed (format-at format) size ≡ true) × (((size ≡ 0) × (length (now s) ≤ 253)) ⊎ (size ≡ length (now s))) ⌝ }
+    ensures { λ r. ⌜ used r ≤ length (now (room .entry)) ⌝ }
+{
+    if room.len() < s.len() {
+        return Answer::Refused(7);
+    }
+    if values::is_normal(s, format, size) {
+        return Answer::Done(buffer::put(s, room, 0));
+    }
+    Answer::Refused(2)
+}
+
+// What a value of a format and length gives, by its content.
+fn answer_content(
+    s: &[u8],
+    from: usize,
+    size: usize,
+    target: u8,
+    n: usize,
+    room: &mut [u8],
+) -> Answer
+    requires { ⌜ ((size ≡ 0) × (length (now s) ≤ 253)) ⊎ (size ≡ length (now s)) ⌝ }
+    ensures { λ r. ⌜ used r ≤ length (now (room .entry)) ⌝ }
+{
+    if has_length(from, size) {
+        if target == b'-' {
+            return keep(s, from, size, room);
+        }
+        return convert(s, from, format_of(target), n, room);
+    }
+    Answer::NoCase
+}
+
+// The length of a value of so many bytes.
+fn size_of(letter: u8, length: usize) -> usize {
+    if letter == b'V' { 0 } else { length }
+}
+
+// What the value gives that stands in front of s.
+fn answer_value(s: &[u8], source: u8, target: u8, n: usize, room: &mut [u8]) -> Answer
+    ensures { λ r. ⌜ used r ≤ length (now (room .entry)) ⌝ }
+{
+    if source == b'-' {
+        return null(format_of(target), n, room);
+    }
+    let size = size_of(source, s.len());
+    let first = values::first_value(s, 0, size);
+    match first {
+        First::Value(from, next) => {
+            answer_content(&s[from..next], format_of(source), size, target, n, room)
+        }
+        First::Refused(k) => Answer::Refused(k),
+    }
+}
+
+// What a line gives whose bytes are decoded and whose second format stands at a place.
+fn answer_at(line: &[u8], at: usize, s: &[u8], room: &mut [u8]) -> Answer
+    requires { ⌜ (2 ≤ length (now line)) × (at ≤ length (now line) + 1) × (length (now line) ≤ 65536) ⌝ }
+    ensures { λ r. ⌜ used r ≤ length (now (room .entry)) ⌝ }
+{
+    if line.len() < at + 2 {
+        return Answer::NoCase;
+    }
+    if line[at + 1] != b' ' {
+        return Answer::NoCase;
+    }
+    let number = hexadecimal::take_number(line, at + 2);
+    match number {
+        Number::Is(n) => answer_value(s, line[0], line[at], n, room),
+        Number::NoNumber => Answer::NoCase,
+    }
+}
+
+fn answer_line(line: &[u8], bytes: &mut [u8], room: &mut [u8]) -> Answer
+    requires { ⌜ (length (now line) ≤ 65536) × (length (now line) ≤ 2 * length (now bytes)) ⌝ }
+    ensures { λ r. ⌜ used r ≤ length (now (room .entry)) ⌝ }
+{
+    if line.len() < 2 {
+        return Answer::NoCase;
+    }
+    if line[1] != b' ' {
+        return Answer::NoCase;
+    }
+    let source = hexadecimal::take_bytes(line, 2, bytes, 0);
+    let end = source.end;
+    answer_at(line, source.next, &bytes[..end], room)
+}
+
+// The line of an answer, to the front of out; the place behind it.
+fn put(a: Answer, room: &[u8], out: &mut [u8]) -> usize
+    requires { ⌜ (used a ≤ length (now room)) × (length (now room) ≤ 4096) × (8208 ≤ length (now out)) ⌝ }
+    ensures { λ r. ⌜ r ≤ length (now (out .entry)) ⌝ }
+{
+    match a {
+        Answer::Done(n) => hexadecimal::put_answer(0, &room[..n], out, 0),
+        Answer::Refused(k) => hexadecimal::put_answer(k, &room[..0], out, 0),
+        Answer::NoCase => hexadecimal::put_no_call(out, 0),
+    }
+}
+
+fn write_answer(a: Answer, room: &[u8], out: &mut [u8])
+    requires { ⌜ (used a ≤ length (now room)) × (length (now room) ≤ 4096) × (8208 ≤ length (now out)) ⌝ }
+{
+    let end = put(a, room, out);
+    io::write_all(libc::STDOUT_FILENO, &out[..end]);
+}
+
+fn answer_lines(input: &[u8], bytes: &mut [u8], room: &mut [u8], out: &mut [u8])
+    requires { ⌜ Areas (now input) (now bytes) (now room) (now out) ⌝ }
+{
+    let mut at = 0;
+    while at < input.len() {
+        let end = hexadecimal::find(input, at, b'\n');
+        let a = answer_line(&input[at..end], bytes, room);
+        write_answer(a, room, out);
+        at = end + 1;
+    }
+}
+
+// At most 65,536 bytes of the input are read.
+fn main() {
+    let mut input = io::large_buffer();
+    let mut bytes = io::large_buffer();
+    let mut room = io::buffer();
+    let mut out = io::large_buffer();
+    let n = io::read_full(libc::STDIN_FILENO, &mut input);
+    answer_lines(&input[..n], &mut bytes, &mut room, &mut out);
+}
