@@ -140,19 +140,29 @@ module _ (g : List Meaning → Bool) (es : List Entry) (f : Bytes) (last₀ : Li
     rest-refused n b us w = let r = h us w in absurd (n .answer (r .0) (r .1))
 
 -- The two tests, by the first use.
-pub any-first : (u v : Meaning) (vs : List Meaning) (b : Bool) → b ≡ name-alike u v → any (name-alike u) (v ∷ vs) ≡ (b || any (name-alike u) vs)
-unfolding any
-any-first u v vs b e = rw e
+module _ (u v : Meaning) (vs : List Meaning) (b : Bool) (e : b ≡ name-alike u v) where
+  pub any-met : b ≡ true → true ≡ any (name-alike u) (v ∷ vs)
+  unfolding any
+  any-met t = rw (sym e ∙ t)
+
+  pub any-unmet : b ≡ false → any (name-alike u) (v ∷ vs) ≡ any (name-alike u) vs
+  unfolding any
+  any-unmet t = rw (sym e ∙ t)
 
 pub any-last : (u v : Meaning) (b : Bool) → b ≡ name-alike u v → b ≡ any (name-alike u) (v ∷ [])
 unfolding any
 any-last u v b e = e ∙ sym (or-false (name-alike u v))
 
-pub twice-first : (u : Meaning) (us : List Meaning) (b : Bool) → b ≡ any (name-alike u) us → named-twice (u ∷ us) ≡ (b || named-twice us)
-unfolding named-twice
-twice-first u us b e = rw e
+module _ (u : Meaning) (us : List Meaning) (b : Bool) (e : b ≡ any (name-alike u) us) where
+  pub twice-met : b ≡ true → true ≡ named-twice (u ∷ us)
+  unfolding named-twice
+  twice-met t = rw (sym e ∙ t)
 
-pub twice-last : (u : Meaning) → named-twice (u ∷ []) ≡ false
+  pub twice-unmet : b ≡ false → named-twice (u ∷ us) ≡ named-twice us
+  unfolding named-twice
+  twice-unmet t = rw (sym e ∙ t)
+
+pub twice-last : (u : Meaning) → false ≡ named-twice (u ∷ [])
 unfolding named-twice any
 twice-last u = refl
 

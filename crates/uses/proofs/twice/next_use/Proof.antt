@@ -23,7 +23,7 @@ remember-requires c κs =
     let s = c .before .before .before .before .before .before .before .before .before .before .before .before in
     let n = step-as (c .before .before .before .before .before .before .before .e .given .1) (c .before .before .before .before .before .before .before .before .before .next .ensures) in
     let m = means-as (c .before .before .u .given .1) (c .before .before .before .before .use-of .ensures) in
-    (s .pre .0, span-known (entries-of (s .args .t .now)) (s .args .f .now) _ (m .held (s .args .f .now) (n .place .2)), s .pre .2)
+    (s .pre .0, span-known (entries-of (s .args .t .now)) (s .args .f .now) (c .before .before .u .given .0 .0) (m .held (s .args .f .now) (n .place .2)), s .pre .2)
 
 enum-told : tie.Need-enum-told
 enum-told c = search needs
