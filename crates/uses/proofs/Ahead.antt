@@ -1,10 +1,10 @@
 -- The uses of the elements of a format, one at a time: a test of those that are left answers as that of all does. Assumes nothing.
 use mathlib.Core.Path.{_≡_, refl, sym, ap, subst, _∙_}
-use mathlib.Core.Bool.{Bool, true, false, _||_}
+use mathlib.Core.Bool.{Bool, true, false}
 use mathlib.Core.List.{List, [], _∷_}
-use Prim.Native.Nat.{ℕ, _<_, _≤_}
-use lib.ListN.{length, getD, drop, replicate}
-use Rattle.rules.specs.Outcome.{Outcome, done, refused, _>>=_}
+use Prim.Native.Nat.{ℕ}
+use lib.ListN.{getD, drop, replicate}
+use Rattle.rules.specs.Outcome.{Outcome, done}
 use Rattle.rules.specs.Lists.{Bytes, any}
 use Rattle.rules.specs.Table.{Entry}
 use Rattle.rules.specs.Format as rules
@@ -13,13 +13,13 @@ use Rattle.rules.specs.Use.{Use as Meaning, Indexes, indexes-after, use-of, use
 use Rattle.rules.specs.Update.{name-alike, named-twice}
 use Rattle.rules.proofs.Steps.{from-bind, done-inj, not-done}
 use Rattle.tables.proofs.Bools.{or-false}
-use Rattle.formats.specs.Elements.{element-of, sound}
-use Rattle.formats.specs.Syntax.{parsed, by-step, Stepped}
+use Rattle.formats.specs.Elements.{element-of}
+use Rattle.formats.specs.Syntax.{parsed, Stepped}
 use Rattle.formats.specs.declared.Element.{Element}
 use Rattle.formats.specs.declared.syntax.Step.{Step}
 use Rattle.formats.specs.declared.syntax.Step.the-variants as step
-use Rattle.uses.specs.Meant.{use-meant, Means, Remembers, Remembered, uses-of}
-use Rattle.uses.specs.Twice.{Ahead, by-next, Nexts, Named-with}
+use Rattle.uses.specs.Meant.{use-meant, Means, Remembered, uses-of}
+use Rattle.uses.specs.Twice.{Ahead, Nexts}
 use Rattle.uses.specs.declared.Use.{Use}
 use Rattle.uses.specs.declared.Meant.{Meant}
 use Rattle.uses.specs.declared.Meant.the-variants as meant
@@ -73,8 +73,8 @@ module _ (es : List Entry) (f : Bytes) (at : ℕ) (before : List ℕ) where
       same = refl;
       known = span-known es f u (m .held f (s .place));
       answer = λ us w.
-        let r = first-meant e us w [] (done-inj (sym (s .answer) ∙ w .parsed)) u m in
-        r .1 ∙ ap (λ vs. use-meant es f u ∷ vs) (no-uses es _ (r .0) (r .2));
+          let r = first-meant e us w [] (done-inj (sym (s .answer) ∙ w .parsed)) u m in
+          r .1 ∙ ap (λ vs. use-meant es f u ∷ vs) (no-uses es _ (r .0) (r .2));
     }
 
     pub last-refused : Stepped f at (parsed (drop at f)) (step.Last e) → (n : ℕ) → Means es before e (meant.Refused n) → Nexts es f at before before Refused
@@ -97,15 +97,18 @@ module _ (es : List Entry) (f : Bytes) (at : ℕ) (before : List ℕ) where
         same = k .same;
         known = (s .place .0, s .place .1, span-known es f u (m .held f (s .place .2)));
         answer = λ us w.
-          from-bind (parsed (drop next f)) _ (sym (s .answer) ∙ w .parsed) λ ys g q.
-          let r = first-meant e us w ys (done-inj q) u m in
-          (r .0, r .1, record {
-            indexes = indexes-after (use-meant es f u) (w .indexes);
-            left = ys;
-            remembers = k .indexes f (w .indexes) (w .remembers);
-            parsed = g;
-            meant = r .2;
-          });
+            from-bind (parsed (drop next f)) _ (sym (s .answer) ∙ w .parsed) λ ys g q.
+            let r = first-meant e us w ys (done-inj q) u m in (
+              r .0,
+              r .1,
+              record {
+                indexes = indexes-after (use-meant es f u) (w .indexes);
+                left = ys;
+                remembers = k .indexes f (w .indexes) (w .remembers);
+                parsed = g;
+                meant = r .2;
+              },
+            );
       }
 
 -- A test of the uses from one place on answers as that of those from an earlier place on.

@@ -15,9 +15,11 @@ enum-known-b c = search needs
 
 spans-alike-requires : tie.Need-spans-alike-requires
 spans-alike-requires c κs =
-    let s = c .before .before .before .before .before .before .before in
-    (s .pre .0, subst (Span-known (entries-of (s .args .t .now))) (c .before .before .before .before .a .given .1) (s .pre .1),
-    subst (Span-known (entries-of (s .args .t .now))) (c .before .b .given .1) (s .pre .2))
+    let s = c .before .before .before .before .before .before .before in (
+      s .pre .0,
+      subst (Span-known (entries-of (s .args .t .now))) (c .before .before .before .before .a .given .1) (s .pre .1),
+      subst (Span-known (entries-of (s .args .t .now))) (c .before .b .given .1) (s .pre .2),
+    )
 
 enum-told : tie.Need-enum-told
 enum-told c = search needs

@@ -53,9 +53,12 @@ loop-less c =
 loop-again : tie.Need-loop-again Inv-loop μ-loop
 loop-again c =
     let s = c .before .before .before .before .before .before .before .before .before .before in
-    let n = nexts-as (c .before .before .before .v .given .1) (c .before .before .before .before .before .next-use .ensures) in
-    (n .known .1, n .same ∙ c .before .before .before .before .before .before .before .loop .inv .1, rest-more (any (name-alike (use-meant (entries-of (s .args .t .now)) (s .args .f .now) (s .args .u)))) (entries-of (s .args .t .now)) (s .args .f .now) (s .args .indexes) (s .args .place) _ _ _ (c .before .before .before .before .before .before .before .loop .inv .2) _ _ n
-    (λ vs w. any-unmet (use-meant (entries-of (s .args .t .now)) (s .args .f .now) (s .args .u)) (use-meant (entries-of (s .args .t .now)) (s .args .f .now) (c .before .before .before .v .given .0 .0)) vs _ (c .before .name-alike .ensures (s .args .f .now)) (c .if1 .left)))
+    let n = nexts-as (c .before .before .before .v .given .1) (c .before .before .before .before .before .next-use .ensures) in (
+      n .known .1,
+      n .same ∙ c .before .before .before .before .before .before .before .loop .inv .1,
+      rest-more (any (name-alike (use-meant (entries-of (s .args .t .now)) (s .args .f .now) (s .args .u)))) (entries-of (s .args .t .now)) (s .args .f .now) (s .args .indexes) (s .args .place) _ _ _ (c .before .before .before .before .before .before .before .loop .inv .2) _ _ n
+          (λ vs w. any-unmet (use-meant (entries-of (s .args .t .now)) (s .args .f .now) (s .args .u)) (use-meant (entries-of (s .args .t .now)) (s .args .f .now) (c .before .before .before .v .given .0 .0)) vs _ (c .before .name-alike .ensures (s .args .f .now)) (c .if1 .left)),
+    )
 
 enum-known-v-2 : tie.Need-enum-known-v-2 Inv-loop μ-loop
 enum-known-v-2 c = search needs
