@@ -6,3 +6,5 @@ pub mod Finding
 pub mod Remembering
 pub mod Testing
 pub mod SpanFields
+pub mod Sharing
+pub mod Ahead

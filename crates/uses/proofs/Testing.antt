@@ -54,11 +54,11 @@ from-is-done : {A C : Type 0} (o : Outcome A) → is-done o ≡ true → ((a : A
 from-is-done (done a) e k = k a refl
 from-is-done (refused n) e k = clash (sym e)
 
-no-index : (n : ℕ) → last-index n [] ≡ 0
+pub no-index : (n : ℕ) → last-index n [] ≡ 0
 unfolding last-index look-up
 no-index n = refl
 
-zeros : (k i : ℕ) → _≡_ {A = ℕ} (getD (replicate k 0) i 0) 0
+pub zeros : (k i : ℕ) → _≡_ {A = ℕ} (getD (replicate k 0) i 0) 0
 zeros zero zero = refl
 zeros zero (suc i) = refl
 zeros (suc k) zero = refl
@@ -68,7 +68,7 @@ uses-all : (es : List Entry) (f : Bytes) (xs : List rules.Element) → elements 
 unfolding uses-of
 uses-all es f xs e = rw e
 
-parsed-all : (f : Bytes) (xs : List rules.Element) → elements f ≡ done xs → parsed f ≡ done xs
+pub parsed-all : (f : Bytes) (xs : List rules.Element) → elements f ≡ done xs → parsed f ≡ done xs
 unfolding elements parsed
 parsed-all f xs e = from-need (leb (length f) longest-format) 3 _ e λ t k. k
 

@@ -1,4 +1,6 @@
 // The use rules: what an element means by a valid table, or the number of its refusal, 4 or 5.
+pub mod twice;
+
 use formats::Count;
 use formats::Element;
 use formats::Named;

@@ -1,0 +1,185 @@
+-- Two spans of entries have a field in common where one entry of both is a field: names differ. Assumes nothing.
+use mathlib.Core.Path.{_≡_, refl, sym, ap, subst, _∙_}
+use mathlib.Core.Bool.{Bool, true, false, _&&_, _||_}
+use mathlib.Core.List.{List, [], _∷_}
+use Prim.Native.Nat.{ℕ, zero, suc, _+_, _-_, _<_, _≤_, max}
+use native.Mathlib.Omega.{arith}
+use lib.Dec.{eqb, eqb→eq}
+use lib.ListN.{length, getD}
+use Rattle.rules.specs.Lists.{Bytes, any}
+use Rattle.rules.specs.Table.{What, field, group, Entry}
+use Rattle.rules.specs.Use.{Asked, as-stored}
+use Rattle.rules.specs.Use as rules
+use Rattle.rules.specs.Update.{meet, share, name-alike}
+use Rattle.rules.proofs.Steps.{by-test, true-T, eqb-same}
+use Rattle.buffer.proofs.Cases.{by-order}
+use Rattle.tables.specs.Entries.{blank, is-group}
+use Rattle.tables.specs.Groups.{field-by, field-at}
+use Rattle.tables.proofs.Bools.{clash, and-true, and-false, or-true}
+use Rattle.formats.specs.Elements.{range}
+use Rattle.uses.specs.Meant.{fields-from, asked-of, use-meant, Span-held}
+use Rattle.uses.specs.Twice.{stored-fields}
+use Rattle.uses.specs.declared.Span.{Span}
+use Rattle.uses.specs.declared.Use.the-variants.{Values}
+use Rattle.uses.proofs.SpanFields.{no-entry, field-entry, group-entry, asked-one, asked-stored}
+
+name-by : (n : ℕ) (w : What) → field-by n w .name ≡ n
+unfolding field-by
+name-by n (field f s m) = refl
+name-by n (group p) = refl
+
+stored-name : (es : List Entry) (k : ℕ) → as-stored (field-at es k) .field .name ≡ getD es k blank .name
+unfolding as-stored field-at
+stored-name es k = name-by (getD es k blank .name) (getD es k blank .what)
+
+-- One of a list meets a test: the first, or another.
+from-or : {C : Type 0} (a b : Bool) → (a || b) ≡ true → (a ≡ true → C) → (b ≡ true → C) → C
+from-or true b e k l = k refl
+from-or false b e k l = l e
+
+or-left : (a b : Bool) → a ≡ true → (a || b) ≡ true
+or-left a b e = rw e
+
+or-right : (a b : Bool) → b ≡ true → (a || b) ≡ true
+or-right a b e = rw e (or-true a)
+
+any-none : {A : Type 0} (p : A → Bool) → any p [] ≡ false
+unfolding any
+any-none p = refl
+
+any-more : {A : Type 0} (p : A → Bool) (x : A) (xs : List A) → any p (x ∷ xs) ≡ (p x || any p xs)
+unfolding any
+any-more p x xs = refl
+
+module _ (es : List Entry) (p : Asked → Bool) where
+  none-stored : (k end : ℕ) → end ≤ k → any p (stored-fields es k end) ≡ false
+  none-stored k end h = rw (no-entry es k end h) (any-none p)
+
+  module _ (k end : ℕ) (h : k < end) (l : end ≤ length es) where
+    field-stored : is-group (getD es k blank .what) ≡ false → any p (stored-fields es k end) ≡ (p (as-stored (field-at es k)) || any p (stored-fields es (k + 1) end))
+    field-stored g = rw (field-entry es k end h l g) (any-more p _ _)
+
+    group-stored : is-group (getD es k blank .what) ≡ true → any p (stored-fields es k end) ≡ any p (stored-fields es (k + 1) end)
+    group-stored g = rw (group-entry es k end h l g)
+
+  -- A field that meets a test is one of the entries; and one of the entries that does, is a field that does.
+  from-any : {C : Type 0} (n k end : ℕ) → end ≤ k + n → end ≤ length es → any p (stored-fields es k end) ≡ true
+      → ((i : ℕ) → k ≤ i → i < end → is-group (getD es i blank .what) ≡ false → p (as-stored (field-at es i)) ≡ true → C) → C
+  from-any zero k end s l e c = clash (sym e ∙ none-stored k end (omega arith))
+  from-any (suc n) k end s l e c =
+      by-order k end
+      (λ h. by-test (is-group (getD es k blank .what))
+      (λ g. from-any n (k + 1) end (omega arith) l (sym (group-stored k end h l g) ∙ e) (λ i a. c i (omega arith)))
+      (λ g. from-or _ _ (sym (field-stored k end h l g) ∙ e)
+      (λ t. c k (omega arith) h g t)
+      (λ t. from-any n (k + 1) end (omega arith) l t (λ i a. c i (omega arith)))))
+      (λ h. clash (sym e ∙ none-stored k end h))
+
+  any-at : (n k end i : ℕ) → i ≡ k + n → i < end → end ≤ length es → is-group (getD es i blank .what) ≡ false → p (as-stored (field-at es i)) ≡ true
+      → any p (stored-fields es k end) ≡ true
+  any-at zero k end i s h l g t =
+      let e : i ≡ k = omega arith in
+      subst (λ j. any p (stored-fields es j end) ≡ true) e (field-stored i end h l g ∙ or-left _ (any p (stored-fields es (i + 1) end)) t)
+  any-at (suc n) k end i s h l g t =
+      let r = any-at n (k + 1) end i (omega arith) h l g t in
+      by-test (is-group (getD es k blank .what))
+      (λ q. group-stored k end (omega arith) l q ∙ r)
+      (λ q. field-stored k end (omega arith) l q ∙ or-right (p (as-stored (field-at es k))) _ r)
+
+unfolded : (fs gs : List Asked) → share fs gs ≡ any (λ a. any (λ b. eqb (a .field .name) (b .field .name)) gs) fs
+unfolding share
+unfolded fs gs = refl
+
+module _ (es : List Entry) (first end low high : ℕ) (l : end ≤ length es) (m : high ≤ length es) where
+  pub shared : (i : ℕ) → first ≤ i → low ≤ i → i < end → i < high → is-group (getD es i blank .what) ≡ false
+      → share (stored-fields es first end) (stored-fields es low high) ≡ true
+  shared i a b c d g =
+      unfolded _ _
+      ∙ any-at es _ (i - first) first end i (omega arith) c l g
+      (any-at es _ (i - low) low high i (omega arith) d m g (eqb-same (as-stored (field-at es i) .field .name)))
+
+  -- Entries of one name are one entry.
+  module _ (one : (i j : ℕ) → i < length es → j < length es → getD es i blank .name ≡ getD es j blank .name → i ≡ j) where
+    pub apart : ((i : ℕ) → first ≤ i → low ≤ i → i < end → i < high → is-group (getD es i blank .what) ≡ true)
+        → share (stored-fields es first end) (stored-fields es low high) ≡ false
+    apart none =
+        by-test (share (stored-fields es first end) (stored-fields es low high))
+        (λ t. from-any es _ end first end (omega arith) l (sym (unfolded _ _) ∙ t) λ i a b g u.
+        from-any es _ high low high (omega arith) m u λ j c d k v.
+        let e : i ≡ j = one i j (omega arith) (omega arith) (sym (stored-name es i) ∙ eqb→eq _ _ (true-T v) ∙ stored-name es j) in
+        clash (sym (none i a (omega arith) b (omega arith)) ∙ g))
+        (λ t. t)
+
+-- The entries of both spans before entry i are groups.
+pub record Apart (es : List Entry) (first low i : ℕ) : Type 0 where
+  pub first-in : first ≤ i
+  pub low-in : low ≤ i
+  pub groups : (k : ℕ) → first ≤ k → low ≤ k → k < i → is-group (getD es k blank .what) ≡ true
+
+pub apart-start : (es : List Entry) (first low i : ℕ) → i ≡ max first low → Apart es first low i
+apart-start es first low i e = record { first-in = omega arith; low-in = omega arith; groups = λ k a b h. absurd (omega arith) }
+
+pub apart-more : {es : List Entry} {first low i : ℕ} → Apart es first low i → is-group (getD es i blank .what) ≡ true → Apart es first low (i + 1)
+apart-more {es} {first} {low} {i} w g = record {
+  first-in = omega (arith, w .first-in);
+  low-in = omega (arith, w .low-in);
+  groups = λ k a b h. by-order k i (λ q. w .groups k a b q) (λ q. let e : i ≡ k = omega arith in subst (λ j. is-group (getD es j blank .what) ≡ true) e g);
+}
+
+-- A span that is one field is that entry alone, and its field is compared by its name.
+module _ (es : List Entry) (s : Span) (h : Span-held es s) where
+  only : s .standard ≡ false → fields-from es (s .first) (s .end) ≡ field-at es (s .first) ∷ []
+  only e =
+      let a = h .alone e in
+      field-entry es (s .first) (s .end) (omega (arith, a .next)) (h .upto) (a .field)
+      ∙ ap (λ fs. field-at es (s .first) ∷ fs) (no-entry es (s .first + 1) (s .end) (omega (arith, a .next)))
+
+  left-stored : (gs : List Asked) → share (asked-of es s) gs ≡ share (stored-fields es (s .first) (s .end)) gs
+  unfolding share any as-stored
+  left-stored gs =
+      by-test (s .standard)
+      (λ e. ap (λ fs. share fs gs) (asked-stored es s (s .standard) e))
+      (λ e. ap (λ fs. share fs gs) (asked-one es s (s .standard) e) ∙ rw (only e))
+
+  right-stored : (fs : List Asked) → share fs (asked-of es s) ≡ share fs (stored-fields es (s .first) (s .end))
+  unfolding share any as-stored
+  right-stored fs =
+      by-test (s .standard)
+      (λ e. ap (share fs) (asked-stored es s (s .standard) e))
+      (λ e. ap (share fs) (asked-one es s (s .standard) e) ∙ rw (only e))
+
+-- What two spans name in common, by the entries and the two pairs of ranges.
+module _ (es : List Entry) (a b : Span) (h : Span-held es a) (k : Span-held es b) (f : Bytes) where
+  abbrev fields-met : Bool
+  fields-met = share (stored-fields es (a .first) (a .end)) (stored-fields es (b .first) (b .end))
+
+  abbrev occurrences-met : Bool
+  occurrences-met = meet (range (a .from) (a .upto)) (range (b .from) (b .upto))
+
+  abbrev values-met : Bool
+  values-met = meet (range (a .«value_from») (a .«value_upto»)) (range (b .«value_from») (b .«value_upto»))
+
+  spans-met : name-alike (use-meant es f (Values a)) (use-meant es f (Values b)) ≡ (fields-met && occurrences-met && values-met)
+  unfolding name-alike
+  spans-met = ap (λ s. s && occurrences-met && values-met) (left-stored es a h (asked-of es b) ∙ right-stored es b k _)
+
+  pub met : (r : Bool) → true ≡ occurrences-met → true ≡ values-met → r ≡ fields-met
+      → r ≡ name-alike (use-meant es f (Values a)) (use-meant es f (Values b))
+  met r p q e = e ∙ sym (spans-met ∙ rw (← p, ← q) (and-true _ ∙ and-true fields-met))
+
+  pub values-apart : false ≡ values-met → false ≡ name-alike (use-meant es f (Values a)) (use-meant es f (Values b))
+  values-apart q = sym (spans-met ∙ rw (← q) (and-false (fields-met && occurrences-met)))
+
+  pub occurrences-apart : false ≡ occurrences-met → false ≡ name-alike (use-meant es f (Values a)) (use-meant es f (Values b))
+  occurrences-apart p = sym (spans-met ∙ rw (← p, and-false fields-met))
+
+-- One item names nothing.
+pub one-left : (x : rules.Item) (u : rules.Use) → name-alike (rules.one x) u ≡ false
+unfolding name-alike
+one-left x (rules.one y) = refl
+one-left x (rules.values gs os vs b) = refl
+
+pub one-right : (u : rules.Use) (x : rules.Item) → name-alike u (rules.one x) ≡ false
+unfolding name-alike
+one-right (rules.one y) x = refl
+one-right (rules.values gs os vs b) x = refl

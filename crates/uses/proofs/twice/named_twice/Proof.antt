@@ -1,0 +1,95 @@
+-- `twice::named_twice` meets its contract: the uses that are left answer as all do. Assumes nothing.
+use mathlib.Core.Path.{_≡_, refl, _∙_}
+use mathlib.Core.Bool.{true, false}
+use Prim.Native.Nat.{_≤_, _-_}
+use native.Mathlib.Omega.{arith}
+use lib.ListN.{length, replicate}
+use Rattle.rules.specs.Update.{named-twice}
+use Rattle.tables.specs.Entries.{entries-of}
+use Rattle.uses.specs.Meant.{use-meant}
+use Rattle.uses.proofs.Ahead.{nexts-as, Rest, rest-start, rest-more, rest-stops, rest-last, rest-refused, twice-met, twice-unmet, twice-last, uses-all}
+use borrow.Author.Needs.{needs}
+use Rattle.uses.proofs.twice.named_twice.Statement.{statement}
+use Rattle.uses.proofs.twice.named_twice.Tie as tie
+
+abbrev Inv-loop : tie.InvT-loop
+Inv-loop t f last₀ at₀ last at = (at ≤ length f) × (length last ≡ 64) × Rest named-twice (entries-of t) f (replicate 64 0) 0 last at
+
+abbrev μ-loop : tie.MeasureT-loop
+μ-loop t f last₀ at₀ last at = length f - at
+
+loop-holds : tie.Need-loop-holds Inv-loop μ-loop
+loop-holds c =
+    let s = c .before .before in
+    (omega arith, refl, rest-start named-twice (entries-of (s .args .t .now)) (s .args .f .now) (replicate 64 0) 0)
+
+next-use-requires : tie.Need-next-use-requires Inv-loop μ-loop
+next-use-requires c κs = search needs
+
+enum-known-u : tie.Need-enum-known-u Inv-loop μ-loop
+enum-known-u c = search needs
+
+named-with-requires : tie.Need-named-with-requires Inv-loop μ-loop
+named-with-requires c κs =
+    let s = c .before .before .before .before .before .before .before .before in
+    let n = nexts-as (c .before .u .given .1) (c .before .before .before .next-use .ensures) in
+    (s .pre, n .known .1, n .same ∙ c .before .before .before .before .before .loop .inv .1, n .known .2)
+
+returns : tie.Need-returns Inv-loop μ-loop
+returns c =
+    let s = c .before .before .before .before .before .before .before .before .before .before in
+    let n = nexts-as (c .before .before .before .u .given .1) (c .before .before .before .before .before .next-use .ensures) in
+    λ us e. rest-stops named-twice (entries-of (s .args .t .now)) (s .args .f .now) (replicate 64 0) 0 _ _ _ (c .before .before .before .before .before .before .before .loop .inv .2) _ _ n true
+    (λ vs w. twice-met (use-meant (entries-of (s .args .t .now)) (s .args .f .now) (c .before .before .before .u .given .0 .0)) vs _ (c .before .named-with .ensures vs w) (c .if1 .taken)) us (uses-all (entries-of (s .args .t .now)) (s .args .f .now) us e)
+
+loop-less : tie.Need-loop-less Inv-loop μ-loop
+loop-less c =
+    let s = c .before .before .before .before .before .before .before .before .before .before in
+    let n = nexts-as (c .before .before .before .u .given .1) (c .before .before .before .before .before .next-use .ensures) in
+    omega (arith, n .known .0, n .known .1)
+
+loop-again : tie.Need-loop-again Inv-loop μ-loop
+loop-again c =
+    let s = c .before .before .before .before .before .before .before .before .before .before in
+    let n = nexts-as (c .before .before .before .u .given .1) (c .before .before .before .before .before .next-use .ensures) in (
+      n .known .1,
+      n .same ∙ c .before .before .before .before .before .before .before .loop .inv .1,
+      rest-more named-twice (entries-of (s .args .t .now)) (s .args .f .now) (replicate 64 0) 0 _ _ _ (c .before .before .before .before .before .before .before .loop .inv .2) _ _ n
+          (λ vs w. twice-unmet (use-meant (entries-of (s .args .t .now)) (s .args .f .now) (c .before .before .before .u .given .0 .0)) vs _ (c .before .named-with .ensures vs w) (c .if1 .left)),
+    )
+
+enum-told : tie.Need-enum-told Inv-loop μ-loop
+enum-told c = search needs
+
+returns-2 : tie.Need-returns-2 Inv-loop μ-loop
+returns-2 c =
+    let s = c .before .before .before .before .before .before .before in
+    let n = nexts-as (c .enum-told .given .1) (c .before .before .next-use .ensures) in
+    λ us e. rest-last named-twice (entries-of (s .args .t .now)) (s .args .f .now) (replicate 64 0) 0 _ _ _ (c .before .before .before .before .loop .inv .2) _ n false (twice-last _) us (uses-all (entries-of (s .args .t .now)) (s .args .f .now) us e)
+
+enum-told-2 : tie.Need-enum-told-2 Inv-loop μ-loop
+enum-told-2 c = search needs
+
+returns-3 : tie.Need-returns-3 Inv-loop μ-loop
+returns-3 c =
+    let s = c .before .before .before .before .before .before .before in
+    let n = nexts-as (c .enum-told2 .given .1) (c .before .before .next-use .ensures) in
+    λ us e. rest-refused named-twice (entries-of (s .args .t .now)) (s .args .f .now) (replicate 64 0) 0 _ _ _ (c .before .before .before .before .loop .inv .2) n false us (uses-all (entries-of (s .args .t .now)) (s .args .f .now) us e)
+
+pub named-twice-spec : {M : Type 1} → statement M
+named-twice-spec =
+    tie.close
+    (tie.spec
+    Inv-loop
+    μ-loop
+    loop-holds
+    next-use-requires
+    enum-known-u
+    named-with-requires
+    returns
+    loop-less
+    loop-again
+    enum-told
+    returns-2
+    enum-told-2
+    returns-3)
