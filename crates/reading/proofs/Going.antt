@@ -59,7 +59,7 @@ module _ (ps : List Part) (r : Record) where
       let m : room - length (b ++ cs) ≡ room - length b - length cs = rw length-append (omega arith) in
       rw (h, need-true (leb (length b) room) 7 t, append-on (room - length b) xs ys cs h₃, ← e, m) (before-both b cs (filled ps r (room - length b - length cs) ys))
 
-  append-off : (room : ℕ) (xs ys : List Item) (k : ℕ) → filled ps r room xs ≡ refused k → filled ps r room (xs ++ ys) ≡ refused k
+  pub append-off : (room : ℕ) (xs ys : List Item) (k : ℕ) → filled ps r room xs ≡ refused k → filled ps r room (xs ++ ys) ≡ refused k
   unfolding filled
   append-off room [] ys k p = absurd (not-done (sym p))
   append-off room (x ∷ xs) ys k p = by-outcome (item-bytes ps r x)

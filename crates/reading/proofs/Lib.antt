@@ -1,3 +1,5 @@
 pub mod Going
+pub mod Running
 pub mod Singles
 pub mod Unbare
+pub mod Values

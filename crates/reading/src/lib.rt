@@ -10,6 +10,17 @@ ghost use Rattle.rules.specs.Characters.{space};
 ghost use Rattle.rules.specs.Values.{allowed, null, carried};
 ghost use Rattle.kinds.specs.Formats.{format-at};
 ghost use Rattle.reading.specs.Filling.{Filling, within};
+ghost use mathlib.Core.Bool.{false};
+ghost use mathlib.Core.List.{List};
+ghost use Rattle.rules.specs.Limits.{highest-index};
+ghost use Rattle.rules.specs.Lists.{Bytes};
+ghost use Rattle.rules.specs.Use.{value-items, just};
+ghost use Rattle.tables.specs.Entries.{Valid, entries-of};
+ghost use Rattle.formats.specs.Elements.{range};
+ghost use Rattle.records.specs.Places.{Holds, Value-of};
+ghost use Rattle.reading.specs.Runs.{Fills, Sound, carried-from, Lies, Cell-holds, asked-at, Askable};
+use records::places::Cell;
+use records::places::Content;
 use values::Fit;
 
 // Where a run of items ends in the record buffer, or the number of its refusal.
@@ -106,4 +117,87 @@ fn put_null(format: usize, size: usize, out: &mut [u8], at: usize, end: usize, w
         return Next::At(at + n);
     }
     Next::At(at + n)
+}
+
+// A value by its content, or null where there is none.
+fn put_item(
+    b: &[u8],
+    content: Content,
+    own: usize,
+    format: usize,
+    size: usize,
+    out: &mut [u8],
+    at: usize,
+    end: usize,
+    write: bool,
+) -> Next
+    requires { ⌜ (own < 5) × (format < 5) × Lies (now b) (format-at own) content × (allowed (format-at format) size ≡ true) × (at ≤ end) × (end ≤ length (now out)) ⌝ }
+    ensures { λ r. ⌜ Filling (within (end - at) (carried-from (now (b .entry)) (format-at own) (format-at format) size content)) at write (now (out .entry)) (now (out .exit)) r ⌝ }
+{
+    match content {
+        Content::At(from, upto) => {
+            put_value(&b[from..upto], own, format, size, out, at, end, write)
+        }
+        Content::Nothing => put_null(format, size, out, at, end, write),
+    }
+}
+
+// Value k of a cell.
+fn content_of(b: &[u8], cell: Cell, own: usize, size: usize, multiple: bool, k: usize) -> Content
+    requires { ⌜ (own < 5) × (allowed (format-at own) size ≡ true) × (1 ≤ k) × ((vs : List Bytes) × Cell-holds (now b) (format-at own) size multiple vs cell) ⌝ }
+    ensures { λ c. ⌜ ((vs : List Bytes) → Cell-holds (now (b .entry)) (format-at own) size multiple vs cell → Value-of (format-at own) size (now (b .entry)) vs k c) ⌝ }
+{
+    match cell {
+        Cell::At(q) => records::places::value_at(b, q, own, size, multiple, k),
+        Cell::Nothing => Content::Nothing,
+    }
+}
+
+// The values from first to last of entry i, a field, in occurrence o, at a format and a length.
+fn put_values(
+    t: &[u8],
+    b: &[u8],
+    places: &[u16; 64],
+    i: usize,
+    o: usize,
+    first: usize,
+    last: usize,
+    format: usize,
+    size: usize,
+    out: &mut [u8],
+    at: usize,
+    end: usize,
+    write: bool,
+) -> Next
+    requires { ⌜ Valid (now t) × Askable (entries-of (now t)) i o format size × (1 ≤ first) × (last ≤ highest-index) × Holds (entries-of (now t)) (now b) (now places) × (at ≤ end) × (end ≤ length (now out)) × Sound (entries-of (now t)) (now b) (now places) (value-items (asked-at (entries-of (now t)) i format size ∷ []) (just o) (range first last) false) at end write ⌝ }
+    ensures { λ r. ⌜ Fills (entries-of (now (t .entry))) (now (b .entry)) (now (places .entry)) (value-items (asked-at (entries-of (now (t .entry))) i format size ∷ []) (just o) (range first last) false) at end write (now (out .entry)) (now (out .exit)) r ⌝ }
+{
+    let e = tables::entry_at(t, i);
+    let cell = records::places::cell_at(t, b, places, i, o);
+    let mut p = at;
+    let mut k = first;
+    while k <= last {
+        let content = content_of(b, cell, e.format as usize, e.size as usize, e.multiple, k);
+        let next = put_item(
+            b,
+            content,
+            e.format as usize,
+            format,
+            size,
+            out,
+            p,
+            end,
+            write,
+        );
+        match next {
+            Next::Refused(n) => {
+                return Next::Refused(n);
+            }
+            Next::At(place) => {
+                p = place;
+            }
+        }
+        k += 1;
+    }
+    Next::At(p)
 }
