@@ -1,5 +1,6 @@
 pub mod Going
 pub mod Running
 pub mod Singles
+pub mod Spans
 pub mod Unbare
 pub mod Values

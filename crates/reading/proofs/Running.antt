@@ -79,3 +79,15 @@ filled-one ps r room x = by-outcome (item-bytes ps r x)
 pub run-same : {es : List Entry} {b : Bytes} {places : List ℕ} {end : ℕ} {whole rest : List Item} {start at : ℕ} {write : Bool} {out₀ out : Bytes}
     → Running es b places end whole rest start at write out₀ out → length out ≡ length out₀
 run-same g = g .going (g .holds .0) (g .holds .1) .same
+
+-- The same items, said otherwise.
+module _ (es : List Entry) (b : Bytes) (places : List ℕ) {xs ys : List Item} (e : xs ≡ ys) (at end : ℕ) (write : Bool) where
+  pub sound-as : Sound es b places xs at end write → Sound es b places ys at end write
+  sound-as = subst (λ (zs : List Item). Sound es b places zs at end write) e
+
+  pub fills-as : {out out′ : Bytes} {n : Next} → Fills es b places ys at end write out out′ n → Fills es b places xs at end write out out′ n
+  fills-as {out} {out′} {n} = subst (λ (zs : List Item). Fills es b places zs at end write out out′ n) (sym e)
+
+  -- No item: nothing changes.
+  pub fills-none : {out : Bytes} → ys ≡ [] → Holds es b places → at ≤ end → end ≤ length out → Sound es b places xs at end write → Fills es b places xs at end write out out (At at)
+  fills-none {out} none k h l s = run-end (run-start es b places end xs at write out k h l s) (e ∙ none)

@@ -7,14 +7,16 @@ use native.Mathlib.Omega.{arith}
 use lib.ListN.{length, getD, take, drop, length-take, length-drop}
 use Rattle.rules.specs.Outcome.{Outcome, done}
 use Rattle.rules.specs.Lists.{Bytes}
-use Rattle.rules.specs.Values.{Format, content, allowed, converts, carried, null}
+use Rattle.rules.specs.Values.{Format, alpha, binary, fixed, packed, unpacked, conversion, content, allowed, converts, carried, null}
 use Rattle.rules.specs.Table.{What, field, group, Entry, parts}
 use Rattle.rules.specs.Record.{Record, values-at, value-at}
+use Rattle.rules.specs.Use.{as-stored}
 use Rattle.rules.specs.Services.{item-bytes}
 use Rattle.rules.proofs.Ranges.{item-at}
 use Rattle.values.proofs.Meant.{null-carried}
 use Rattle.kinds.specs.Formats.{format-at}
-use Rattle.tables.specs.Entries.{Valid, entries-of, blank, decoded, format-number, size-of, is-multiple}
+use Rattle.tables.specs.Entries.{Valid, entries-of, blank, decoded, format-number, size-of, is-multiple, is-group}
+use Rattle.tables.specs.Places.{inside-at}
 use Rattle.tables.specs.Groups.{field-by, field-at}
 use Rattle.tables.specs.declared.Entry.{Entry as Row}
 use Rattle.tables.proofs.Known.{field-known}
@@ -79,14 +81,47 @@ name-at : (es : List Entry) (i : ℕ) → field-at es i .name ≡ getD es i blan
 unfolding field-at
 name-at es i = name-by (getD es i blank .name) (getD es i blank .what)
 
--- A field that is asked for, by the numbers that the code has of its entry.
-module _ (t b : Bytes) (places : List ℕ) (v : Valid t) {i o g n : ℕ} (w : Askable (entries-of t) i o g n) (e : Row) (q : e ≡ decoded (getD (entries-of t) i blank)) where
+converts-itself : (f : Format) → converts f f ≡ true
+unfolding converts conversion
+converts-itself alpha = refl
+converts-itself binary = refl
+converts-itself fixed = refl
+converts-itself packed = refl
+converts-itself unpacked = refl
+
+-- A field by the numbers that the code has of its entry.
+module _ (t : Bytes) (v : Valid t) {i : ℕ} (known : i < length (entries-of t)) (single : is-group (getD (entries-of t) i blank .what) ≡ false)
+    (e : Row) (q : e ≡ decoded (getD (entries-of t) i blank)) where
   pub own-small : e .format < 5
-  own-small = rw q (field-known t v i (w .known) (w .field) .0)
+  own-small = rw q (field-known t v i known single .0)
 
   pub own-allowed : allowed (format-at (e .format)) (e .size) ≡ true
-  own-allowed = rw q (field-known t v i (w .known) (w .field) .1)
+  own-allowed = rw q (field-known t v i known single .1)
 
+  own-format : field-at (entries-of t) i .format ≡ format-at (e .format)
+  own-format = rw q (format-of-field (entries-of t) i single .0)
+
+  own-size : field-at (entries-of t) i .size ≡ e .size
+  own-size = rw q (size-at (entries-of t) i)
+
+  -- It may be asked for as it is stored.
+  pub own-askable : (o : ℕ) → 1 ≤ o → (inside-at (entries-of t) i ≡ false → o ≡ 1) → Askable (entries-of t) i o (e .format) (e .size)
+  own-askable o low only = record {
+    known = known;
+    field = single;
+    first = low;
+    only = only;
+    format = own-small;
+    allowed = own-allowed;
+    converts = rw own-format (converts-itself (format-at (e .format)));
+  }
+
+  pub own-asked : as-stored (field-at (entries-of t) i) ≡ asked-at (entries-of t) i (e .format) (e .size)
+  unfolding as-stored
+  own-asked = rw (← own-format, ← own-size)
+
+-- A field that is asked for, where its cell is found.
+module _ (t b : Bytes) (places : List ℕ) (v : Valid t) {i o g n : ℕ} (w : Askable (entries-of t) i o g n) (e : Row) (q : e ≡ decoded (getD (entries-of t) i blank)) where
   module _ (cell : Cell) (at-cell : (r : Record) → Held (entries-of t) b places r → Cell-of (entries-of t) b i o r cell) where
     pub cell-holds : (r : Record) → Held (entries-of t) b places r
         → Cell-holds b (format-at (e .format)) (e .size) (e .multiple) (values-at (parts (entries-of t)) r (getD (entries-of t) i blank .name) o) cell
@@ -97,16 +132,10 @@ module _ (t b : Bytes) (places : List ℕ) (v : Valid t) {i o g n : ℕ} (w : As
         held (Stands p) x = (x .0, x .1, sym (cell-numbers (entries-of t) i (drop p b) (w .field)) ∙ x .2)
         held None x = x
 
-    own-format : field-at (entries-of t) i .format ≡ format-at (e .format)
-    own-format = rw q (format-of-field (entries-of t) i (w .field) .0)
-
-    own-size : field-at (entries-of t) i .size ≡ e .size
-    own-size = rw q (size-at (entries-of t) i)
-
     item-found : (r : Record) (k : ℕ) → item-bytes (parts (entries-of t)) r (item-at false (asked-at (entries-of t) i g n) o k)
         ≡ carried (format-at (e .format)) (format-at g) n (content (e .size) (getD (values-at (parts (entries-of t)) r (getD (entries-of t) i blank .name) o) (pred k) (null (format-at (e .format)) (e .size))))
     unfolding item-bytes value-at
-    item-found r k = rw (own-format, own-size, name-at (entries-of t) i)
+    item-found r k = rw (own-format t v (w .known) (w .field) e q, own-size t v (w .known) (w .field) e q, name-at (entries-of t) i)
 
     -- The item of a value, from what was found of it and what was put.
     pub value-fills : (k at end : ℕ) (write : Bool) {out out′ : Bytes} {m : Next} (c : Content) → 1 ≤ k
@@ -115,6 +144,6 @@ module _ (t b : Bytes) (places : List ℕ) (v : Valid t) {i o g n : ℕ} (w : As
         → Fills (entries-of t) b places (item-at false (asked-at (entries-of t) i g n) o k ∷ []) at end write out out′ m
     value-fills k at end write {out} {out′} {m} c low found f r h =
         let vs = values-at (parts (entries-of t)) r (getD (entries-of t) i blank .name) o in
-        let goes = subst (λ (x : Format). converts x (format-at g) ≡ true) own-format (w .converts) in
+        let goes = subst (λ (x : Format). converts x (format-at g) ≡ true) (own-format t v (w .known) (w .field) e q) (w .converts) in
         subst (λ (x : Outcome Bytes). Filling x at write out out′ m) (sym (filled-one (parts (entries-of t)) r (end - at) (item-at false (asked-at (entries-of t) i g n) o k)
-        ∙ ap (within (end - at)) (item-found r k ∙ carried-found (format-at (e .format)) (format-at g) (e .size) n b vs k low own-allowed goes (w .allowed) c (found vs (cell-holds r h))))) f
+        ∙ ap (within (end - at)) (item-found r k ∙ carried-found (format-at (e .format)) (format-at g) (e .size) n b vs k low (own-allowed t v (w .known) (w .field) e q) goes (w .allowed) c (found vs (cell-holds r h))))) f

@@ -1,7 +1,7 @@
 -- A run of items filled into a record buffer, for whatever record the bytes hold.
 use mathlib.Core.Path.{_≡_}
 use mathlib.Core.Bool.{Bool, true, false}
-use mathlib.Core.List.{List, []}
+use mathlib.Core.List.{List, [], map}
 use Prim.Native.Nat.{ℕ, _-_, _≤_, _<_}
 use lib.ListN.{length, take, drop, getD}
 use Rattle.rules.specs.Outcome.{Outcome, done, is-done}
@@ -9,12 +9,15 @@ use Rattle.rules.specs.Lists.{Bytes}
 use Rattle.rules.specs.Values.{Format, allowed, converts, carried, null}
 use Rattle.rules.specs.Table.{Entry, parts}
 use Rattle.rules.specs.Record.{Record, counted, stored-value}
-use Rattle.rules.specs.Use.{Item, Asked}
+use Rattle.rules.specs.Use.{Item, Asked, as-stored, value-items, just}
 use Rattle.rules.specs.Services.{filled}
 use Rattle.kinds.specs.Formats.{format-at}
 use Rattle.tables.specs.Entries.{blank, is-group}
 use Rattle.tables.specs.Places.{inside-at}
 use Rattle.tables.specs.Groups.{field-at}
+use Rattle.formats.specs.Elements.{range}
+use Rattle.uses.specs.Meant.{fields-from, asked-of}
+use Rattle.uses.specs.declared.Span.{Span}
 use Rattle.records.specs.Places.{Held}
 use Rattle.records.specs.declared.places.Cell.{Cell}
 use Rattle.records.specs.declared.places.Cell.the-variants as cell
@@ -61,3 +64,18 @@ pub record Askable (es : List Entry) (i o g n : ℕ) : Type 0 where
   pub format : g < 5
   pub allowed : allowed (format-at g) n ≡ true
   pub converts : converts (field-at es i .format) (format-at g) ≡ true
+
+-- In occurrence o, each of the entries from one number up to another lies in a periodic group, or o is 1.
+abbrev pub Only : List Entry → ℕ → ℕ → ℕ → Type 0
+Only es first end o = (j : ℕ) → first ≤ j → j < end → inside-at es j ≡ false → o ≡ 1
+
+-- The items, in one occurrence, of the fields among the entries from one number up to another, each as it is stored.
+abbrev pub field-items : List Entry → ℕ → ℕ → ℕ → ℕ → ℕ → List Item
+field-items es first stop o low high = value-items (map as-stored (fields-from es first stop)) (just o) (range low high) false
+
+-- The items of a span in one occurrence; and in those from one on.
+abbrev pub row-items : List Entry → Span → ℕ → List Item
+row-items es s o = value-items (asked-of es s) (just o) (range (s .«value_from») (s .«value_upto»)) false
+
+abbrev pub span-items : List Entry → Span → ℕ → List Item
+span-items es s o = value-items (asked-of es s) (range o (s .upto)) (range (s .«value_from») (s .«value_upto»)) false

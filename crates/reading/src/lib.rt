@@ -18,9 +18,12 @@ ghost use Rattle.rules.specs.Use.{value-items, just};
 ghost use Rattle.tables.specs.Entries.{Valid, entries-of};
 ghost use Rattle.formats.specs.Elements.{range};
 ghost use Rattle.records.specs.Places.{Holds, Value-of};
-ghost use Rattle.reading.specs.Runs.{Fills, Sound, carried-from, Lies, Cell-holds, asked-at, Askable};
+ghost use Rattle.reading.specs.Runs.{Fills, Sound, carried-from, Lies, Cell-holds, asked-at, Askable, Only, field-items, row-items, span-items};
+ghost use Rattle.tables.specs.Places.{inside-at};
+ghost use Rattle.uses.specs.Meant.{Span-held};
 use records::places::Cell;
 use records::places::Content;
+use uses::Span;
 use values::Fit;
 
 // Where a run of items ends in the record buffer, or the number of its refusal.
@@ -198,6 +201,158 @@ fn put_values(
             }
         }
         k += 1;
+    }
+    Next::At(p)
+}
+
+// The values from low to high of entry j in occurrence o, where it is a field, at its own format and length; a group adds nothing.
+fn put_field(
+    t: &[u8],
+    b: &[u8],
+    places: &[u16; 64],
+    j: usize,
+    o: usize,
+    low: usize,
+    high: usize,
+    out: &mut [u8],
+    at: usize,
+    end: usize,
+    write: bool,
+) -> Next
+    requires { ⌜ Valid (now t) × (j < length (entries-of (now t))) × (1 ≤ o) × (inside-at (entries-of (now t)) j ≡ false → o ≡ 1) × (1 ≤ low) × (high ≤ highest-index) × Holds (entries-of (now t)) (now b) (now places) × (at ≤ end) × (end ≤ length (now out)) × Sound (entries-of (now t)) (now b) (now places) (field-items (entries-of (now t)) j (j + 1) o low high) at end write ⌝ }
+    ensures { λ r. ⌜ Fills (entries-of (now (t .entry))) (now (b .entry)) (now (places .entry)) (field-items (entries-of (now (t .entry))) j (j + 1) o low high) at end write (now (out .entry)) (now (out .exit)) r ⌝ }
+{
+    let e = tables::entry_at(t, j);
+    if e.format == tables::GROUP {
+        return Next::At(at);
+    }
+    put_values(
+        t,
+        b,
+        places,
+        j,
+        o,
+        low,
+        high,
+        e.format as usize,
+        e.size as usize,
+        out,
+        at,
+        end,
+        write,
+    )
+}
+
+// The same of the entries from first up to stop.
+fn put_fields(
+    t: &[u8],
+    b: &[u8],
+    places: &[u16; 64],
+    first: usize,
+    stop: usize,
+    o: usize,
+    low: usize,
+    high: usize,
+    out: &mut [u8],
+    at: usize,
+    end: usize,
+    write: bool,
+) -> Next
+    requires { ⌜ Valid (now t) × (first ≤ stop) × (stop ≤ length (entries-of (now t))) × (1 ≤ o) × Only (entries-of (now t)) first stop o × (1 ≤ low) × (high ≤ highest-index) × Holds (entries-of (now t)) (now b) (now places) × (at ≤ end) × (end ≤ length (now out)) × Sound (entries-of (now t)) (now b) (now places) (field-items (entries-of (now t)) first stop o low high) at end write ⌝ }
+    ensures { λ r. ⌜ Fills (entries-of (now (t .entry))) (now (b .entry)) (now (places .entry)) (field-items (entries-of (now (t .entry))) first stop o low high) at end write (now (out .entry)) (now (out .exit)) r ⌝ }
+{
+    let mut p = at;
+    let mut j = first;
+    while j < stop {
+        let next = put_field(t, b, places, j, o, low, high, out, p, end, write);
+        match next {
+            Next::Refused(n) => {
+                return Next::Refused(n);
+            }
+            Next::At(place) => {
+                p = place;
+            }
+        }
+        j += 1;
+    }
+    Next::At(p)
+}
+
+// A span in occurrence o.
+fn put_row(
+    t: &[u8],
+    b: &[u8],
+    places: &[u16; 64],
+    s: Span,
+    o: usize,
+    out: &mut [u8],
+    at: usize,
+    end: usize,
+    write: bool,
+) -> Next
+    requires { ⌜ Valid (now t) × Span-held (entries-of (now t)) s × (1 ≤ o) × Only (entries-of (now t)) (s .first) (s .end) o × Holds (entries-of (now t)) (now b) (now places) × (at ≤ end) × (end ≤ length (now out)) × Sound (entries-of (now t)) (now b) (now places) (row-items (entries-of (now t)) s o) at end write ⌝ }
+    ensures { λ r. ⌜ Fills (entries-of (now (t .entry))) (now (b .entry)) (now (places .entry)) (row-items (entries-of (now (t .entry))) s o) at end write (now (out .entry)) (now (out .exit)) r ⌝ }
+{
+    if s.standard {
+        return put_fields(
+            t,
+            b,
+            places,
+            s.first,
+            s.end,
+            o,
+            s.value_from,
+            s.value_upto,
+            out,
+            at,
+            end,
+            write,
+        );
+    }
+    put_values(
+        t,
+        b,
+        places,
+        s.first,
+        o,
+        s.value_from,
+        s.value_upto,
+        s.format,
+        s.size,
+        out,
+        at,
+        end,
+        write,
+    )
+}
+
+// A span.
+fn put_span(
+    t: &[u8],
+    b: &[u8],
+    places: &[u16; 64],
+    s: Span,
+    out: &mut [u8],
+    at: usize,
+    end: usize,
+    write: bool,
+) -> Next
+    requires { ⌜ Valid (now t) × Span-held (entries-of (now t)) s × Only (entries-of (now t)) (s .first) (s .end) (s .upto) × Holds (entries-of (now t)) (now b) (now places) × (at ≤ end) × (end ≤ length (now out)) × Sound (entries-of (now t)) (now b) (now places) (span-items (entries-of (now t)) s (s .from)) at end write ⌝ }
+    ensures { λ r. ⌜ Fills (entries-of (now (t .entry))) (now (b .entry)) (now (places .entry)) (span-items (entries-of (now (t .entry))) s (s .from)) at end write (now (out .entry)) (now (out .exit)) r ⌝ }
+{
+    let mut p = at;
+    let mut o = s.from;
+    while o <= s.upto {
+        let next = put_row(t, b, places, s, o, out, p, end, write);
+        match next {
+            Next::Refused(n) => {
+                return Next::Refused(n);
+            }
+            Next::At(place) => {
+                p = place;
+            }
+        }
+        o += 1;
     }
     Next::At(p)
 }

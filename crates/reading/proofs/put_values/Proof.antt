@@ -52,7 +52,7 @@ content-of-requires c κs =
     let l = c .before .before .before .loop in
     let e = c .before .before .before .before .before .entry-at in
     let y = c .before .before .before .before .cell-at in
-    (own-small (a .t .now) (a .b .now) (a .places .now) (s .pre .0) (s .pre .1) (e .result) (e .ensures), own-allowed (a .t .now) (a .b .now) (a .places .now) (s .pre .0) (s .pre .1) (e .result) (e .ensures), l .inv .1, ((values-at (parts (entries-of (a .t .now))) (s .pre .4 .0) (getD (entries-of (a .t .now)) (a .i) blank .name) (a .o)), cell-holds (a .t .now) (a .b .now) (a .places .now) (s .pre .0) (s .pre .1) (e .result) (e .ensures) (y .result) (y .ensures) (s .pre .4 .0) (s .pre .4 .1)))
+    (own-small (a .t .now) (s .pre .0) (s .pre .1 .known) (s .pre .1 .field) (e .result) (e .ensures), own-allowed (a .t .now) (s .pre .0) (s .pre .1 .known) (s .pre .1 .field) (e .result) (e .ensures), l .inv .1, ((values-at (parts (entries-of (a .t .now))) (s .pre .4 .0) (getD (entries-of (a .t .now)) (a .i) blank .name) (a .o)), cell-holds (a .t .now) (a .b .now) (a .places .now) (s .pre .0) (s .pre .1) (e .result) (e .ensures) (y .result) (y .ensures) (s .pre .4 .0) (s .pre .4 .1)))
 
 cast-put-item : tie.Need-cast-put-item Inv-loop μ-loop
 cast-put-item c = search needs
@@ -65,7 +65,7 @@ put-item-requires c κs =
     let e = c .before .before .before .before .before .before .before .before .entry-at in
     let y = c .before .before .before .before .before .before .before .cell-at in
     let x = c .before .before .content-of in (
-      own-small (a .t .now) (a .b .now) (a .places .now) (s .pre .0) (s .pre .1) (e .result) (e .ensures),
+      own-small (a .t .now) (s .pre .0) (s .pre .1 .known) (s .pre .1 .field) (e .result) (e .ensures),
       s .pre .1 .format,
       value-lies (format-at (e .result .format)) (e .result .size) (a .b .now) (values-at (parts (entries-of (a .t .now))) (s .pre .4 .0) (getD (entries-of (a .t .now)) (a .i) blank .name) (a .o)) (l .k) (x .result) (x .ensures (values-at (parts (entries-of (a .t .now))) (s .pre .4 .0) (getD (entries-of (a .t .now)) (a .i) blank .name) (a .o)) (cell-holds (a .t .now) (a .b .now) (a .places .now) (s .pre .0) (s .pre .1) (e .result) (e .ensures) (y .result) (y .ensures) (s .pre .4 .0) (s .pre .4 .1))),
       s .pre .1 .allowed,
