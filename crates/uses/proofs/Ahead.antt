@@ -49,7 +49,7 @@ no-uses : (es : List Entry) (ls : Indexes) (us : List Meaning) → uses es ls []
 unfolding uses
 no-uses es ls us e = sym (done-inj e)
 
-module _ (es : List Entry) (f : Bytes) (at : ℕ) (before : List ℕ) where
+module _ {es : List Entry} {f : Bytes} {at : ℕ} {before : List ℕ} where
   -- An element before those that are left.
   module _ (e : Element) (us : List Meaning) (w : Ahead es f before at us) (xs : List rules.Element) (q : element-of f e ∷ xs ≡ w .left) where
     first-refused : (n : ℕ) → Means es before e (meant.Refused n) → ⊥
@@ -67,9 +67,9 @@ module _ (es : List Entry) (f : Bytes) (at : ℕ) (before : List ℕ) where
   pub next-bad : Stepped f at (parsed (drop at f)) step.Bad → Nexts es f at before before Refused
   next-bad s = record { same = refl; known = tt; answer = λ us w. not-done (sym (s .answer) ∙ w .parsed) }
 
-  module _ (e : Element) where
-    pub next-last : Stepped f at (parsed (drop at f)) (step.Last e) → (u : Use) → Means es before e (meant.As u) → Nexts es f at before before (Last u)
-    next-last s u m = record {
+  module _ {e : Element} where
+    pub next-last : Stepped f at (parsed (drop at f)) (step.Last e) → {u : Use} → Means es before e (meant.As u) → Nexts es f at before before (Last u)
+    next-last s {u} m = record {
       same = refl;
       known = span-known es f u (m .held f (s .place));
       answer = λ us w.
@@ -77,23 +77,23 @@ module _ (es : List Entry) (f : Bytes) (at : ℕ) (before : List ℕ) where
           r .1 ∙ ap (λ vs. use-meant es f u ∷ vs) (no-uses es _ (r .0) (r .2));
     }
 
-    pub last-refused : Stepped f at (parsed (drop at f)) (step.Last e) → (n : ℕ) → Means es before e (meant.Refused n) → Nexts es f at before before Refused
-    last-refused s n m = record {
+    pub last-refused : Stepped f at (parsed (drop at f)) (step.Last e) → {n : ℕ} → Means es before e (meant.Refused n) → Nexts es f at before before Refused
+    last-refused s {n} m = record {
       same = refl;
       known = tt;
       answer = λ us w. first-refused e us w [] (done-inj (sym (s .answer) ∙ w .parsed)) n m;
     }
 
-    module _ (next : ℕ) (s : Stepped f at (parsed (drop at f)) (step.More e next)) where
-      pub more-refused : (n : ℕ) → Means es before e (meant.Refused n) → Nexts es f at before before Refused
-      more-refused n m = record {
+    module _ {next : ℕ} (s : Stepped f at (parsed (drop at f)) (step.More e next)) where
+      pub more-refused : {n : ℕ} → Means es before e (meant.Refused n) → Nexts es f at before before Refused
+      more-refused {n} m = record {
         same = refl;
         known = tt;
         answer = λ us w. from-bind (parsed (drop next f)) _ (sym (s .answer) ∙ w .parsed) λ ys g q. first-refused e us w ys (done-inj q) n m;
       }
 
-      pub next-more : (u : Use) → Means es before e (meant.As u) → (after : List ℕ) → Remembered es u before after → Nexts es f at before after (More u next)
-      next-more u m after k = record {
+      pub next-more : {u : Use} → Means es before e (meant.As u) → {after : List ℕ} → Remembered es u before after → Nexts es f at before after (More u next)
+      next-more {u} m k = record {
         same = k .same;
         known = (s .place .0, s .place .1, span-known es f u (m .held f (s .place .2)));
         answer = λ us w.
@@ -112,51 +112,54 @@ module _ (es : List Entry) (f : Bytes) (at : ℕ) (before : List ℕ) where
       }
 
 -- A test of the uses from one place on answers as that of those from an earlier place on.
-abbrev pub Rest : (List Meaning → Bool) → List Entry → Bytes → List ℕ → ℕ → List ℕ → ℕ → Type 0
-Rest g es f last₀ at₀ last at = (us : List Meaning) → Ahead es f last₀ at₀ us → (vs : List Meaning) × Ahead es f last at vs × (g vs ≡ g us)
+pub record Rest (g : List Meaning → Bool) (es : List Entry) (f : Bytes) (last₀ : List ℕ) (at₀ : ℕ) (last : List ℕ) (at : ℕ) : Type 0 where
+  pub left : (us : List Meaning) → Ahead es f last₀ at₀ us → (vs : List Meaning) × Ahead es f last at vs × (g vs ≡ g us)
 
-module _ (g : List Meaning → Bool) (es : List Entry) (f : Bytes) (last₀ : List ℕ) (at₀ : ℕ) where
+module _ {g : List Meaning → Bool} {es : List Entry} {f : Bytes} {last₀ : List ℕ} {at₀ : ℕ} where
   pub rest-start : Rest g es f last₀ at₀ last₀ at₀
-  rest-start us w = (us, w, refl)
+  rest-start = record { left = λ us w. (us, w, refl) }
 
-  module _ (last after : List ℕ) (at : ℕ) (h : Rest g es f last₀ at₀ last at) where
-    module _ (u : Use) (next : ℕ) (n : Nexts es f at last after (More u next)) where
+  module _ {last after : List ℕ} {at : ℕ} (h : Rest g es f last₀ at₀ last at) where
+    module _ {u : Use} {next : ℕ} (n : Nexts es f at last after (More u next)) where
       pub rest-more : ((vs : List Meaning) → Ahead es f after next vs → g (use-meant es f u ∷ vs) ≡ g vs) → Rest g es f last₀ at₀ after next
-      rest-more k us w =
-          let r = h us w in
-          let q = n .answer (r .0) (r .1) in
-          (q .0, q .2, sym (k (q .0) (q .2)) ∙ ap g (sym (q .1)) ∙ r .2)
+      rest-more k = record {
+        left = λ us w.
+            let r = h .left us w in
+            let q = n .answer (r .0) (r .1) in
+            (q .0, q .2, sym (k (q .0) (q .2)) ∙ ap g (sym (q .1)) ∙ r .2);
+      }
 
-      pub rest-stops : (b : Bool) → ((vs : List Meaning) → Ahead es f after next vs → b ≡ g (use-meant es f u ∷ vs))
+      pub rest-stops : {b : Bool} → ((vs : List Meaning) → Ahead es f after next vs → b ≡ g (use-meant es f u ∷ vs))
           → (us : List Meaning) → Ahead es f last₀ at₀ us → b ≡ g us
-      rest-stops b k us w =
-          let r = h us w in
+      rest-stops k us w =
+          let r = h .left us w in
           let q = n .answer (r .0) (r .1) in
           k (q .0) (q .2) ∙ ap g (sym (q .1)) ∙ r .2
 
-    pub rest-last : (u : Use) → Nexts es f at last after (Last u) → (b : Bool) → b ≡ g (use-meant es f u ∷ []) → (us : List Meaning) → Ahead es f last₀ at₀ us → b ≡ g us
-    rest-last u n b e us w =
-        let r = h us w in
+    pub rest-last : {u : Use} → Nexts es f at last after (Last u) → {b : Bool} → b ≡ g (use-meant es f u ∷ [])
+        → (us : List Meaning) → Ahead es f last₀ at₀ us → b ≡ g us
+    rest-last n e us w =
+        let r = h .left us w in
         e ∙ ap g (sym (n .answer (r .0) (r .1))) ∙ r .2
 
-    pub rest-refused : Nexts es f at last after Refused → (b : Bool) → (us : List Meaning) → Ahead es f last₀ at₀ us → b ≡ g us
-    rest-refused n b us w = let r = h us w in absurd (n .answer (r .0) (r .1))
+    pub rest-refused : Nexts es f at last after Refused → {b : Bool} → (us : List Meaning) → Ahead es f last₀ at₀ us → b ≡ g us
+    rest-refused n us w = let r = h .left us w in absurd (n .answer (r .0) (r .1))
 
 -- The two tests, by the first use.
-module _ (u v : Meaning) (vs : List Meaning) (b : Bool) (e : b ≡ name-alike u v) where
-  pub any-met : b ≡ true → true ≡ any (name-alike u) (v ∷ vs)
+module _ (u v : Meaning) {b : Bool} (e : b ≡ name-alike u v) where
+  pub any-met : b ≡ true → (vs : List Meaning) → true ≡ any (name-alike u) (v ∷ vs)
   unfolding any
-  any-met t = rw (sym e ∙ t)
+  any-met t vs = rw (sym e ∙ t)
 
-  pub any-unmet : b ≡ false → any (name-alike u) (v ∷ vs) ≡ any (name-alike u) vs
+  pub any-unmet : b ≡ false → (vs : List Meaning) → any (name-alike u) (v ∷ vs) ≡ any (name-alike u) vs
   unfolding any
-  any-unmet t = rw (sym e ∙ t)
+  any-unmet t vs = rw (sym e ∙ t)
 
-pub any-last : (u v : Meaning) (b : Bool) → b ≡ name-alike u v → b ≡ any (name-alike u) (v ∷ [])
-unfolding any
-any-last u v b e = e ∙ sym (or-false (name-alike u v))
+  pub any-last : b ≡ any (name-alike u) (v ∷ [])
+  unfolding any
+  any-last = e ∙ sym (or-false (name-alike u v))
 
-module _ (u : Meaning) (us : List Meaning) (b : Bool) (e : b ≡ any (name-alike u) us) where
+module _ (u : Meaning) (us : List Meaning) {b : Bool} (e : b ≡ any (name-alike u) us) where
   pub twice-met : b ≡ true → true ≡ named-twice (u ∷ us)
   unfolding named-twice
   twice-met t = rw (sym e ∙ t)
@@ -170,9 +173,9 @@ unfolding named-twice any
 twice-last u = refl
 
 -- The uses of all elements, before any index.
-pub uses-all : (es : List Entry) (f : Bytes) (us : List Meaning) → uses-of es f ≡ done us → Ahead es f (replicate 64 0) 0 us
+pub uses-all : {es : List Entry} {f : Bytes} {us : List Meaning} → uses-of es f ≡ done us → Ahead es f (replicate 64 0) 0 us
 unfolding uses-of
-uses-all es f us e = from-bind (elements f) _ e λ xs p q. record {
+uses-all {es} {f} e = from-bind (elements f) _ e λ xs p q. record {
   indexes = [];
   left = xs;
   remembers = λ i h. zeros 64 i ∙ sym (no-index (getD es i _ .name));

@@ -2,7 +2,7 @@
 use mathlib.Core.Path.{_≡_, refl, sym, ap, subst, _∙_}
 use mathlib.Core.Bool.{Bool, true, false, _&&_, _||_}
 use mathlib.Core.List.{List, [], _∷_}
-use Prim.Native.Nat.{ℕ, zero, suc, _+_, _-_, _<_, _≤_, max}
+use Prim.Native.Nat.{ℕ, zero, suc, _+_, _-_, _<_, _≤_, max, min}
 use native.Mathlib.Omega.{arith}
 use lib.Dec.{eqb, eqb→eq}
 use lib.ListN.{length, getD}
@@ -18,7 +18,7 @@ use Rattle.tables.specs.Groups.{field-by, field-at}
 use Rattle.tables.proofs.Bools.{clash, and-true, and-false, or-true}
 use Rattle.formats.specs.Elements.{range}
 use Rattle.uses.specs.Meant.{fields-from, asked-of, use-meant, Span-held}
-use Rattle.uses.specs.Twice.{stored-fields}
+use Rattle.uses.specs.Twice.{stored-fields, Alike}
 use Rattle.uses.specs.declared.Span.{Span}
 use Rattle.uses.specs.declared.Use.the-variants.{Values}
 use Rattle.uses.proofs.SpanFields.{no-entry, field-entry, group-entry, asked-one, asked-stored}
@@ -86,29 +86,9 @@ module _ (es : List Entry) (p : Asked → Bool) where
       (λ q. group-stored k end (omega arith) l q ∙ r)
       (λ q. field-stored k end (omega arith) l q ∙ or-right (p (as-stored (field-at es k))) _ r)
 
-unfolded : (fs gs : List Asked) → share fs gs ≡ any (λ a. any (λ b. eqb (a .field .name) (b .field .name)) gs) fs
+share-any : (fs gs : List Asked) → share fs gs ≡ any (λ a. any (λ b. eqb (a .field .name) (b .field .name)) gs) fs
 unfolding share
-unfolded fs gs = refl
-
-module _ (es : List Entry) (first end low high : ℕ) (l : end ≤ length es) (m : high ≤ length es) where
-  pub shared : (i : ℕ) → first ≤ i → low ≤ i → i < end → i < high → is-group (getD es i blank .what) ≡ false
-      → share (stored-fields es first end) (stored-fields es low high) ≡ true
-  shared i a b c d g =
-      unfolded _ _
-      ∙ any-at es _ (i - first) first end i (omega arith) c l g
-      (any-at es _ (i - low) low high i (omega arith) d m g (eqb-same (as-stored (field-at es i) .field .name)))
-
-  -- Entries of one name are one entry.
-  module _ (one : (i j : ℕ) → i < length es → j < length es → getD es i blank .name ≡ getD es j blank .name → i ≡ j) where
-    pub apart : ((i : ℕ) → first ≤ i → low ≤ i → i < end → i < high → is-group (getD es i blank .what) ≡ true)
-        → share (stored-fields es first end) (stored-fields es low high) ≡ false
-    apart none =
-        by-test (share (stored-fields es first end) (stored-fields es low high))
-        (λ t. from-any es _ end first end (omega arith) l (sym (unfolded _ _) ∙ t) λ i a b g u.
-        from-any es _ high low high (omega arith) m u λ j c d k v.
-        let e : i ≡ j = one i j (omega arith) (omega arith) (sym (stored-name es i) ∙ eqb→eq _ _ (true-T v) ∙ stored-name es j) in
-        clash (sym (none i a (omega arith) b (omega arith)) ∙ g))
-        (λ t. t)
+share-any fs gs = refl
 
 -- The entries of both spans before entry i are groups.
 pub record Apart (es : List Entry) (first low i : ℕ) : Type 0 where
@@ -119,12 +99,32 @@ pub record Apart (es : List Entry) (first low i : ℕ) : Type 0 where
 pub apart-start : (es : List Entry) (first low i : ℕ) → i ≡ max first low → Apart es first low i
 apart-start es first low i e = record { first-in = omega arith; low-in = omega arith; groups = λ k a b h. absurd (omega arith) }
 
-pub apart-more : {es : List Entry} {first low i : ℕ} → Apart es first low i → is-group (getD es i blank .what) ≡ true → Apart es first low (i + 1)
-apart-more {es} {first} {low} {i} w g = record {
-  first-in = omega (arith, w .first-in);
-  low-in = omega (arith, w .low-in);
-  groups = λ k a b h. by-order k i (λ q. w .groups k a b q) (λ q. let e : i ≡ k = omega arith in subst (λ j. is-group (getD es j blank .what) ≡ true) e g);
-}
+module _ {es : List Entry} {first low i : ℕ} (w : Apart es first low i) where
+  pub apart-more : is-group (getD es i blank .what) ≡ true → Apart es first low (i + 1)
+  apart-more g = record {
+    first-in = omega (arith, w .first-in);
+    low-in = omega (arith, w .low-in);
+    groups = λ k a b h.
+        by-order k i (λ q. w .groups k a b q) (λ q. let e : i ≡ k = omega arith in subst (λ j. is-group (getD es j blank .what) ≡ true) e g);
+  }
+
+  module _ (end high : ℕ) (l : end ≤ length es) (m : high ≤ length es) where
+    pub shared : i < end → i < high → is-group (getD es i blank .what) ≡ false → share (stored-fields es first end) (stored-fields es low high) ≡ true
+    shared c d g =
+        share-any _ _
+        ∙ any-at es _ (i - first) first end i (omega (arith, w .first-in)) c l g
+        (any-at es _ (i - low) low high i (omega (arith, w .low-in)) d m g (eqb-same (as-stored (field-at es i) .field .name)))
+
+    -- Entries of one name are one entry.
+    pub apart : ((j k : ℕ) → j < length es → k < length es → getD es j blank .name ≡ getD es k blank .name → j ≡ k) → min end high ≤ i
+        → share (stored-fields es first end) (stored-fields es low high) ≡ false
+    apart one h =
+        by-test (share (stored-fields es first end) (stored-fields es low high))
+        (λ t. from-any es _ end first end (omega arith) l (sym (share-any _ _) ∙ t) λ j a b g u.
+        from-any es _ high low high (omega arith) m u λ k c d q v.
+        let e : j ≡ k = one j k (omega arith) (omega arith) (sym (stored-name es j) ∙ eqb→eq _ _ (true-T v) ∙ stored-name es k) in
+        clash (sym (w .groups j a (omega arith) (omega arith)) ∙ g))
+        (λ t. t)
 
 -- A span that is one field is that entry alone, and its field is compared by its name.
 module _ (es : List Entry) (s : Span) (h : Span-held es s) where
@@ -149,29 +149,30 @@ module _ (es : List Entry) (s : Span) (h : Span-held es s) where
       (λ e. ap (share fs) (asked-one es s (s .standard) e) ∙ rw (only e))
 
 -- What two spans name in common, by the entries and the two pairs of ranges.
-module _ (es : List Entry) (a b : Span) (h : Span-held es a) (k : Span-held es b) (f : Bytes) where
-  abbrev fields-met : Bool
-  fields-met = share (stored-fields es (a .first) (a .end)) (stored-fields es (b .first) (b .end))
+abbrev fields-met : List Entry → Span → Span → Bool
+fields-met es a b = share (stored-fields es (a .first) (a .end)) (stored-fields es (b .first) (b .end))
 
-  abbrev occurrences-met : Bool
-  occurrences-met = meet (range (a .from) (a .upto)) (range (b .from) (b .upto))
+abbrev occurrences-met : Span → Span → Bool
+occurrences-met a b = meet (range (a .from) (a .upto)) (range (b .from) (b .upto))
 
-  abbrev values-met : Bool
-  values-met = meet (range (a .«value_from») (a .«value_upto»)) (range (b .«value_from») (b .«value_upto»))
+abbrev values-met : Span → Span → Bool
+values-met a b = meet (range (a .«value_from») (a .«value_upto»)) (range (b .«value_from») (b .«value_upto»))
 
-  spans-met : name-alike (use-meant es f (Values a)) (use-meant es f (Values b)) ≡ (fields-met && occurrences-met && values-met)
+module _ {es : List Entry} {a b : Span} (h : Span-held es a) (k : Span-held es b) where
+  spans-met : (f : Bytes) → name-alike (use-meant es f (Values a)) (use-meant es f (Values b)) ≡ (fields-met es a b && occurrences-met a b && values-met a b)
   unfolding name-alike
-  spans-met = ap (λ s. s && occurrences-met && values-met) (left-stored es a h (asked-of es b) ∙ right-stored es b k _)
+  spans-met f = ap (λ s. s && occurrences-met a b && values-met a b) (left-stored es a h (asked-of es b) ∙ right-stored es b k _)
 
-  pub met : (r : Bool) → true ≡ occurrences-met → true ≡ values-met → r ≡ fields-met
-      → r ≡ name-alike (use-meant es f (Values a)) (use-meant es f (Values b))
-  met r p q e = e ∙ sym (spans-met ∙ rw (← p, ← q) (and-true _ ∙ and-true fields-met))
+  module _ {r : Bool} where
+    pub ranges-meet : {o v : Bool} → o ≡ occurrences-met a b → o ≡ true → v ≡ values-met a b → v ≡ true → r ≡ fields-met es a b
+        → Alike es (Values a) (Values b) r
+    ranges-meet p s q t e f = e ∙ sym (spans-met f ∙ rw (sym p ∙ s, sym q ∙ t) (and-true _ ∙ and-true (fields-met es a b)))
 
-  pub values-apart : false ≡ values-met → false ≡ name-alike (use-meant es f (Values a)) (use-meant es f (Values b))
-  values-apart q = sym (spans-met ∙ rw (← q) (and-false (fields-met && occurrences-met)))
+    pub values-apart : r ≡ values-met a b → r ≡ false → Alike es (Values a) (Values b) false
+    values-apart q t f = sym (spans-met f ∙ rw (sym q ∙ t) (and-false (fields-met es a b && occurrences-met a b)))
 
-  pub occurrences-apart : false ≡ occurrences-met → false ≡ name-alike (use-meant es f (Values a)) (use-meant es f (Values b))
-  occurrences-apart p = sym (spans-met ∙ rw (← p, and-false fields-met))
+    pub occurrences-apart : r ≡ occurrences-met a b → r ≡ false → Alike es (Values a) (Values b) false
+    occurrences-apart p t f = sym (spans-met f ∙ rw (sym p ∙ t, and-false (fields-met es a b)))
 
 -- One item names nothing.
 pub one-left : (x : rules.Item) (u : rules.Use) → name-alike (rules.one x) u ≡ false

@@ -1,6 +1,5 @@
 -- `twice::named_with` meets its contract: the uses that are left answer as all from the place on do. Assumes nothing.
 use mathlib.Core.Path.{_≡_, _∙_}
-use mathlib.Core.Bool.{true, false}
 use Prim.Native.Nat.{_≤_, _-_}
 use native.Mathlib.Omega.{arith}
 use lib.ListN.{length}
@@ -21,9 +20,7 @@ abbrev μ-loop : tie.MeasureT-loop
 μ-loop t f place u last₀ at₀ last at = length f - at
 
 loop-holds : tie.Need-loop-holds Inv-loop μ-loop
-loop-holds c =
-    let s = c .before .before in
-    (s .pre .1, s .pre .2, rest-start (any (name-alike (use-meant (entries-of (s .args .t .now)) (s .args .f .now) (s .args .u)))) (entries-of (s .args .t .now)) (s .args .f .now) (s .args .indexes) (s .args .place))
+loop-holds c = (c .before .before .pre .1, c .before .before .pre .2, rest-start)
 
 next-use-requires : tie.Need-next-use-requires Inv-loop μ-loop
 next-use-requires c κs = search needs
@@ -39,25 +36,20 @@ name-alike-requires c κs =
 
 returns : tie.Need-returns Inv-loop μ-loop
 returns c =
-    let s = c .before .before .before .before .before .before .before .before .before .before in
     let n = nexts-as (c .before .before .before .v .given .1) (c .before .before .before .before .before .next-use .ensures) in
-    rest-stops (any (name-alike (use-meant (entries-of (s .args .t .now)) (s .args .f .now) (s .args .u)))) (entries-of (s .args .t .now)) (s .args .f .now) (s .args .indexes) (s .args .place) _ _ _ (c .before .before .before .before .before .before .before .loop .inv .2) _ _ n true
-    (λ vs w. any-met (use-meant (entries-of (s .args .t .now)) (s .args .f .now) (s .args .u)) (use-meant (entries-of (s .args .t .now)) (s .args .f .now) (c .before .before .before .v .given .0 .0)) vs _ (c .before .name-alike .ensures (s .args .f .now)) (c .if1 .taken))
+    rest-stops (c .before .before .before .before .before .before .before .loop .inv .2) n (λ vs w. any-met _ _ (c .before .name-alike .ensures (c .before .before .before .before .before .before .before .before .before .before .args .f .now)) (c .if1 .taken) vs)
 
 loop-less : tie.Need-loop-less Inv-loop μ-loop
 loop-less c =
-    let s = c .before .before .before .before .before .before .before .before .before .before in
     let n = nexts-as (c .before .before .before .v .given .1) (c .before .before .before .before .before .next-use .ensures) in
     omega (arith, n .known .0, n .known .1)
 
 loop-again : tie.Need-loop-again Inv-loop μ-loop
 loop-again c =
-    let s = c .before .before .before .before .before .before .before .before .before .before in
     let n = nexts-as (c .before .before .before .v .given .1) (c .before .before .before .before .before .next-use .ensures) in (
       n .known .1,
       n .same ∙ c .before .before .before .before .before .before .before .loop .inv .1,
-      rest-more (any (name-alike (use-meant (entries-of (s .args .t .now)) (s .args .f .now) (s .args .u)))) (entries-of (s .args .t .now)) (s .args .f .now) (s .args .indexes) (s .args .place) _ _ _ (c .before .before .before .before .before .before .before .loop .inv .2) _ _ n
-          (λ vs w. any-unmet (use-meant (entries-of (s .args .t .now)) (s .args .f .now) (s .args .u)) (use-meant (entries-of (s .args .t .now)) (s .args .f .now) (c .before .before .before .v .given .0 .0)) vs _ (c .before .name-alike .ensures (s .args .f .now)) (c .if1 .left)),
+      rest-more (c .before .before .before .before .before .before .before .loop .inv .2) n (λ vs w. any-unmet _ _ (c .before .name-alike .ensures (c .before .before .before .before .before .before .before .before .before .before .args .f .now)) (c .if1 .left) vs),
     )
 
 enum-known-v-2 : tie.Need-enum-known-v-2 Inv-loop μ-loop
@@ -71,19 +63,14 @@ name-alike-requires-2 c κs =
 
 returns-2 : tie.Need-returns-2 Inv-loop μ-loop
 returns-2 c =
-    let s = c .before .before .before .before .before .before .before .before .before in
     let n = nexts-as (c .before .before .v2 .given .1) (c .before .before .before .before .next-use .ensures) in
-    rest-last (any (name-alike (use-meant (entries-of (s .args .t .now)) (s .args .f .now) (s .args .u)))) (entries-of (s .args .t .now)) (s .args .f .now) (s .args .indexes) (s .args .place) _ _ _ (c .before .before .before .before .before .before .loop .inv .2) _ n _
-    (any-last (use-meant (entries-of (s .args .t .now)) (s .args .f .now) (s .args .u)) _ _ (c .name-alike2 .ensures (s .args .f .now)))
+    rest-last (c .before .before .before .before .before .before .loop .inv .2) n (any-last _ _ (c .name-alike2 .ensures (c .before .before .before .before .before .before .before .before .before .args .f .now)))
 
 enum-told : tie.Need-enum-told Inv-loop μ-loop
 enum-told c = search needs
 
 returns-3 : tie.Need-returns-3 Inv-loop μ-loop
-returns-3 c =
-    let s = c .before .before .before .before .before .before .before in
-    let n = nexts-as (c .enum-told .given .1) (c .before .before .next-use .ensures) in
-    rest-refused (any (name-alike (use-meant (entries-of (s .args .t .now)) (s .args .f .now) (s .args .u)))) (entries-of (s .args .t .now)) (s .args .f .now) (s .args .indexes) (s .args .place) _ _ _ (c .before .before .before .before .loop .inv .2) n false
+returns-3 c = rest-refused (c .before .before .before .before .loop .inv .2) (nexts-as (c .enum-told .given .1) (c .before .before .next-use .ensures))
 
 pub named-with-spec : {M : Type 1} → statement M
 named-with-spec =

@@ -45,36 +45,26 @@ enum-told-3 c = search needs
 
 returns : tie.Need-returns
 returns c =
-    let s = c .before .before .before .before .before .before .before .before .before .before .before .before .before in
     let n = step-as (c .before .before .before .before .before .before .before .before .e .given .1) (c .before .before .before .before .before .before .before .before .before .before .next .ensures) in
-    let m = means-as (c .before .before .before .u .given .1) (c .before .before .before .before .before .use-of .ensures) in
-    next-more (entries-of (s .args .t .now)) (s .args .f .now) (s .args .at) (s .args .last .now) _ _ n _ m _ (c .remember .ensures)
+    next-more n (means-as (c .before .before .before .u .given .1) (c .before .before .before .before .before .use-of .ensures)) (c .remember .ensures)
 
 returns-2 : tie.Need-returns-2
 returns-2 c =
-    let s = c .before .before .before .before .before .before .before .before .before .before in
     let n = step-as (c .before .before .before .before .before .e .given .1) (c .before .before .before .before .before .before .before .next .ensures) in
-    let m = means-as (c .enum-told .given .1) (c .before .before .use-of .ensures) in
-    more-refused (entries-of (s .args .t .now)) (s .args .f .now) (s .args .at) (s .args .last .now) _ _ n _ m
+    more-refused n (means-as (c .enum-told .given .1) (c .before .before .use-of .ensures))
 
 returns-3 : tie.Need-returns-3
 returns-3 c =
-    let s = c .before .before .before .before .before .before .before .before .before .before .before in
     let n = step-as (c .before .before .before .before .before .before .e2 .given .1) (c .before .before .before .before .before .before .before .before .next .ensures) in
-    let m = means-as (c .before .u2 .given .1) (c .before .before .before .use-of2 .ensures) in
-    next-last (entries-of (s .args .t .now)) (s .args .f .now) (s .args .at) (s .args .last .now) _ n _ m
+    next-last n (means-as (c .before .u2 .given .1) (c .before .before .before .use-of2 .ensures))
 
 returns-4 : tie.Need-returns-4
 returns-4 c =
-    let s = c .before .before .before .before .before .before .before .before .before .before in
     let n = step-as (c .before .before .before .before .before .e2 .given .1) (c .before .before .before .before .before .before .before .next .ensures) in
-    let m = means-as (c .enum-told2 .given .1) (c .before .before .use-of2 .ensures) in
-    last-refused (entries-of (s .args .t .now)) (s .args .f .now) (s .args .at) (s .args .last .now) _ n _ m
+    last-refused n (means-as (c .enum-told2 .given .1) (c .before .before .use-of2 .ensures))
 
 returns-5 : tie.Need-returns-5
-returns-5 c =
-    let s = c .before .before .before .before .before in
-    next-bad (entries-of (s .args .t .now)) (s .args .f .now) (s .args .at) (s .args .last .now) (step-as (c .enum-told3 .given .1) (c .before .before .next .ensures))
+returns-5 c = next-bad (step-as (c .enum-told3 .given .1) (c .before .before .next .ensures))
 
 pub next-use-spec : {M : Type 1} → statement M
 next-use-spec =

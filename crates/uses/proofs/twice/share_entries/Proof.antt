@@ -43,16 +43,13 @@ returns : tie.Need-returns Inv-loop μ-loop
 returns c =
     let s = c .before .before .before .before .before .before .before .before in
     let l = c .before .before .before .before .loop in
-    sym (shared (entries-of (s .args .t .now)) (s .args .first) (s .args .end) (s .args .low) (s .args .high) (s .pre .1) (s .pre .2) (l .i)
-    (l .inv .first-in) (l .inv .low-in) (search needs) (search needs)
-    (field-known (entries-of (s .args .t .now)) (l .i) _ (c .before .before .entry-at .ensures) (c .if1 .left)))
+    let g = field-known (entries-of (s .args .t .now)) (l .i) _ (c .before .before .entry-at .ensures) (c .if1 .left) in
+    sym (shared (l .inv) (s .args .end) (s .args .high) (s .pre .1) (s .pre .2) (search needs) (search needs) g)
 
 returns-2 : tie.Need-returns-2 Inv-loop μ-loop
 returns-2 c =
     let s = c .before .before .before .before .before in
-    sym (apart (entries-of (s .args .t .now)) (s .args .first) (s .args .end) (s .args .low) (s .args .high) (s .pre .1) (s .pre .2)
-    (one-entry (s .args .t .now) (s .pre .0))
-    (λ i a b h k. c .before .loop .inv .groups i a b (omega arith)))
+    sym (apart (c .before .loop .inv) (s .args .end) (s .args .high) (s .pre .1) (s .pre .2) (one-entry (s .args .t .now) (s .pre .0)) (omega arith))
 
 pub share-entries-spec : {M : Type 1} → statement M
 share-entries-spec =
