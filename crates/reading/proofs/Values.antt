@@ -5,7 +5,7 @@ use mathlib.Core.List.{List, [], _∷_}
 use Prim.Native.Nat.{ℕ, zero, suc, pred, _-_, _≤_, _<_}
 use native.Mathlib.Omega.{arith}
 use lib.ListN.{length, getD, take, drop, length-take, length-drop}
-use Rattle.rules.specs.Outcome.{Outcome, done}
+use Rattle.rules.specs.Outcome.{Outcome}
 use Rattle.rules.specs.Lists.{Bytes}
 use Rattle.rules.specs.Values.{Format, alpha, binary, fixed, packed, unpacked, conversion, content, allowed, converts, carried, null}
 use Rattle.rules.specs.Table.{What, field, group, Entry, parts}
@@ -21,7 +21,7 @@ use Rattle.tables.specs.Groups.{field-by, field-at}
 use Rattle.tables.specs.declared.Entry.{Entry as Row}
 use Rattle.tables.proofs.Known.{field-known}
 use Rattle.uses.proofs.Fields.{format-of-field, size-at}
-use Rattle.records.specs.Places.{Held, Cell-of, Value-of, Content-of}
+use Rattle.records.specs.Places.{Held, Cell-of, Value-of}
 use Rattle.records.proofs.Placed.{cell-numbers}
 use Rattle.records.specs.declared.places.Cell.{Cell}
 use Rattle.records.specs.declared.places.Cell.the-variants.{At as Stands, Nothing as None}

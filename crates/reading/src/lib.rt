@@ -1,29 +1,27 @@
 // The service read, behind its tests of table, record and format: the items are tested one after the other, and then written.
 ghost use mathlib.Core.Path.{_≡_};
-ghost use mathlib.Core.List.{_∷_, []};
-ghost use Prim.Native.Nat.{_+_, _-_, _≤_};
-ghost use lib.ListN.{length, replicate, take, drop};
-ghost use mathlib.Core.Bool.{true};
-ghost use Prim.Native.Nat.{_<_};
+ghost use mathlib.Core.List.{_∷_, [], List};
+ghost use mathlib.Core.Bool.{true, false};
+ghost use Prim.Native.Nat.{_+_, _-_, _≤_, _<_};
+ghost use lib.ListN.{length, replicate};
 ghost use Rattle.rules.specs.Outcome.{done};
 ghost use Rattle.rules.specs.Characters.{space};
 ghost use Rattle.rules.specs.Values.{allowed, null, carried};
-ghost use Rattle.kinds.specs.Formats.{format-at};
-ghost use Rattle.reading.specs.Filling.{Filling, within};
-ghost use mathlib.Core.Bool.{false};
-ghost use mathlib.Core.List.{List};
 ghost use Rattle.rules.specs.Limits.{highest-index};
 ghost use Rattle.rules.specs.Lists.{Bytes};
-ghost use Rattle.rules.specs.Use.{value-items, just};
+ghost use Rattle.rules.specs.Use.{value-items, just, items-of};
+ghost use Rattle.kinds.specs.Formats.{format-at};
 ghost use Rattle.tables.specs.Entries.{Valid, entries-of};
-ghost use Rattle.formats.specs.Elements.{range};
-ghost use Rattle.records.specs.Places.{Holds, Value-of};
-ghost use Rattle.reading.specs.Runs.{Fills, Sound, carried-from, Lies, Cell-holds, asked-at, Askable, Only, field-items, row-items, span-items};
 ghost use Rattle.tables.specs.Places.{inside-at};
-ghost use Rattle.uses.specs.Meant.{Span-held};
+ghost use Rattle.formats.specs.Elements.{range};
+ghost use Rattle.uses.specs.Meant.{Span-held, Use-held, use-meant};
+ghost use Rattle.records.specs.Places.{Holds, Value-of};
+ghost use Rattle.reading.specs.Filling.{Filling, within};
+ghost use Rattle.reading.specs.Runs.{Fills, Sound, carried-from, Lies, Cell-holds, asked-at, Askable, Only, field-items, row-items, span-items, Reaches};
 use records::places::Cell;
 use records::places::Content;
 use uses::Span;
+use uses::Use;
 use values::Fit;
 
 // Where a run of items ends in the record buffer, or the number of its refusal.
@@ -355,4 +353,34 @@ fn put_span(
         o += 1;
     }
     Next::At(p)
+}
+
+// What an element means.
+fn put_use(
+    t: &[u8],
+    b: &[u8],
+    places: &[u16; 64],
+    f: &[u8],
+    u: Use,
+    out: &mut [u8],
+    at: usize,
+    end: usize,
+    write: bool,
+) -> Next
+    requires { ⌜ Valid (now t) × Use-held (entries-of (now t)) (now f) u × Reaches (entries-of (now t)) u × Holds (entries-of (now t)) (now b) (now places) × (at ≤ end) × (end ≤ length (now out)) × Sound (entries-of (now t)) (now b) (now places) (items-of (use-meant (entries-of (now t)) (now f) u)) at end write ⌝ }
+    ensures { λ r. ⌜ Fills (entries-of (now (t .entry))) (now (b .entry)) (now (places .entry)) (items-of (use-meant (entries-of (now (t .entry))) (now (f .entry)) u)) at end write (now (out .entry)) (now (out .exit)) r ⌝ }
+{
+    match u {
+        Use::Blanks(n) => put_blanks(n, out, at, end, write),
+        Use::Text(from, upto) => put_text(&f[from..upto], out, at, end, write),
+        Use::GroupCount(i) => {
+            let count = records::places::group_count(t, b, places, i);
+            put_count(count, out, at, end, write)
+        }
+        Use::ValueCount(i, k) => {
+            let count = records::places::value_count(t, b, places, i, k);
+            put_count(count, out, at, end, write)
+        }
+        Use::Values(s) => put_span(t, b, places, s, out, at, end, write),
+    }
 }

@@ -2,7 +2,6 @@
 use mathlib.Core.Path.{ap}
 use mathlib.Core.List.{List}
 use mathlib.Core.Bool.{false}
-use native.Mathlib.Omega.{arith}
 use Rattle.rules.specs.Use.{Asked, value-items, just}
 use Rattle.tables.specs.Entries.{entries-of}
 use Rattle.formats.specs.Elements.{range}

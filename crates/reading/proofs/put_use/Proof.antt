@@ -1,0 +1,142 @@
+-- `reading::put_use` meets its contract: each kind of element has its own items. Assumes nothing.
+use mathlib.Core.Path.{subst}
+use native.Mathlib.Omega.{arith}
+use Rattle.tables.specs.Entries.{entries-of}
+use Rattle.uses.specs.Meant.{Use-held}
+use Rattle.reading.specs.Runs.{Reaches}
+use Rattle.reading.proofs.Elements.{use-blanks, use-text, use-group-count, use-value-count, span-sound, use-span}
+use borrow.Author.Needs.{needs}
+use Rattle.reading.proofs.put_use.Statement.{statement}
+use Rattle.reading.proofs.put_use.Tie as tie
+
+enum-known-u : tie.Need-enum-known-u
+enum-known-u c = search needs
+
+put-blanks-requires : tie.Need-put-blanks-requires
+put-blanks-requires c κs = search needs
+
+enum-known-u-2 : tie.Need-enum-known-u-2
+enum-known-u-2 c = search needs
+
+sub-put-text : tie.Need-sub-put-text
+sub-put-text c =
+    let s = c .before .before .before .before .before .before .before in
+    let a = s .args in
+    let v = c .before .u2 .given in
+    let w = subst (Use-held (entries-of (a .t .now)) (a .f .now)) (v .1) (s .pre .1) in
+    omega (arith, w .0)
+
+part-put-text-start : tie.Need-part-put-text-start
+part-put-text-start c =
+    let s = c .before .before .before .before .before .before .before in
+    let a = s .args in
+    let v = c .before .u2 .given in
+    let w = subst (Use-held (entries-of (a .t .now)) (a .f .now)) (v .1) (s .pre .1) in
+    omega (arith, w .0, w .1)
+
+part-put-text-end : tie.Need-part-put-text-end
+part-put-text-end c =
+    let s = c .before .before .before .before .before .before .before in
+    let a = s .args in
+    let v = c .before .u2 .given in
+    let w = subst (Use-held (entries-of (a .t .now)) (a .f .now)) (v .1) (s .pre .1) in
+    omega (arith, w .0, w .1)
+
+put-text-requires : tie.Need-put-text-requires
+put-text-requires c κs = search needs
+
+enum-known-u-3 : tie.Need-enum-known-u-3
+enum-known-u-3 c = search needs
+
+group-count-requires : tie.Need-group-count-requires
+group-count-requires c κs =
+    let s = c .before .before .before .before .before .before .before in
+    let a = s .args in
+    let v = c .before .u3 .given in
+    let w = subst (Use-held (entries-of (a .t .now)) (a .f .now)) (v .1) (s .pre .1) in
+    (s .pre .0, w .0, w .1, s .pre .3)
+
+put-count-requires : tie.Need-put-count-requires
+put-count-requires c κs = search needs
+
+enum-known-u-4 : tie.Need-enum-known-u-4
+enum-known-u-4 c = search needs
+
+value-count-requires : tie.Need-value-count-requires
+value-count-requires c κs =
+    let s = c .before .before .before .before .before .before .before in
+    let a = s .args in
+    let v = c .before .u4 .given in
+    let w = subst (Use-held (entries-of (a .t .now)) (a .f .now)) (v .1) (s .pre .1) in
+    let z = subst (Reaches (entries-of (a .t .now))) (v .1) (s .pre .2) in
+    (s .pre .0, w .0, w .1, w .2, z, s .pre .3)
+
+put-count-requires-2 : tie.Need-put-count-requires-2
+put-count-requires-2 c κs = search needs
+
+enum-known-u-5 : tie.Need-enum-known-u-5
+enum-known-u-5 c = search needs
+
+put-span-requires : tie.Need-put-span-requires
+put-span-requires c κs =
+    let s = c .before .before .before .before .before .before .before .before in
+    let a = s .args in
+    let v = c .before .before .u5 .given in
+    let w = subst (Use-held (entries-of (a .t .now)) (a .f .now)) (v .1) (s .pre .1) in
+    let z = subst (Reaches (entries-of (a .t .now))) (v .1) (s .pre .2) in
+    (s .pre .0, w, z, s .pre .3, s .pre .4, s .pre .5, span-sound (entries-of (a .t .now)) (a .b .now) (a .places .now) (a .f .now) (a .at) (a .end) (a .write) _ (v .1) (s .pre .6))
+
+same-length : tie.Need-same-length
+same-length c = search needs
+
+returns : tie.Need-returns
+returns c =
+    let s = c .before .before .before .before .before .before .before .before .before .before .before in
+    let a = s .args in
+    let v = c .before .before .before .before .before .u .given in
+    use-blanks (entries-of (a .t .now)) (a .b .now) (a .places .now) (a .f .now) (a .at) (a .end) (a .write) (v .0 .0) (v .1) (c .before .before .put-blanks .ensures)
+
+same-length-2 : tie.Need-same-length-2
+same-length-2 c = search needs
+
+returns-2 : tie.Need-returns-2
+returns-2 c =
+    let s = c .before .before .before .before .before .before .before .before .before .before .before .before in
+    let a = s .args in
+    let v = c .before .before .before .before .before .before .u2 .given in
+    use-text (entries-of (a .t .now)) (a .b .now) (a .places .now) (a .f .now) (a .at) (a .end) (a .write) (v .0 .0) (v .0 .1 .0) (v .1) (c .before .before .put-text .ensures)
+
+same-length-3 : tie.Need-same-length-3
+same-length-3 c = search needs
+
+returns-3 : tie.Need-returns-3
+returns-3 c =
+    let s = c .before .before .before .before .before .before .before .before .before .before .before .before in
+    let a = s .args in
+    let v = c .before .before .before .before .before .before .u3 .given in
+    let n = c .before .before .before .before .group-count in
+    use-group-count (entries-of (a .t .now)) (a .b .now) (a .places .now) (a .f .now) (a .at) (a .end) (a .write) (v .0 .0) (n .result) (v .1) (n .ensures) (c .before .before .put-count .ensures)
+
+same-length-4 : tie.Need-same-length-4
+same-length-4 c = search needs
+
+returns-4 : tie.Need-returns-4
+returns-4 c =
+    let s = c .before .before .before .before .before .before .before .before .before .before .before .before in
+    let a = s .args in
+    let v = c .before .before .before .before .before .before .u4 .given in
+    let n = c .before .before .before .before .value-count in
+    use-value-count (entries-of (a .t .now)) (a .b .now) (a .places .now) (a .f .now) (a .at) (a .end) (a .write) (v .0 .0) (v .0 .1 .0) (n .result) (v .1) (n .ensures) (c .before .before .put-count2 .ensures)
+
+same-length-5 : tie.Need-same-length-5
+same-length-5 c = search needs
+
+returns-5 : tie.Need-returns-5
+returns-5 c =
+    let s = c .before .before .before .before .before .before .before .before .before .before .before in
+    let a = s .args in
+    let v = c .before .before .before .before .before .u5 .given in
+    use-span (entries-of (a .t .now)) (a .b .now) (a .places .now) (a .f .now) (a .at) (a .end) (a .write) _ (v .1) (c .before .before .put-span .ensures)
+
+pub put-use-spec : {M : Type 1} → statement M
+put-use-spec = tie.close (tie.spec enum-known-u put-blanks-requires enum-known-u-2 sub-put-text part-put-text-start part-put-text-end put-text-requires enum-known-u-3 group-count-requires put-count-requires enum-known-u-4 value-count-requires put-count-requires-2 enum-known-u-5 put-span-requires same-length returns same-length-2 returns-2 same-length-3 returns-3 same-length-4 returns-4 same-length-5 returns-5)
