@@ -18,8 +18,6 @@ use Rattle.tables.specs.Groups.{field-at}
 use Rattle.formats.specs.Elements.{range}
 use Rattle.uses.specs.Meant.{fields-from, asked-of}
 use Rattle.uses.specs.declared.Span.{Span}
-use Rattle.uses.specs.declared.Use.{Use}
-use Rattle.uses.specs.declared.Use.the-variants as code
 use Rattle.records.specs.Places.{Held}
 use Rattle.records.specs.declared.places.Cell.{Cell}
 use Rattle.records.specs.declared.places.Cell.the-variants as cell
@@ -81,11 +79,3 @@ row-items es s o = value-items (asked-of es s) (just o) (range (s .«value_from�
 
 abbrev pub span-items : List Entry → Span → ℕ → List Item
 span-items es s o = value-items (asked-of es s) (range o (s .upto)) (range (s .«value_from») (s .«value_upto»)) false
-
--- What an element means lies in a periodic group, or it has occurrence 1 alone.
-abbrev pub Reaches : List Entry → Use → Type 0
-Reaches es (code.Blanks n) = Unit {0}
-Reaches es (code.Text from upto) = Unit {0}
-Reaches es (code.GroupCount i) = Unit {0}
-Reaches es (code.ValueCount i k) = inside-at es i ≡ false → k ≡ 1
-Reaches es (code.Values s) = Only es (s .first) (s .end) (s .upto)

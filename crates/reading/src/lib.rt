@@ -17,7 +17,7 @@ ghost use Rattle.formats.specs.Elements.{range};
 ghost use Rattle.uses.specs.Meant.{Span-held, Use-held, use-meant};
 ghost use Rattle.records.specs.Places.{Holds, Value-of};
 ghost use Rattle.reading.specs.Filling.{Filling, within};
-ghost use Rattle.reading.specs.Runs.{Fills, Sound, carried-from, Lies, Cell-holds, asked-at, Askable, Only, field-items, row-items, span-items, Reaches};
+ghost use Rattle.reading.specs.Runs.{Fills, Sound, carried-from, Lies, Cell-holds, asked-at, Askable, Only, field-items, row-items, span-items};
 use records::places::Cell;
 use records::places::Content;
 use uses::Span;
@@ -335,7 +335,7 @@ fn put_span(
     end: usize,
     write: bool,
 ) -> Next
-    requires { ⌜ Valid (now t) × Span-held (entries-of (now t)) s × Only (entries-of (now t)) (s .first) (s .end) (s .upto) × Holds (entries-of (now t)) (now b) (now places) × (at ≤ end) × (end ≤ length (now out)) × Sound (entries-of (now t)) (now b) (now places) (span-items (entries-of (now t)) s (s .from)) at end write ⌝ }
+    requires { ⌜ Valid (now t) × Span-held (entries-of (now t)) s × Holds (entries-of (now t)) (now b) (now places) × (at ≤ end) × (end ≤ length (now out)) × Sound (entries-of (now t)) (now b) (now places) (span-items (entries-of (now t)) s (s .from)) at end write ⌝ }
     ensures { λ r. ⌜ Fills (entries-of (now (t .entry))) (now (b .entry)) (now (places .entry)) (span-items (entries-of (now (t .entry))) s (s .from)) at end write (now (out .entry)) (now (out .exit)) r ⌝ }
 {
     let mut p = at;
@@ -367,7 +367,7 @@ fn put_use(
     end: usize,
     write: bool,
 ) -> Next
-    requires { ⌜ Valid (now t) × Use-held (entries-of (now t)) (now f) u × Reaches (entries-of (now t)) u × Holds (entries-of (now t)) (now b) (now places) × (at ≤ end) × (end ≤ length (now out)) × Sound (entries-of (now t)) (now b) (now places) (items-of (use-meant (entries-of (now t)) (now f) u)) at end write ⌝ }
+    requires { ⌜ Valid (now t) × Use-held (entries-of (now t)) (now f) u × Holds (entries-of (now t)) (now b) (now places) × (at ≤ end) × (end ≤ length (now out)) × Sound (entries-of (now t)) (now b) (now places) (items-of (use-meant (entries-of (now t)) (now f) u)) at end write ⌝ }
     ensures { λ r. ⌜ Fills (entries-of (now (t .entry))) (now (b .entry)) (now (places .entry)) (items-of (use-meant (entries-of (now (t .entry))) (now (f .entry)) u)) at end write (now (out .entry)) (now (out .exit)) r ⌝ }
 {
     match u {

@@ -1,7 +1,7 @@
 -- The place of a group's count, of a cell and of a value in bytes that hold a record: what a look-up reads there is what stands from that place on.
 use mathlib.Core.Path.{_≡_, refl, sym, _∙_, ap}
 use mathlib.Core.Bool.{Bool, true, false}
-use mathlib.Core.List.{List, [], _∷_}
+use mathlib.Core.List.{List, []}
 use Prim.Native.Nat.{ℕ, zero, suc, _+_, _-_, _≤_, _<_}
 use native.Mathlib.Numerals.{add-one}
 use native.Mathlib.Omega.{arith}
@@ -18,9 +18,9 @@ use Rattle.rules.proofs.Steps.{from-bind, from-need, done-inj, not-done, true-T
 use Rattle.buffer.proofs.Cases.{by-order}
 use Rattle.tables.specs.Entries.{blank, is-group, is-multiple, size-of, format-at, format-number}
 use Rattle.tables.specs.Places.{inside-at, inside-before, Home}
-use Rattle.tables.specs.Groups.{run-below, group-end, field-by, field-at}
+use Rattle.tables.specs.Groups.{group-end, field-by, field-at}
 use Rattle.tables.proofs.Rows.{number-back}
-use Rattle.tables.proofs.Nesting.{run-nil, run-ends, run-deeper}
+use Rattle.tables.proofs.Nesting.{run-levels}
 use Rattle.records.specs.Walk.{rest-of, Walked, Checked}
 use Rattle.records.specs.Where.{inside-from, First, Deeper, fields-of}
 use Rattle.records.specs.Places.{Held, Holds, Cell-of, cell-from}
@@ -74,16 +74,10 @@ unfolding inside-at inside-before
 inside-same es zero h = inside-first false es blank h
 inside-same es (suc i) h = inside-next false es blank i h ∙ ap (λ (p : Bool). is-inside p (getD es (suc i) blank)) (inside-same es i (omega arith))
 
--- The members of a group of level 1 have levels above 1.
-run-levels : (es : List Entry) (k : ℕ) → k < run-below 1 es → 1 < getD es k blank .level
-run-levels [] k h = absurd (omega (arith, run-nil 1))
-run-levels (e ∷ es) zero h = by-order 1 (e .level) (λ l. l) (λ l. absurd (omega (arith, run-ends 1 e es l)))
-run-levels (e ∷ es) (suc k) h = by-order 1 (e .level) (λ l. run-levels es k (omega (arith, run-deeper 1 e es l))) (λ l. absurd (omega (arith, run-ends 1 e es l)))
-
 home-deeper : (es : List Entry) (i g : ℕ) → Home es i g → Deeper es blank g i
 home-deeper es i g home k p q =
     let z : suc g + (k - suc g) ≡ k = omega arith in
-    let l = run-levels (drop (suc g) es) (k - suc g) (omega (arith, home .within)) in
+    let l = run-levels 1 (drop (suc g) es) (k - suc g) (omega (arith, home .within)) in
     rw (getD-drop (suc g) es (k - suc g) blank, z) at l
 
 -- Bytes that hold a record by a table's entries, of which each is the first with its name.

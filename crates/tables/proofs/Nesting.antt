@@ -1,4 +1,4 @@
--- Levels by entry number, and the run of entries below a group: its length, and its fields' numbers. Assumes nothing.
+-- Levels by entry number, and the run of entries below a group: its length, its fields' numbers, and that it lies in a periodic group where the group does. Assumes nothing.
 use mathlib.Core.Path.{_≡_, refl, sym, ap, subst, _∙_}
 use mathlib.Core.Bool.{Bool, true, false, _||_}
 use mathlib.Core.List.{List, [], _∷_, _++_, map}
@@ -8,8 +8,8 @@ use native.Mathlib.Numerals.{add-one}
 use native.Mathlib.Omega.{arith}
 use borrow.Author.Tests.{lt-ltb, le-ltb, leb-true, eqb-true}
 use lib.Dec.{eqb, leb}
-use lib.ListN.{length, getD, drop, drop-of-length-le}
-use lib.Seq.{drop-cons, drop-drop}
+use lib.ListN.{length, getD, drop, drop-of-length-le, length-drop}
+use lib.Seq.{drop-cons, drop-drop, getD-drop}
 use Rattle.rules.specs.Limits.{deepest-level}
 use Rattle.rules.specs.Table.{What, field, group, Field, Entry, levels, inside-of, fields-below}
 use Rattle.rules.proofs.Steps.{by-test}
@@ -145,6 +145,11 @@ run-short l [] = rw run-nil (omega arith)
 run-short l (e ∷ es) = by-order l (e .level)
     (λ h. rw (run-deeper l e es h) (omega (arith, run-short l es)))
     (λ h. rw (run-ends l e es h) (omega arith))
+
+pub run-levels : (l : ℕ) (es : List Entry) (k : ℕ) → k < run-below l es → l < getD es k blank .level
+run-levels l [] k h = absurd (omega (arith, run-nil l))
+run-levels l (e ∷ es) zero h = by-order l (e .level) (λ d. d) (λ d. absurd (omega (arith, run-ends l e es d)))
+run-levels l (e ∷ es) (suc k) h = by-order l (e .level) (λ d. run-levels l es k (omega (arith, run-deeper l e es d))) (λ d. absurd (omega (arith, run-ends l e es d)))
 
 pub numbers-short : (l at : ℕ) (es : List Entry) → length (numbers-below l at es) ≤ run-below l es
 numbers-short l at [] = rw (numbers-nil l at) (omega arith)
@@ -322,3 +327,27 @@ module _ (es : List Entry) (l i : ℕ) where
 
   pub end-last : length es ≤ i → i ≡ i + run-below l (drop i es)
   end-last h = omega (arith, run-none es l i h)
+
+-- ---- a group's members lie in a periodic group where the group does
+module _ (es : List Entry) (sound : (k : ℕ) → k < length es → Sound (getD es k blank .level) (getD es k blank .what)) (i : ℕ) (low : 1 ≤ getD es i blank .level) where
+  member-level : (k : ℕ) → k < run-below (getD es i blank .level) (drop (suc i) es) → 1 < getD es (suc i + k) blank .level
+  member-level k h =
+      let d = run-levels (getD es i blank .level) (drop (suc i) es) k h in
+      let q = rw (getD-drop (suc i) es k blank) at d in
+      omega arith
+
+  member-inside : (k : ℕ) → k ≤ run-below (getD es i blank .level) (drop (suc i) es) → inside-at es (i + k) ≡ inside-at es i
+  member-inside zero h = rw add-zero
+  member-inside (suc k) h =
+      let n = run-short (getD es i blank .level) (drop (suc i) es) in
+      let z : i + suc k ≡ suc (i + k) = omega arith in
+      let d = member-level k h in
+      let l : suc (i + k) < length es = omega (arith, length-drop (suc i) es) in
+      rw z (inside-up es (i + k) (rw suc-add at d) (sound (suc (i + k)) l) ∙ member-inside k (omega arith))
+
+  pub members-inside : (j : ℕ) → i ≤ j → j < group-end es i → inside-at es j ≡ inside-at es i
+  unfolding group-end
+  members-inside j p q =
+      let z : i + (j - i) ≡ j = omega arith in
+      let m = member-inside (j - i) (omega arith) in
+      rw z at m

@@ -5,7 +5,7 @@ use mathlib.Core.List.{List, [], _∷_, map}
 use Prim.Native.Nat.{ℕ, suc, _+_, _-_, _<_, _≤_}
 use native.Mathlib.Numerals.{add-one}
 use native.Mathlib.Omega.{arith}
-use borrow.Author.Tests.{ltb-true, ltb-false, lt-ltb, le-ltb, eq-eqb, ne-eqb}
+use borrow.Author.Tests.{ltb-true, ltb-false, eq-eqb, ne-eqb}
 use lib.Dec.{eqb, ltb}
 use lib.ListN.{length, getD, take, drop, length-drop}
 use Rattle.rules.specs.Outcome.{Outcome, done, refused, _>>=_, need, is-done}
@@ -20,7 +20,7 @@ use Rattle.tables.specs.declared.Entry.{Entry as Row}
 use Rattle.tables.specs.Groups.{run-below, group-end, field-by, field-at, with-field, fields-in}
 use Rattle.tables.proofs.Bools.{clash}
 use Rattle.tables.proofs.Tables.{is-group-number}
-use Rattle.tables.proofs.Nesting.{below-deeper, below-ends, below-nil, run-short}
+use Rattle.tables.proofs.Nesting.{below-deeper, below-ends, below-nil, run-nil, run-deeper, run-ends, run-short}
 use Rattle.uses.specs.Meant.{fields-from}
 use Rattle.uses.proofs.Effects.{own-number, number-small}
 
@@ -62,18 +62,6 @@ module _ (es : List Entry) (i : ℕ) where
   field-known r e q = sym (is-group-number (getD es i blank .what)) ∙ ne-eqb _ group-number (λ k. q (ap (λ (r : Row). r .format) e ∙ k))
 
 -- The fields of a group stand among the entries behind it that are deeper.
-run-nil : (l : ℕ) → run-below l [] ≡ 0
-unfolding run-below
-run-nil l = refl
-
-run-deeper : (l : ℕ) (e : Entry) (es : List Entry) → l < e .level → run-below l (e ∷ es) ≡ suc (run-below l es)
-unfolding run-below
-run-deeper l e es h = rw (lt-ltb l (e .level) h)
-
-run-ends : (l : ℕ) (e : Entry) (es : List Entry) → e .level ≤ l → run-below l (e ∷ es) ≡ 0
-unfolding run-below
-run-ends l e es h = rw (le-ltb l (e .level) h)
-
 pub no-fields : fields-in [] ≡ []
 unfolding fields-in
 no-fields = refl

@@ -28,7 +28,7 @@ use Rattle.uses.specs.declared.Spreads.the-variants as spreads
 use Rattle.uses.specs.declared.Effect.the-variants as effect
 use Rattle.uses.specs.declared.Use.the-variants as code
 use Rattle.uses.specs.declared.Meant.the-variants as meant
-use Rattle.uses.proofs.Spreading.{one-ordered}
+use Rattle.uses.proofs.Spreading.{one-ordered, upto-one}
 use Rattle.uses.proofs.Effects.{asked-right}
 use Rattle.uses.proofs.Fields.{group-fields, group-upto, plain-none-multiple, series-none-multiple, series-five}
 
@@ -169,12 +169,14 @@ module _ (es : List Entry) (i last : ℕ) (n : Named) (h : i < length es) (g : i
           values = T-true _ (o .1);
           single = λ e. clash (sym e);
           alone = λ e. record { next = refl; field = g; format = b; allowed = a .0; converts = a .1 };
+          only = λ j low high e. let z : j ≡ i = omega arith in upto-one (inside-at es i) (field-at es i .multiple) last (occurrences n) (bracket n) _ (sym p) (rw z at e);
         };
       }
 
 -- The span of a group.
 module _ (es : List Entry) (i : ℕ) (n : Named) (h : i < length es) (z : n .sized ≡ false) (l : n .lettered ≡ false)
-    (a : all plain (fields-below (getD es i blank .level) (drop (suc i) es)) ≡ true) where
+    (a : all plain (fields-below (getD es i blank .level) (drop (suc i) es)) ≡ true)
+    (m : (j : ℕ) → i ≤ j → j < group-end es i → inside-at es j ≡ inside-at es i) where
   pub group-as : (r : Ranges) → spread-of (spreads.Over r) ≡ spread (inside-at es i) false 0 (occurrences n) (bracket n)
       → Settles es (group-use es i n) (meant.As (code.Values (stored-span (i + 1) (group-end es i) r)))
   unfolding found-at
@@ -190,6 +192,7 @@ module _ (es : List Entry) (i : ℕ) (n : Named) (h : i < length es) (z : n .siz
           values = T-true _ (o .1);
           single = λ e. rw (← fs) (plain-none-multiple _ a);
           alone = λ e. clash e;
+          only = λ j low high e. upto-one (inside-at es i) false 0 (occurrences n) (bracket n) _ (sym p) (sym (m j (omega arith) high) ∙ e);
         };
       }
 
@@ -212,6 +215,7 @@ module _ (es : List Entry) (i j : ℕ) (h : i < length es) (k : j < length es) (
           values = one-ordered;
           single = λ e. series-none-multiple _ _ _ d;
           alone = λ e. clash e;
+          only = λ k low high e. refl;
         };
       })
 

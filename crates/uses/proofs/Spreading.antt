@@ -1,5 +1,5 @@
 -- The use rules of indexes, by the tests that the code makes. Assumes nothing.
-use mathlib.Core.Path.{_≡_, refl}
+use mathlib.Core.Path.{_≡_, refl, ap}
 use mathlib.Core.Bool.{Bool, true, false, _&&_}
 use mathlib.Core.Option.{Option, none, some}
 use Prim.Native.Nat.{ℕ, suc, _≤_}
@@ -8,7 +8,8 @@ use lib.Dec.{leb}
 use Rattle.rules.specs.Outcome.{done, refused}
 use Rattle.rules.specs.Limits.{highest-index}
 use Rattle.rules.specs.Format.{Range}
-use Rattle.rules.specs.Use.{just, in-order, spread}
+use Rattle.rules.specs.Use.{Spread, just, in-order, spread}
+use Rattle.rules.proofs.Steps.{from-need, done-inj, not-done}
 use Rattle.tables.proofs.Bools.{and-true, and-both}
 use Rattle.uses.specs.Meant.{ranged}
 
@@ -80,3 +81,15 @@ module _ (last : ℕ) where
   pub plain-indexed : (os : Range) → refused 5 ≡ spread false false last (some os) none
   unfolding spread
   plain-indexed os = refl
+
+-- What lies outside has occurrence 1 alone.
+outside-alone : (mu : Bool) (last : ℕ) (os vs : Option Range) (s : Spread) → spread false mu last os vs ≡ done s → s .occurrences ≡ just 1
+unfolding spread
+outside-alone mu last os (some vs) s p = absurd (not-done p)
+outside-alone true last none none s p = from-need (in-order (just (suc last))) 5 _ p λ t k. rw (← done-inj k) refl
+outside-alone true last (some vs) none s p = from-need (in-order vs) 5 _ p λ t k. rw (← done-inj k) refl
+outside-alone false last none none s p = rw (← done-inj p) refl
+outside-alone false last (some os) none s p = absurd (not-done p)
+
+pub upto-one : (inside mu : Bool) (last : ℕ) (os vs : Option Range) (s : Spread) → spread inside mu last os vs ≡ done s → inside ≡ false → s .occurrences .upto ≡ 1
+upto-one inside mu last os vs s p e = ap (λ (r : Range). r .upto) (outside-alone mu last os vs s (rw e at p))

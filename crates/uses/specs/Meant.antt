@@ -129,12 +129,15 @@ pub record Span-held (es : List Entry) (s : Span) : Type 0 where
   pub values : in-order (range (s .«value_from») (s .«value_upto»)) ≡ true
   pub single : s .standard ≡ true → filter (λ a. a .field .multiple) (map as-stored (fields-from es (s .first) (s .end))) ≡ []
   pub alone : s .standard ≡ false → One-field es s
+  -- What lies outside periodic groups has occurrence 1 alone.
+  pub only : (j : ℕ) → s .first ≤ j → j < s .end → inside-at es j ≡ false → s .upto ≡ 1
 
 abbrev pub Use-held : List Entry → Bytes → Use → Type 0
 Use-held es f (code.Blanks n) = n < 256
 Use-held es f (code.Text from upto) = (from < upto) × (upto ≤ length f) × (upto ≤ from + longest-text)
 Use-held es f (code.GroupCount i) = (i < length es) × (getD es i blank .what ≡ group true)
-Use-held es f (code.ValueCount i k) = (i < length es) × (is-multiple (getD es i blank .what) ≡ true) × (1 ≤ k) × (k ≤ highest-index)
+Use-held es f (code.ValueCount i k) =
+    (i < length es) × (is-multiple (getD es i blank .what) ≡ true) × (1 ≤ k) × (k ≤ highest-index) × (inside-at es i ≡ false → k ≡ 1)
 Use-held es f (code.Values s) = Span-held es s
 
 abbrev pub Held : List Entry → Bytes → Meant → Type 0

@@ -25,7 +25,7 @@ loop-holds : tie.Need-loop-holds Inv-loop μ-loop
 loop-holds c =
     let s = c .before .before .before in
     let a = s .args in
-    (run-start (entries-of (a .t .now)) (a .b .now) (a .places .now) (a .end) _ (a .at) (a .write) (a .out .now) (s .pre .3) (s .pre .4) (s .pre .5) (s .pre .6), bounds (a .s .from) (a .s .upto) (s .pre .1 .occurrences) .0)
+    (run-start (entries-of (a .t .now)) (a .b .now) (a .places .now) (a .end) _ (a .at) (a .write) (a .out .now) (s .pre .2) (s .pre .3) (s .pre .4) (s .pre .5), bounds (a .s .from) (a .s .upto) (s .pre .1 .occurrences) .0)
 
 put-row-requires : tie.Need-put-row-requires Inv-loop μ-loop
 put-row-requires c κs =
@@ -36,8 +36,8 @@ put-row-requires c κs =
       s .pre .0,
       s .pre .1,
       l .inv .1,
-      λ j m n k. (let u = s .pre .2 j m n k in omega arith),
-      s .pre .3,
+      λ j m n k. (let u = s .pre .1 .only j m n k in omega arith),
+      s .pre .2,
       l .inv .0 .fits,
       l .inv .0 .room,
       run-sound (l .inv .0) (row-items (entries-of (a .t .now)) (a .s) (l .o)) (span-items (entries-of (a .t .now)) (a .s) (l .o + 1))

@@ -3,7 +3,6 @@ use mathlib.Core.Path.{subst}
 use native.Mathlib.Omega.{arith}
 use Rattle.tables.specs.Entries.{entries-of}
 use Rattle.uses.specs.Meant.{Use-held}
-use Rattle.reading.specs.Runs.{Reaches}
 use Rattle.reading.proofs.Elements.{use-blanks, use-text, use-group-count, use-value-count, span-sound, use-span}
 use borrow.Author.Needs.{needs}
 use Rattle.reading.proofs.put_use.Statement.{statement}
@@ -54,7 +53,7 @@ group-count-requires c κs =
     let a = s .args in
     let v = c .before .u3 .given in
     let w = subst (Use-held (entries-of (a .t .now)) (a .f .now)) (v .1) (s .pre .1) in
-    (s .pre .0, w .0, w .1, s .pre .3)
+    (s .pre .0, w .0, w .1, s .pre .2)
 
 put-count-requires : tie.Need-put-count-requires
 put-count-requires c κs = search needs
@@ -68,8 +67,7 @@ value-count-requires c κs =
     let a = s .args in
     let v = c .before .u4 .given in
     let w = subst (Use-held (entries-of (a .t .now)) (a .f .now)) (v .1) (s .pre .1) in
-    let z = subst (Reaches (entries-of (a .t .now))) (v .1) (s .pre .2) in
-    (s .pre .0, w .0, w .1, w .2, z, s .pre .3)
+    (s .pre .0, w .0, w .1, w .2, w .4, s .pre .2)
 
 put-count-requires-2 : tie.Need-put-count-requires-2
 put-count-requires-2 c κs = search needs
@@ -83,8 +81,7 @@ put-span-requires c κs =
     let a = s .args in
     let v = c .before .before .u5 .given in
     let w = subst (Use-held (entries-of (a .t .now)) (a .f .now)) (v .1) (s .pre .1) in
-    let z = subst (Reaches (entries-of (a .t .now))) (v .1) (s .pre .2) in
-    (s .pre .0, w, z, s .pre .3, s .pre .4, s .pre .5, span-sound (entries-of (a .t .now)) (a .b .now) (a .places .now) (a .f .now) (a .at) (a .end) (a .write) _ (v .1) (s .pre .6))
+    (s .pre .0, w, s .pre .2, s .pre .3, s .pre .4, span-sound (entries-of (a .t .now)) (a .b .now) (a .places .now) (a .f .now) (a .at) (a .end) (a .write) _ (v .1) (s .pre .5))
 
 same-length : tie.Need-same-length
 same-length c = search needs

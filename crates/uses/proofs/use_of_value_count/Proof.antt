@@ -1,8 +1,9 @@
 -- `uses::use_of_value_count` meets its contract: the tests that led to each return settle the rule. Assumes nothing.
-use mathlib.Core.Path.{sym, _∙_}
+use mathlib.Core.Path.{refl, sym, _∙_}
 use native.Mathlib.Omega.{arith}
 use Rattle.formats.specs.Elements.{range}
 use Rattle.rules.specs.Use.{in-order}
+use Rattle.tables.proofs.Bools.{clash}
 use Rattle.uses.proofs.Spreading.{ordered-within}
 use Rattle.uses.proofs.Settling.{refuse, count-outside, count-outside-indexed, count-inside, count-inside-bare, count-inside-broken}
 use borrow.Author.Needs.{needs}
@@ -21,11 +22,12 @@ in-order-requires c κs = search needs
 returns : tie.Need-returns
 returns c =
     let s = c .before .before .before .before .before .before .before in
+    let i = sym (c .before .before .before .before .before .inside .ensures) ∙ c .before .before .before .before .if1 .taken in
     let o = sym (c .before .in-order .ensures) ∙ c .if3 .taken in
     record {
-      answer = λ f. rw (sym (c .before .before .before .before .before .inside .ensures) ∙ c .before .before .before .before .if1 .taken, c .before .before .before .if2 .taken, ← c .before .before .wide .ensures)
+      answer = λ f. rw (i, c .before .before .before .if2 .taken, ← c .before .before .wide .ensures)
           (sym (count-inside _ _ _ (s .pre .2) o));
-      held = λ f. let w = ordered-within (range (c .before .before .wide .result) (c .before .before .wide .result)) o in (s .pre .1, s .pre .2, w .0, w .2);
+      held = λ f. let w = ordered-within (range (c .before .before .wide .result) (c .before .before .wide .result)) o in (s .pre .1, s .pre .2, w .0, w .2, λ e. clash (sym i ∙ e));
     }
 
 returns-2 : tie.Need-returns-2
@@ -44,7 +46,7 @@ returns-5 c =
     let s = c .before .before .before .before in
     record {
       answer = λ f. rw (sym (c .before .before .inside .ensures) ∙ c .before .if1 .left, c .if4 .left) (sym (count-outside _ _ (s .pre .2)));
-      held = λ f. (s .pre .1, s .pre .2, omega arith, omega arith);
+      held = λ f. (s .pre .1, s .pre .2, omega arith, omega arith, λ e. refl);
     }
 
 pub use-of-value-count-spec : {M : Type 1} → statement M
