@@ -1,4 +1,5 @@
 pub mod Elements
+pub mod Formats
 pub mod Going
 pub mod Running
 pub mod Singles

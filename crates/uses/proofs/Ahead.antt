@@ -19,13 +19,13 @@ use Rattle.formats.specs.declared.Element.{Element}
 use Rattle.formats.specs.declared.syntax.Step.{Step}
 use Rattle.formats.specs.declared.syntax.Step.the-variants as step
 use Rattle.uses.specs.Meant.{use-meant, Means, Remembered, uses-of}
-use Rattle.uses.specs.Twice.{Ahead, Nexts}
+use Rattle.uses.specs.Ahead.{Ahead, Nexts}
 use Rattle.uses.specs.declared.Use.{Use}
 use Rattle.uses.specs.declared.Meant.{Meant}
 use Rattle.uses.specs.declared.Meant.the-variants as meant
-use Rattle.uses.specs.declared.twice.Next.{Next}
-use Rattle.uses.specs.declared.twice.Next.the-variants.{More, Last, Refused}
-use Rattle.uses.proofs.Testing.{no-index, zeros, parsed-all, span-known}
+use Rattle.uses.specs.declared.Next.{Next}
+use Rattle.uses.specs.declared.Next.the-variants.{More, Last, Refused}
+use Rattle.uses.proofs.Testing.{no-index, zeros, parsed-all}
 
 -- An answer that is matched is one of its variants.
 pub step-as : {f : Bytes} {at : ℕ} {o : Outcome (List rules.Element)} {r s : Step} → r ≡ s → Stepped f at o r → Stepped f at o s
@@ -71,7 +71,7 @@ module _ {es : List Entry} {f : Bytes} {at : ℕ} {before : List ℕ} where
     pub next-last : Stepped f at (parsed (drop at f)) (step.Last e) → {u : Use} → Means es before e (meant.As u) → Nexts es f at before before (Last u)
     next-last s {u} m = record {
       same = refl;
-      known = span-known es f u (m .held f (s .place));
+      known = m .held f (s .place);
       answer = λ us w.
           let r = first-meant e us w [] (done-inj (sym (s .answer) ∙ w .parsed)) u m in
           r .1 ∙ ap (λ vs. use-meant es f u ∷ vs) (no-uses es _ (r .0) (r .2));
@@ -95,7 +95,7 @@ module _ {es : List Entry} {f : Bytes} {at : ℕ} {before : List ℕ} where
       pub next-more : {u : Use} → Means es before e (meant.As u) → {after : List ℕ} → Remembered es u before after → Nexts es f at before after (More u next)
       next-more {u} m k = record {
         same = k .same;
-        known = (s .place .0, s .place .1, span-known es f u (m .held f (s .place .2)));
+        known = (s .place .0, s .place .1, m .held f (s .place .2));
         answer = λ us w.
             from-bind (parsed (drop next f)) _ (sym (s .answer) ∙ w .parsed) λ ys g q.
             let r = first-meant e us w ys (done-inj q) u m in (

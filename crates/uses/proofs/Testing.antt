@@ -50,7 +50,7 @@ pub record Testing (es : List Entry) (f : Bytes) (last : List ℕ) (at : ℕ) : 
   pub remembers : Remembers es last indexes
   pub rest : (r : ℕ) → Tested (uses es indexes left) r → Tested (uses-of es f) r
 
-from-is-done : {A C : Type 0} (o : Outcome A) → is-done o ≡ true → ((a : A) → o ≡ done a → C) → C
+pub from-is-done : {A C : Type 0} (o : Outcome A) → is-done o ≡ true → ((a : A) → o ≡ done a → C) → C
 from-is-done (done a) e k = k a refl
 from-is-done (refused n) e k = clash (sym e)
 

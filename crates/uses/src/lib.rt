@@ -16,6 +16,7 @@ ghost use Rattle.rules.specs.Use.{in-order, spread};
 ghost use Rattle.tables.specs.Entries.{letter-number, Valid, entries-of, blank, is-group, is-multiple};
 ghost use Rattle.formats.specs.Elements.{range};
 ghost use Rattle.uses.specs.Meant.{occurrences, bracket, spread-of, ranged, Spread-inside, Format-in-effect, Length-in-effect, Asks, Settles, field-use, group-use, count-use, series-use, stored-span, field-span, Means, Name-means, Count-means, Series-means, Span-held, Span-known, Remembered, number-of, Tested, uses-of};
+ghost use Rattle.uses.specs.Ahead.{Nexts};
 
 // Occurrences: of the fields among the entries from first up to end, those from-upto and in each the values value_from-value_upto.
 // Each field is at its own format and length where standard holds; else first is the one field, at the format and the size in effect.
@@ -45,6 +46,13 @@ pub enum Use {
 pub enum Meant {
     As(Use),
     Refused(u8),
+}
+
+// The use of an element and the place where the next element begins, the use of the last element, or no use.
+pub enum Next {
+    More(Use, usize),
+    Last(Use),
+    Refused,
 }
 
 // The occurrences and the values that an element means, and whether the bare name of an MU field means them.
@@ -455,6 +463,27 @@ pub fn remember(t: &[u8], last: &mut [u8; 64], u: Use)
         Use::ValueCount(_, _) => {
             return;
         }
+    }
+}
+
+// The use of the element at a place, behind the last indexes so far, which it adds to.
+pub fn next_use(t: &[u8], f: &[u8], at: usize, last: &mut [u8; 64]) -> Next
+    requires { ⌜ Valid (now t) × (at ≤ length (now f)) × (length (now last) ≡ 64) ⌝ }
+    ensures { λ r. ⌜ Nexts (entries-of (now (t .entry))) (now (f .entry)) at (now (last .entry)) (now (last .exit)) r ⌝ }
+{
+    match formats::syntax::next(f, at) {
+        Step::More(e, place) => match use_of(t, last, e) {
+            Meant::As(u) => {
+                remember(t, last, u);
+                Next::More(u, place)
+            }
+            Meant::Refused(_) => Next::Refused,
+        },
+        Step::Last(e) => match use_of(t, last, e) {
+            Meant::As(u) => Next::Last(u),
+            Meant::Refused(_) => Next::Refused,
+        },
+        Step::Bad => Next::Refused,
     }
 }
 

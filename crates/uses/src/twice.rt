@@ -1,10 +1,8 @@
 // Refusal 6: whether two elements of a format name an occurrence in common.
-use super::Meant;
+use super::Next;
 use super::Span;
 use super::Use;
-use super::remember;
-use super::use_of;
-use formats::syntax::Step;
+use super::next_use;
 ghost use mathlib.Core.Path.{_≡_};
 ghost use Prim.Native.Nat.{_≤_, max, min};
 ghost use lib.ListN.{length};
@@ -12,14 +10,7 @@ ghost use Rattle.rules.specs.Update.{meet, share};
 ghost use Rattle.tables.specs.Entries.{Valid, entries-of};
 ghost use Rattle.formats.specs.Elements.{range};
 ghost use Rattle.uses.specs.Meant.{Span-held, Span-known};
-ghost use Rattle.uses.specs.Twice.{stored-fields, Alike, Nexts, Named-with, Named-twice};
-
-// The use of an element and the place where the next element begins, the use of the last element, or no use.
-enum Next {
-    More(Use, usize),
-    Last(Use),
-    Refused,
-}
+ghost use Rattle.uses.specs.Twice.{stored-fields, Alike, Named-with, Named-twice};
 
 fn larger(a: usize, b: usize) -> usize
     ensures { λ r. ⌜ r ≡ max a b ⌝ }
@@ -91,27 +82,6 @@ fn name_alike(t: &[u8], a: Use, b: Use) -> bool
         Use::Text(_, _) => false,
         Use::GroupCount(_) => false,
         Use::ValueCount(_, _) => false,
-    }
-}
-
-// The use of the element at a place, behind the last indexes so far, which it adds to.
-fn next_use(t: &[u8], f: &[u8], at: usize, last: &mut [u8; 64]) -> Next
-    requires { ⌜ Valid (now t) × (at ≤ length (now f)) × (length (now last) ≡ 64) ⌝ }
-    ensures { λ r. ⌜ Nexts (entries-of (now (t .entry))) (now (f .entry)) at (now (last .entry)) (now (last .exit)) r ⌝ }
-{
-    match formats::syntax::next(f, at) {
-        Step::More(e, place) => match use_of(t, last, e) {
-            Meant::As(u) => {
-                remember(t, last, u);
-                Next::More(u, place)
-            }
-            Meant::Refused(_) => Next::Refused,
-        },
-        Step::Last(e) => match use_of(t, last, e) {
-            Meant::As(u) => Next::Last(u),
-            Meant::Refused(_) => Next::Refused,
-        },
-        Step::Bad => Next::Refused,
     }
 }
 

@@ -5,6 +5,7 @@ use native.Mathlib.Omega.{arith}
 use lib.ListN.{length, replicate}
 use Rattle.rules.specs.Update.{named-twice}
 use Rattle.tables.specs.Entries.{entries-of}
+use Rattle.uses.proofs.Testing.{span-known}
 use Rattle.uses.proofs.Ahead.{nexts-as, Rest, rest-start, rest-more, rest-stops, rest-last, rest-refused, twice-met, twice-unmet, twice-last, uses-all}
 use borrow.Author.Needs.{needs}
 use Rattle.uses.proofs.twice.named_twice.Statement.{statement}
@@ -29,7 +30,7 @@ named-with-requires : tie.Need-named-with-requires Inv-loop μ-loop
 named-with-requires c κs =
     let s = c .before .before .before .before .before .before .before .before in
     let n = nexts-as (c .before .u .given .1) (c .before .before .before .next-use .ensures) in
-    (s .pre, n .known .1, n .same ∙ c .before .before .before .before .before .loop .inv .1, n .known .2)
+    (s .pre, n .known .1, n .same ∙ c .before .before .before .before .before .loop .inv .1, span-known (entries-of (s .args .t .now)) (s .args .f .now) (c .before .u .given .0 .0) (n .known .2))
 
 returns : tie.Need-returns Inv-loop μ-loop
 returns c =

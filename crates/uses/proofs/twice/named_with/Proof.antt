@@ -7,6 +7,7 @@ use Rattle.rules.specs.Lists.{any}
 use Rattle.rules.specs.Update.{name-alike}
 use Rattle.tables.specs.Entries.{entries-of}
 use Rattle.uses.specs.Meant.{use-meant}
+use Rattle.uses.proofs.Testing.{span-known}
 use Rattle.uses.proofs.Ahead.{nexts-as, Rest, rest-start, rest-more, rest-stops, rest-last, rest-refused, any-met, any-unmet, any-last}
 use borrow.Author.Needs.{needs}
 use Rattle.uses.proofs.twice.named_with.Statement.{statement}
@@ -32,7 +33,7 @@ name-alike-requires : tie.Need-name-alike-requires Inv-loop μ-loop
 name-alike-requires c κs =
     let s = c .before .before .before .before .before .before .before .before in
     let n = nexts-as (c .before .v .given .1) (c .before .before .before .next-use .ensures) in
-    (s .pre .0, s .pre .3, n .known .2)
+    (s .pre .0, s .pre .3, span-known (entries-of (s .args .t .now)) (s .args .f .now) (c .before .v .given .0 .0) (n .known .2))
 
 returns : tie.Need-returns Inv-loop μ-loop
 returns c =
@@ -59,7 +60,7 @@ name-alike-requires-2 : tie.Need-name-alike-requires-2 Inv-loop μ-loop
 name-alike-requires-2 c κs =
     let s = c .before .before .before .before .before .before .before .before in
     let n = nexts-as (c .before .v2 .given .1) (c .before .before .before .next-use .ensures) in
-    (s .pre .0, s .pre .3, n .known)
+    (s .pre .0, s .pre .3, span-known (entries-of (s .args .t .now)) (s .args .f .now) (c .before .v2 .given .0 .0) (n .known))
 
 returns-2 : tie.Need-returns-2 Inv-loop μ-loop
 returns-2 c =

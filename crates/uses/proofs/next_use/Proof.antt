@@ -1,10 +1,10 @@
--- `twice::next_use` meets its contract: the element at the place is the first that is left, and its use the first use. Assumes nothing.
+-- `uses::next_use` meets its contract: the element at the place is the first that is left, and its use the first use. Assumes nothing.
 use Rattle.tables.specs.Entries.{entries-of}
 use Rattle.uses.proofs.Testing.{span-known}
 use Rattle.uses.proofs.Ahead.{step-as, means-as, next-bad, next-last, last-refused, more-refused, next-more}
 use borrow.Author.Needs.{needs}
-use Rattle.uses.proofs.twice.next_use.Statement.{statement}
-use Rattle.uses.proofs.twice.next_use.Tie as tie
+use Rattle.uses.proofs.next_use.Statement.{statement}
+use Rattle.uses.proofs.next_use.Tie as tie
 
 next-requires : tie.Need-next-requires
 next-requires c κs = search needs
