@@ -102,33 +102,38 @@ Filled t b places f end write entry exit n =
 pub unwritten : (es : List Entry) (b : Bytes) (places : List ℕ) (xs : List Item) (at end : ℕ) → Sound es b places xs at end false
 unwritten es b places xs at end w = absurd (not-both w)
 
--- They are all tested first, in the buffer and within the limit.
-module _ (t b : Bytes) (places : List ℕ) (f out : Bytes) {end : ℕ} (v : Valid t) (h : Holds (entries-of t) b places) (kept : is-done (uses-of (entries-of t) f) ≡ true)
-    (least : end ≡ min (length out) longest-items) where
+-- The items may be filled up to the end of the buffer, or to the limit.
+pub record Ready (t b : Bytes) (places : List ℕ) (f out : Bytes) (end : ℕ) : Type 0 where
+  pub valid : Valid t
+  pub holds : Holds (entries-of t) b places
+  pub kept : is-done (uses-of (entries-of t) f) ≡ true
+  pub room : end ≡ min (length out) longest-items
+
+module _ {t b : Bytes} {places : List ℕ} {f out : Bytes} {end : ℕ} (s : Ready t b places f out end) where
   -- The outcome, for the record and the uses that there are.
   given : List rules.Use → Outcome Bytes
-  given us = filled (parts (entries-of t)) (h .0) (end - 0) (items us)
+  given us = filled (parts (entries-of t)) (s .holds .0) (end - 0) (items us)
 
   read-given : (us : List rules.Use) → uses-of (entries-of t) f ≡ done us → read t b f (length out) ≡ given us
   unfolding given
-  read-given us u = read-held t b f (length out) places v (h .0) (h .1) ∙ rw (u, sub-zero, least) refl
+  read-given us u = read-held t b f (length out) places (s .valid) (s .holds .0) (s .holds .1) ∙ rw (u, sub-zero, s .room) refl
 
   used : {C : Type 0} → ((us : List rules.Use) → uses-of (entries-of t) f ≡ done us → C) → C
-  used k = by-outcome (uses-of (entries-of t) f) k (λ n e. absurd (not-both (sym (ap is-done e) ∙ kept)))
+  used k = by-outcome (uses-of (entries-of t) f) k (λ n e. absurd (not-both (sym (ap is-done e) ∙ s .kept)))
 
   -- A test that is refused.
   module _ {out′ : Bytes} {r : Next} (g : Filled t b places f end false out out′ r) {n : ℕ} (e : r ≡ next.Refused n) where
     refused-with : (us : List rules.Use) → uses-of (entries-of t) f ≡ done us → given us ≡ refused n
     unfolding given
-    refused-with us u = placed-refused _ 0 n (sym e ∙ g us u (h .0) (h .1) .answer)
+    refused-with us u = placed-refused _ 0 n (sym e ∙ g us u (s .holds .0) (s .holds .1) .answer)
 
     pub refused-between : Between 7 9 n
     unfolding given
-    refused-between = used λ us u. subst (Only (Between 7 9)) (refused-with us u) (filled-only (parts (entries-of t)) (h .0) (end - 0) (items us))
+    refused-between = used λ us u. subst (Only (Between 7 9)) (refused-with us u) (filled-only (parts (entries-of t)) (s .holds .0) (end - 0) (items us))
 
     pub refused-read : (x : Refusal) → refusal-number x ≡ n → Settled (read t b f (length out)) out out′ (Refused x)
     refused-read x q = used λ us u.
-        rw (g us u (h .0) (h .1) .bytes) (settled-refused _ out x (read-given us u ∙ refused-with us u ∙ ap refused (sym q)))
+        rw (g us u (s .holds .0) (s .holds .1) .bytes) (settled-refused _ out x (read-given us u ∙ refused-with us u ∙ ap refused (sym q)))
 
   -- A test that is passed, and then the writing.
   module _ {out′ : Bytes} {r : Next} (g : Filled t b places f end false out out′ r) {n : ℕ} (e : r ≡ next.At n) where
@@ -136,14 +141,14 @@ module _ (t b : Bytes) (places : List ℕ) (f out : Bytes) {end : ℕ} (v : Vali
     passed-sound us u w rec p = ap is-done (placed-at (filled (parts (entries-of t)) rec (end - 0) (items us)) n (sym e ∙ g us u rec p .answer) .1)
 
     pub passed-same : out′ ≡ out
-    passed-same = used λ us u. g us u (h .0) (h .1) .bytes
+    passed-same = used λ us u. g us u (s .holds .0) (s .holds .1) .bytes
 
     pub written-read : {out″ : Bytes} {m : Next} → Filled t b places f end true out′ out″ m → Settled (read t b f (length out)) out out″ (Done n)
     unfolding bytes-of given
     written-read k = used λ us u.
-        let o = placed-at (given us) n (sym e ∙ g us u (h .0) (h .1) .answer) in
+        let o = placed-at (given us) n (sym e ∙ g us u (s .holds .0) (s .holds .1) .answer) in
         settled-done _ (o .0) out _ n (read-given us u ∙ o .1) (o .2)
-        (k us u (h .0) (h .1) .bytes ∙ ap (λ z. splice 0 (bytes-of z) out′) (o .1) ∙ ap (splice 0 (o .0)) passed-same)
+        (k us u (s .holds .0) (s .holds .1) .bytes ∙ ap (λ z. splice 0 (bytes-of z) out′) (o .1) ∙ ap (splice 0 (o .0)) passed-same)
 
 -- What is written lies in the buffer.
 filled-within : (t b f : Bytes) (room : ℕ) → Valid t → length (bytes-of (read t b f room)) ≤ room
