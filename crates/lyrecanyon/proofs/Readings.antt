@@ -137,8 +137,8 @@ module _ {t b : Bytes} {places : List ℕ} {f out : Bytes} {end : ℕ} (s : Read
 
   -- A test that is passed, and then the writing.
   module _ {out′ : Bytes} {r : Next} (g : Filled t b places f end false out out′ r) {n : ℕ} (e : r ≡ next.At n) where
-    pub passed-sound : (us : List rules.Use) → uses-of (entries-of t) f ≡ done us → Sound (entries-of t) b places (items us) 0 end true
-    passed-sound us u w rec p = ap is-done (placed-at (filled (parts (entries-of t)) rec (end - 0) (items us)) n (sym e ∙ g us u rec p .answer) .1)
+    pub passed-sound : (write : Bool) (us : List rules.Use) → uses-of (entries-of t) f ≡ done us → Sound (entries-of t) b places (items us) 0 end write
+    passed-sound write us u w rec p = ap is-done (placed-at (filled (parts (entries-of t)) rec (end - 0) (items us)) n (sym e ∙ g us u rec p .answer) .1)
 
     pub passed-same : out′ ≡ out
     passed-same = used λ us u. g us u (s .holds .0) (s .holds .1) .bytes

@@ -111,9 +111,9 @@ fn read_items(
     let next = reading::fill(table, stored, places, format, buffer, end, false);
     match next {
         Next::Refused(n) => Answer::Refused(refusal_of(n)),
-        Next::At(n) => {
+        Next::At(used) => {
             reading::fill(table, stored, places, format, buffer, end, true);
-            Answer::Done(n)
+            Answer::Done(used)
         }
     }
 }

@@ -3,6 +3,7 @@ use mathlib.Core.Path.{_≡_, sym, ap, _∙_}
 use native.Mathlib.Omega.{arith}
 use borrow.Author.Tests.{not-true, not-false}
 use lib.ListN.{length, take}
+use lib.Seq.{length-take-le}
 use Rattle.buffer.specs.Splice.{splice}
 use Rattle.buffer.proofs.Laws.{take-splice}
 use Rattle.tables.specs.Entries.{Valid}
@@ -13,6 +14,13 @@ use borrow.Author.Needs.{needs}
 use Rattle.lyrecanyon.proofs.empty.Statement.{statement}
 use Rattle.lyrecanyon.proofs.empty.Tie as tie
 
+-- What is known behind the test of the table, and once the record's length is computed.
+is-table : (c : tie.Else1) → Valid (c .before .before .before .before .args .table .now)
+is-table c = sym (c .before .valid .ensures) ∙ not-false (c .before .valid .result) (c .if1 .left)
+
+size-is : (c : tie.After-empty-length) → c .empty-length .result ≡ length (empty-bytes (c .before .before .before .before .before .args .table .now))
+size-is c = c .empty-length .ensures ∙ sym (empty-size (c .before .before .before .before .before .args .table .now))
+
 valid-requires : tie.Need-valid-requires
 valid-requires c κs = search needs
 
@@ -22,51 +30,32 @@ returns c =
     settled-refused _ (a .room .now) NoTable (empty-refused (a .table .now) (length (a .room .now)) (sym (c .before .valid .ensures) ∙ not-true (c .before .valid .result) (c .if1 .taken)))
 
 empty-length-requires : tie.Need-empty-length-requires
-empty-length-requires c κs =
-    sym (c .before .valid .ensures) ∙ not-false (c .before .valid .result) (c .if1 .left)
+empty-length-requires c κs = is-table c
 
 returns-2 : tie.Need-returns-2
 returns-2 c =
     let a = c .before .before .before .before .before .before .args in
-    let v : Valid (c .before .before .before .before .before .before .args .table .now) = sym (c .before .before .before .valid .ensures) ∙ not-false (c .before .before .before .valid .result) (c .before .before .if1 .left) in
-    let z = c .before .empty-length .ensures ∙ sym (empty-size (a .table .now)) in
-    settled-refused _ (a .room .now) NoRoom (empty-over (a .table .now) (length (a .room .now)) v (omega (arith, z)))
+    settled-refused _ (a .room .now) NoRoom (empty-over (a .table .now) (length (a .room .now)) (is-table (c .before .before)) (omega (arith, size-is (c .before))))
 
 returns-3 : tie.Need-returns-3
 returns-3 c =
     let a = c .before .before .before .before .before .before .before .args in
-    let v : Valid (c .before .before .before .before .before .before .before .args .table .now) = sym (c .before .before .before .before .valid .ensures) ∙ not-false (c .before .before .before .before .valid .result) (c .before .before .before .if1 .left) in
-    let z = c .before .before .empty-length .ensures ∙ sym (empty-size (a .table .now)) in
-    settled-refused _ (a .room .now) NoRoom (empty-cramped (a .table .now) (length (a .room .now)) v (omega (arith, z)))
+    settled-refused _ (a .room .now) NoRoom (empty-cramped (a .table .now) (length (a .room .now)) (is-table (c .before .before .before)) (omega (arith, size-is (c .before .before))))
 
 slice-aggregate-write-empty : tie.Need-slice-aggregate-write-empty
 slice-aggregate-write-empty c = search needs
 
 write-empty-requires : tie.Need-write-empty-requires
-write-empty-requires c κs =
-    let a = c .before .before .before .before .before .before .before .before .args in
-    let v : Valid (c .before .before .before .before .before .before .before .before .args .table .now) = sym (c .before .before .before .before .before .valid .ensures) ∙ not-false (c .before .before .before .before .before .valid .result) (c .before .before .before .before .if1 .left) in
-    (v, omega (arith, c .before .before .before .empty-length .ensures))
+write-empty-requires c κs = (is-table (c .before .before .before .before), omega (arith, c .before .before .before .empty-length .ensures))
 
 array-share-prefix-record : tie.Need-array-share-prefix-record
 array-share-prefix-record c = search needs
 
 slice-aggregate-put : tie.Need-slice-aggregate-put
-unfolding empty-bytes
-slice-aggregate-put c =
-    let a = c .before .before .before .before .before .before .before .before .before .before .before .args in
-    let z = c .before .before .before .before .before .before .empty-length .ensures ∙ sym (empty-size (a .table .now)) in
-    let w = ap (take (c .before .before .before .before .before .before .empty-length .result)) (c .before .before .write-empty .ensures) ∙ take-splice (empty-bytes (a .table .now)) _ (c .before .before .before .before .before .before .empty-length .result) z in
-    z ∙ sym (ap length w)
+slice-aggregate-put c = sym (length-take-le _ (c .before .before .write-empty .last .1 .0) (omega arith))
 
 put-requires : tie.Need-put-requires
-unfolding empty-bytes
-put-requires c κs =
-    let a = c .before .before .before .before .before .before .before .before .before .before .before .before .args in
-    let z = c .before .before .before .before .before .before .before .empty-length .ensures ∙ sym (empty-size (a .table .now)) in
-    let w = ap (take (c .before .before .before .before .before .before .before .empty-length .result)) (c .before .before .before .write-empty .ensures) ∙ take-splice (empty-bytes (a .table .now)) _ (c .before .before .before .before .before .before .before .empty-length .result) z in
-    let l = ap length w in
-    omega (arith, z)
+put-requires c κs = omega (arith, slice-aggregate-put (c .before))
 
 same-length : tie.Need-same-length
 same-length c = search needs
@@ -75,11 +64,11 @@ returns-4 : tie.Need-returns-4
 unfolding empty-bytes
 returns-4 c =
     let a = c .before .before .before .before .before .before .before .before .before .before .before .before .before .before .before .args in
-    let v : Valid (c .before .before .before .before .before .before .before .before .before .before .before .before .before .before .before .args .table .now) = sym (c .before .before .before .before .before .before .before .before .before .before .before .before .valid .ensures) ∙ not-false (c .before .before .before .before .before .before .before .before .before .before .before .before .valid .result) (c .before .before .before .before .before .before .before .before .before .before .before .if1 .left) in
-    let z = c .before .before .before .before .before .before .before .before .before .before .empty-length .ensures ∙ sym (empty-size (a .table .now)) in
-    let w = ap (take (c .before .before .before .before .before .before .before .before .before .before .empty-length .result)) (c .before .before .before .before .before .before .write-empty .ensures) ∙ take-splice (empty-bytes (a .table .now)) _ (c .before .before .before .before .before .before .before .before .before .before .empty-length .result) z in
+    let n = c .before .before .before .before .before .before .before .before .before .before .empty-length .result in
+    let z = size-is (c .before .before .before .before .before .before .before .before .before .before) in
+    let w = ap (take n) (c .before .before .before .before .before .before .write-empty .ensures) ∙ take-splice (empty-bytes (a .table .now)) _ n z in
     settled-done _ (empty-bytes (a .table .now)) (a .room .now) _ _
-    (empty-done (a .table .now) (length (a .room .now)) v (omega (arith, z, c .before .before .before .before .before .before .before .before .before .if2 .left)) (omega (arith, z, c .before .before .before .before .before .before .before .before .if3 .left))) z
+    (empty-done (a .table .now) (length (a .room .now)) (is-table (c .before .before .before .before .before .before .before .before .before .before .before)) (omega (arith, z, c .before .before .before .before .before .before .before .before .before .if2 .left)) (omega (arith, z, c .before .before .before .before .before .before .before .before .if3 .left))) z
     (c .before .before .put .ensures .1 ∙ ap (λ bs. splice 0 bs (a .room .now)) w)
 
 pub empty-spec : {M : Type 1} → statement M

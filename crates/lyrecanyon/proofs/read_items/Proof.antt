@@ -37,7 +37,7 @@ fill-requires-2 c κs =
     let s = ready (c .before .before .before .before .before .before .before .before) in
     let g = c .before .before .before .before .before .before .fill .ensures in
     let q = passed-same s g (c .before .before .next2 .given .1) in
-    (p .0, p .1, p .2, omega (arith, s .room, ap length q), passed-sound s g (c .before .before .next2 .given .1))
+    (p .0, p .1, p .2, omega (arith, s .room, ap length q), passed-sound s g (c .before .before .next2 .given .1) _)
 
 same-length : tie.Need-same-length
 same-length c = search needs
