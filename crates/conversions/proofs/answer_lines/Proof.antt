@@ -1,40 +1,25 @@
--- `conversions::answer_lines` is safe and ends: each turn finds the end of a line behind the last. Assumes nothing.
-use Prim.Native.Nat.{_-_}
+-- `conversions::answer_lines` is safe and ends: there are ever fewer lines to ask for, and the areas keep their lengths. Assumes nothing.
 use mathlib.Core.Path.{_≡_}
 use lib.ListN.{length}
 use borrow.Author.Needs.{needs}
+use Rattle.lines.specs.Placed.{Placed}
 use Rattle.conversions.proofs.answer_lines.Statement.{statement}
 use Rattle.conversions.proofs.answer_lines.Tie as tie
 
 abbrev Inv-loop : tie.InvT-loop
-Inv-loop input bytes₀ room₀ out₀ at₀ bytes room out at = (length bytes ≡ length bytes₀) × (length room ≡ length room₀) × (length out ≡ length out₀)
+Inv-loop input₀ bytes₀ room₀ out₀ l₀ input bytes room out l = Placed (length input) l × (length input ≡ length input₀) × (length bytes ≡ length bytes₀) × (length room ≡ length room₀) × (length out ≡ length out₀)
 
 abbrev μ-loop : tie.MeasureT-loop
-μ-loop input bytes₀ room₀ out₀ at₀ bytes room out at = length input - at
+μ-loop input₀ bytes₀ room₀ out₀ l₀ input bytes room out l = l .more
+
+begin-requires : tie.Need-begin-requires Inv-loop μ-loop
+begin-requires c κs = search needs
 
 loop-holds : tie.Need-loop-holds Inv-loop μ-loop
-loop-holds c = search needs
+loop-holds c = search (needs, c .begin .ensures)
 
-find-requires : tie.Need-find-requires Inv-loop μ-loop
-find-requires c κs = search needs
-
-sub-answer-line : tie.Need-sub-answer-line Inv-loop μ-loop
-sub-answer-line c = search needs
-
-part-answer-line-start : tie.Need-part-answer-line-start Inv-loop μ-loop
-part-answer-line-start c = search needs
-
-part-answer-line-end : tie.Need-part-answer-line-end Inv-loop μ-loop
-part-answer-line-end c = search needs
-
-answer-line-requires : tie.Need-answer-line-requires Inv-loop μ-loop
-answer-line-requires c κs = search needs
-
-write-answer-requires : tie.Need-write-answer-requires Inv-loop μ-loop
-write-answer-requires c κs = search needs
-
-add-at : tie.Need-add-at Inv-loop μ-loop
-add-at c = search needs
+answer-next-requires : tie.Need-answer-next-requires Inv-loop μ-loop
+answer-next-requires c κs = search needs
 
 loop-less : tie.Need-loop-less Inv-loop μ-loop
 loop-less c = search needs
@@ -51,6 +36,9 @@ same-length-2 c = search needs
 same-length-3 : tie.Need-same-length-3 Inv-loop μ-loop
 same-length-3 c = search needs
 
+same-length-4 : tie.Need-same-length-4 Inv-loop μ-loop
+same-length-4 c = search needs
+
 returns : tie.Need-returns Inv-loop μ-loop
 returns c = search needs
 
@@ -60,17 +48,13 @@ answer-lines-spec =
     (tie.spec
     Inv-loop
     μ-loop
+    begin-requires
     loop-holds
-    find-requires
-    sub-answer-line
-    part-answer-line-start
-    part-answer-line-end
-    answer-line-requires
-    write-answer-requires
-    add-at
+    answer-next-requires
     loop-less
     loop-again
     same-length
     same-length-2
     same-length-3
+    same-length-4
     returns)
