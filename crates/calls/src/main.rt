@@ -1,13 +1,13 @@
 // Answers calls on the services, given as lines on standard input, by lines on standard output; tests/vectors/README.md has their form.
 // A line that is no call is answered `? 0 -`.
-use hexadecimal::Number;
-use hexadecimal::Three;
+use hexadecimal::Call;
 use lines::Line;
 ghost use mathlib.Core.Path.{_≡_};
 ghost use Prim.Native.Nat.{_*_, _≤_, _<_};
 ghost use lib.ListN.{length};
 ghost use Rattle.lines.specs.Placed.{Placed};
-ghost use Rattle.calls.specs.Areas.{Areas, Parts};
+ghost use Rattle.hexadecimal.specs.Answers.{Called};
+ghost use Rattle.calls.specs.Areas.{Areas};
 
 // A line of 160,000 bytes, the longest that can be a call, and its newline.
 fn input_area() -> [u8; 160001]
@@ -92,14 +92,14 @@ fn least(a: usize, b: usize) -> usize
 }
 
 // The parts of bytes that a call's words spelled are lent to the service, and room up to the length asked.
-fn ask_read(bytes: &[u8], s: Three, room: &mut [u8], asked: usize) -> Answered
-    requires { ⌜ Parts (now bytes) s ⌝ }
+fn ask_read(bytes: &[u8], c: Call, room: &mut [u8]) -> Answered
+    requires { ⌜ Called (length (now bytes)) c ⌝ }
     ensures { λ r. ⌜ r .length ≤ length (now (room .entry)) ⌝ }
 {
-    let lent = least(asked, room.len());
-    let table = s.table;
-    let record = s.record;
-    let format = s.format;
+    let lent = least(c.asked, room.len());
+    let table = c.table;
+    let record = c.record;
+    let format = c.format;
     answer_read(
         &bytes[..table],
         &bytes[table..record],
@@ -108,14 +108,15 @@ fn ask_read(bytes: &[u8], s: Three, room: &mut [u8], asked: usize) -> Answered
     )
 }
 
-fn ask_update(bytes: &[u8], s: Three, end: usize, room: &mut [u8], asked: usize) -> Answered
-    requires { ⌜ (Parts (now bytes) s) × (s .format ≤ end) × (end ≤ length (now bytes)) ⌝ }
+fn ask_update(bytes: &[u8], c: Call, room: &mut [u8]) -> Answered
+    requires { ⌜ Called (length (now bytes)) c ⌝ }
     ensures { λ r. ⌜ r .length ≤ length (now (room .entry)) ⌝ }
 {
-    let lent = least(asked, room.len());
-    let table = s.table;
-    let record = s.record;
-    let format = s.format;
+    let lent = least(c.asked, room.len());
+    let table = c.table;
+    let record = c.record;
+    let format = c.format;
+    let end = c.buffer;
     answer_update(
         &bytes[..table],
         &bytes[table..record],
@@ -125,66 +126,26 @@ fn ask_update(bytes: &[u8], s: Three, end: usize, room: &mut [u8], asked: usize)
     )
 }
 
-fn ask_empty(bytes: &[u8], end: usize, room: &mut [u8], asked: usize) -> Answered
-    requires { ⌜ end ≤ length (now bytes) ⌝ }
+fn ask_empty(bytes: &[u8], c: Call, room: &mut [u8]) -> Answered
+    requires { ⌜ Called (length (now bytes)) c ⌝ }
     ensures { λ r. ⌜ r .length ≤ length (now (room .entry)) ⌝ }
 {
-    let lent = least(asked, room.len());
+    let lent = least(c.asked, room.len());
+    let end = c.table;
     answer_empty(&bytes[..end], &mut room[..lent])
 }
 
-fn read_call(line: &[u8], bytes: &mut [u8], room: &mut [u8]) -> Answered
-    requires { ⌜ (2 ≤ length (now line)) × (length (now line) ≤ 2 * length (now bytes)) ⌝ }
-    ensures { λ r. ⌜ r .length ≤ length (now (room .entry)) ⌝ }
-{
-    let s = hexadecimal::take_three(line, bytes);
-    let n = hexadecimal::take_number(line, s.next);
-    match n {
-        Number::Is(asked) => ask_read(bytes, s, room, asked),
-        Number::NoNumber => no_call(),
-    }
-}
-
-fn update_call(line: &[u8], bytes: &mut [u8], room: &mut [u8]) -> Answered
-    requires { ⌜ (2 ≤ length (now line)) × (length (now line) ≤ 2 * length (now bytes)) ⌝ }
-    ensures { λ r. ⌜ r .length ≤ length (now (room .entry)) ⌝ }
-{
-    let s = hexadecimal::take_three(line, bytes);
-    let buffer = hexadecimal::take_bytes(line, s.next, bytes, s.format);
-    let n = hexadecimal::take_number(line, buffer.next);
-    match n {
-        Number::Is(asked) => ask_update(bytes, s, buffer.end, room, asked),
-        Number::NoNumber => no_call(),
-    }
-}
-
-fn empty_call(line: &[u8], bytes: &mut [u8], room: &mut [u8]) -> Answered
-    requires { ⌜ (2 ≤ length (now line)) × (length (now line) ≤ 2 * length (now bytes)) ⌝ }
-    ensures { λ r. ⌜ r .length ≤ length (now (room .entry)) ⌝ }
-{
-    let table = hexadecimal::take_bytes(line, 2, bytes, 0);
-    let n = hexadecimal::take_number(line, table.next);
-    match n {
-        Number::Is(asked) => ask_empty(bytes, table.end, room, asked),
-        Number::NoNumber => no_call(),
-    }
-}
-
-// The call that a line makes, by its first word, which is one letter. The bytes of the answer stand in front of room.
+// The call that a line makes. The bytes of the answer stand in front of room.
 fn answer_call(line: &[u8], bytes: &mut [u8], room: &mut [u8]) -> Answered
     requires { ⌜ length (now line) ≤ 2 * length (now bytes) ⌝ }
     ensures { λ r. ⌜ r .length ≤ length (now (room .entry)) ⌝ }
 {
-    if line.len() < 2 {
-        return no_call();
-    }
-    if line[1] != b' ' {
-        return no_call();
-    }
-    match line[0] {
-        b'R' => read_call(line, bytes, room),
-        b'U' => update_call(line, bytes, room),
-        b'E' => empty_call(line, bytes, room),
+    let c = hexadecimal::take_call(line, bytes);
+    let letter = c.letter;
+    match letter {
+        b'R' => ask_read(bytes, c, room),
+        b'U' => ask_update(bytes, c, room),
+        b'E' => ask_empty(bytes, c, room),
         _ => no_call(),
     }
 }
