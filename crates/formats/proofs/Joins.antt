@@ -15,12 +15,13 @@ use Rattle.rules.specs.Values.{strip}
 use Rattle.rules.specs.Format as rules
 use Rattle.rules.specs.Format.{turned, ends, onto, texts, skip-spaces, trim, Pending, assembled, put-before}
 use Rattle.rules.proofs.Steps.{by-test}
+use Rattle.rules.proofs.Only.{Only, Is}
+use Rattle.rules.proofs.Refusals.{texts-only, piece-only}
 use Rattle.formats.specs.Part.{part}
 use Rattle.formats.specs.Pieces.{piece-of}
 use Rattle.formats.specs.Texts.{extent, pending, rest, none-pending, reached}
 use Rattle.formats.specs.declared.pieces.Piece.{Piece}
 use Rattle.formats.specs.declared.pieces.Piece.the-variants as piece
-use Rattle.formats.proofs.Threes.{Three, three-texts, three-piece}
 
 -- A text, and the texts behind the comma or the period that ends it.
 unfoldable then : Bytes → Bytes → Outcome (List Bytes)
@@ -63,12 +64,12 @@ unfolding assembled
 last-joins t = refl
 
 -- Both ways of a refusal are the same, for it is 3.
-comma-joins : (t : Bytes) (m : Outcome (List Bytes)) → Three m → ((m >>= λ ts. done (t ∷ ts)) >>= assembled) ≡ behind t (m >>= assembled)
+comma-joins : (t : Bytes) (m : Outcome (List Bytes)) → Only (Is 3) m → ((m >>= λ ts. done (t ∷ ts)) >>= assembled) ≡ behind t (m >>= assembled)
 unfolding assembled
 comma-joins t (done ts) w = refl
-comma-joins t (refused n) w = both (rules.piece (trim t)) (three-piece (trim t))
+comma-joins t (refused n) w = both (rules.piece (trim t)) (piece-only (trim t))
   where
-    both : (o : Outcome rules.Piece) → Three o → _≡_ {A = Outcome Pending} (refused n) (o >>= λ q. refused n)
+    both : (o : Outcome rules.Piece) → Only (Is 3) o → _≡_ {A = Outcome Pending} (refused n) (o >>= λ q. refused n)
     both (done q) v = refl
     both (refused k) v = rw (w, v) refl
 
@@ -104,7 +105,7 @@ module _ (f : Bytes) (at end : ℕ) (e : end ≡ at + extent false (drop at f)) 
         rw (texts-at, drop-cons f end 0 h, ← p) (by-test (eqb (getD f end 0) period)
         (λ d. rw (then-period (part f at end) (getD f end 0) (drop (suc end) f) d) (last-joins (part f at end) ∙ ap (behind (part f at end)) (sym (rest-period f end d))))
         (λ d. rw (then-comma (part f at end) (getD f end 0) (drop (suc end) f) d)
-        (comma-joins (part f at end) (texts false (drop (suc end) f)) (three-texts false (drop (suc end) f)) ∙ ap (behind (part f at end)) (sym (rest-texts f end d)))))
+        (comma-joins (part f at end) (texts false (drop (suc end) f)) (texts-only false (drop (suc end) f)) ∙ ap (behind (part f at end)) (sym (rest-texts f end d)))))
 
 pub trim-at : (f : Bytes) (at end first last : ℕ) → part f at last ≡ strip (part f at end) → part f first last ≡ skip-spaces (part f at last)
     → trim (part f at end) ≡ part f first last

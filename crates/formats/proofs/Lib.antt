@@ -4,7 +4,6 @@ pub mod Names
 pub mod Answers
 pub mod PieceLaws
 pub mod Scans
-pub mod Threes
 pub mod Joins
 pub mod Puts
 pub mod StepLaws

@@ -7,9 +7,9 @@ use Prim.Native.Nat.{ℕ}
 use Rattle.rules.specs.Outcome.{Outcome, done, refused, _>>=_, need}
 use Rattle.rules.specs.Lists.{Bytes, absent}
 use Rattle.rules.specs.Format.{Element, element, length-piece, format-piece, Pending, texts, settled, completed, put-before, assembled}
+use Rattle.rules.proofs.Only.{Only, Is}
 use Rattle.formats.specs.Syntax.{parsed, before}
 use Rattle.formats.specs.Texts.{pending}
-use Rattle.formats.proofs.Threes.{Three}
 
 -- The elements, where neither a length nor a format stands before them.
 abbrev pub settle : Pending → Outcome (List Element)
@@ -85,7 +85,7 @@ module _ (k : Pending → Outcome (List Element)) where
   put-format b x h (done p) = through (settled p) (both none (some b) (p .elements)) (done (x ∷ p .elements)) (h (p .elements))
   put-format b x h (refused n) = refl
 
-  pub put-format-bad : (b : ℕ) → ((es : List Element) → k (both none (some b) es) ≡ refused 3) → (m : Outcome Pending) → Three m
+  pub put-format-bad : (b : ℕ) → ((es : List Element) → k (both none (some b) es) ≡ refused 3) → (m : Outcome Pending) → Only (Is 3) m
       → ((m >>= put-before (format-piece b)) >>= k) ≡ refused 3
   unfolding put-before
   put-format-bad b h (done p) w =
@@ -99,7 +99,7 @@ module _ (k : Pending → Outcome (List Element)) where
   put-length l x h (done p) = through (absent (p .size)) (both (some l) (p .format) (p .elements)) (done (x p ∷ p .elements)) (h p)
   put-length l x h (refused n) = refl
 
-  pub put-length-bad : (l : ℕ) → ((p : Pending) → k (both (some l) (p .format) (p .elements)) ≡ refused 3) → (m : Outcome Pending) → Three m
+  pub put-length-bad : (l : ℕ) → ((p : Pending) → k (both (some l) (p .format) (p .elements)) ≡ refused 3) → (m : Outcome Pending) → Only (Is 3) m
       → ((m >>= put-before (length-piece l)) >>= k) ≡ refused 3
   unfolding put-before
   put-length-bad l h (done p) w =

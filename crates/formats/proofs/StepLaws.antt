@@ -14,6 +14,8 @@ use Rattle.rules.specs.Characters.{period}
 use Rattle.rules.specs.Lists.{Bytes, absent}
 use Rattle.rules.specs.Format as rules
 use Rattle.rules.specs.Format.{texts, Pending, settled, completed, put-before}
+use Rattle.rules.proofs.Only.{Only, Is, only-bind, only-pick}
+use Rattle.rules.proofs.Refusals.{texts-only, assembled-only}
 use Rattle.formats.specs.Elements.{optional, element-of, named-of, sound, with-length, with-format}
 use Rattle.formats.specs.Pieces.{piece-of}
 use Rattle.formats.specs.Texts.{pending, rest, none-pending, Looked}
@@ -26,7 +28,6 @@ use Rattle.formats.specs.declared.pieces.Piece.the-variants as piece
 use Rattle.formats.specs.declared.texts.Ahead.{Ahead}
 use Rattle.formats.specs.declared.syntax.Step.{Step}
 use Rattle.formats.specs.declared.syntax.Step.the-variants.{More, Last, Bad}
-use Rattle.formats.proofs.Threes.{Three, three-bind, three-pick, three-texts, three-assembled}
 use Rattle.formats.proofs.Joins.{rest-period, rest-comma}
 use Rattle.formats.proofs.Puts.{settle, parsed-pending, settle-before, put-completed, completed-settled, put-element, put-format, put-format-bad, put-length, put-length-bad}
 
@@ -49,13 +50,13 @@ stepped-later {f} {at} {at′} {r = r} e h w = record { answer = e ∙ w .answer
 pub stepped-bad : {f : Bytes} {at : ℕ} {o : Outcome (List rules.Element)} → o ≡ refused 3 → Stepped f at o Bad
 stepped-bad e = record { answer = e; place = tt }
 
-three-pending : (bs : Bytes) → Three (pending bs)
+pending-only : (bs : Bytes) → Only (Is 3) (pending bs)
 unfolding pending
-three-pending bs = three-bind (texts false bs) _ (three-texts false bs) three-assembled
+pending-only bs = only-bind (Is 3) (texts false bs) _ (texts-only false bs) assembled-only
 
-three-rest : (f : Bytes) (end : ℕ) → Three (rest f end)
+rest-only : (f : Bytes) (end : ℕ) → Only (Is 3) (rest f end)
 unfolding rest
-three-rest f end = three-pick (eqb (getD f end 0) period) _ _ tt (three-pending (drop (end + 1) f))
+rest-only f end = only-pick (Is 3) (eqb (getD f end 0) period) _ _ tt (pending-only (drop (end + 1) f))
 
 -- A name without its length or its format.
 optional-none : {A : Type 0} (t : Bool) (a : A) → t ≡ false → optional t a ≡ none
@@ -125,7 +126,7 @@ module _ (f : Bytes) (end : ℕ) (e : getD f end 0 ≡ period → ⊥) where
 
     pub format-length : (l : ℕ) → Looked f (end + 1) (record { piece = piece.Length l; end = end′ }) → then-format f end n size ≡ refused 3
     unfolding then-format absent
-    format-length l w = followed end′ (piece.Length l) w step ∙ put-length-bad step l (λ p. refl) (rest f end′) (three-rest f end′)
+    format-length l w = followed end′ (piece.Length l) w step ∙ put-length-bad step l (λ p. refl) (rest f end′) (rest-only f end′)
 
     pub format-bad : Looked f (end + 1) (record { piece = piece.Bad; end = end′ }) → then-format f end n size ≡ refused 3
     unfolding then-format
@@ -186,12 +187,12 @@ module _ (f : Bytes) (at end : ℕ) where
   pub first-length : (l : ℕ) → Looked f at (record { piece = piece.Length l; end = end }) → parsed (drop at f) ≡ refused 3
   unfolding settled absent
   first-length l w =
-      parsed-pending (drop at f) ∙ ap (λ m. m >>= settle) (w .answer) ∙ put-length-bad settle l (λ p. refl) (rest f end) (three-rest f end)
+      parsed-pending (drop at f) ∙ ap (λ m. m >>= settle) (w .answer) ∙ put-length-bad settle l (λ p. refl) (rest f end) (rest-only f end)
 
   pub first-format : (b : ℕ) → Looked f at (record { piece = piece.Format b; end = end }) → parsed (drop at f) ≡ refused 3
   unfolding settled absent
   first-format b w =
-      parsed-pending (drop at f) ∙ ap (λ m. m >>= settle) (w .answer) ∙ put-format-bad settle b (λ es. refl) (rest f end) (three-rest f end)
+      parsed-pending (drop at f) ∙ ap (λ m. m >>= settle) (w .answer) ∙ put-format-bad settle b (λ es. refl) (rest f end) (rest-only f end)
 
   pub first-bad : Looked f at (record { piece = piece.Bad; end = end }) → parsed (drop at f) ≡ refused 3
   first-bad w = parsed-pending (drop at f) ∙ ap (λ m. m >>= settle) (w .answer)

@@ -1,3 +1,4 @@
 pub mod OneOutcome
 pub mod Settling
 pub mod Empties
+pub mod Readings

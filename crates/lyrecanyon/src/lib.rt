@@ -1,8 +1,15 @@
 // The services: read, update, and the empty record of a table.
-ghost use lib.ListN.{length};
-ghost use Rattle.rules.specs.Services as Rules;
 ghost use mathlib.Core.Path.{_≡_};
+ghost use mathlib.Core.Bool.{true};
+ghost use Prim.Native.Nat.{_≤_, min};
+ghost use lib.ListN.{length};
+ghost use Rattle.rules.specs.Outcome.{is-done};
+ghost use Rattle.rules.specs.Services as Rules;
+ghost use Rattle.tables.specs.Entries.{Valid, entries-of};
+ghost use Rattle.uses.specs.Meant.{uses-of};
+ghost use Rattle.records.specs.Places.{Holds};
 ghost use Rattle.lyrecanyon.specs.Answers.{Settled, Exported, refusal-number, answer-number, answer-length};
+use reading::Next;
 
 // Why a call is refused: the numbers 1 to 10 of document 01, in their order.
 pub enum Refusal {
@@ -42,6 +49,25 @@ fn refusal_number(x: Refusal) -> u8
     }
 }
 
+// The refusal with a number.
+fn refusal_of(n: u8) -> Refusal
+    requires { ⌜ (1 ≤ n) × (n ≤ 10) ⌝ }
+    ensures { λ r. ⌜ refusal-number r ≡ n ⌝ }
+{
+    match n {
+        1 => Refusal::NoTable,
+        2 => Refusal::NoRecord,
+        3 => Refusal::BadSyntax,
+        4 => Refusal::UnknownName,
+        5 => Refusal::UseRule,
+        6 => Refusal::NamedTwice,
+        7 => Refusal::BeyondBuffer,
+        8 => Refusal::BadValue,
+        9 => Refusal::NotFitting,
+        _ => Refusal::NoRoom,
+    }
+}
+
 impl Answer {
     // 0 where it is done, else the number of the refusal.
     pub fn number(self) -> u8
@@ -62,6 +88,71 @@ impl Answer {
             Answer::Refused(_) => 0,
         }
     }
+}
+
+fn least(a: usize, b: usize) -> usize
+    ensures { λ r. ⌜ r ≡ min a b ⌝ }
+{
+    if a < b { a } else { b }
+}
+
+// The items of a format that keeps the use rules. All are tested first, in their order, so that a refusal changes no byte.
+fn read_items(
+    table: &[u8],
+    stored: &[u8],
+    places: &[u16; 64],
+    format: &[u8],
+    buffer: &mut [u8],
+) -> Answer
+    requires { ⌜ Valid (now table) × Holds (entries-of (now table)) (now stored) (now places) × (is-done (uses-of (entries-of (now table)) (now format)) ≡ true) ⌝ }
+    ensures { λ r. ⌜ Settled (Rules.read (now (table .entry)) (now (stored .entry)) (now (format .entry)) (length (now (buffer .entry)))) (now (buffer .entry)) (now (buffer .exit)) r ⌝ }
+{
+    let end = least(buffer.len(), rules::LONGEST_ITEMS);
+    let next = reading::fill(table, stored, places, format, buffer, end, false);
+    match next {
+        Next::Refused(n) => Answer::Refused(refusal_of(n)),
+        Next::At(n) => {
+            reading::fill(table, stored, places, format, buffer, end, true);
+            Answer::Done(n)
+        }
+    }
+}
+
+// Fills the record buffer with the items of a format.
+pub fn read(table: &[u8], stored: &[u8], format: &[u8], buffer: &mut [u8]) -> Answer
+    ensures { λ r. ⌜ Settled (Rules.read (now (table .entry)) (now (stored .entry)) (now (format .entry)) (length (now (buffer .entry)))) (now (buffer .entry)) (now (buffer .exit)) r ⌝ }
+{
+    if !tables::valid(table) {
+        return Answer::Refused(Refusal::NoTable);
+    }
+    let directory = records::walk::check(table, stored);
+    if !directory.ok {
+        return Answer::Refused(Refusal::NoRecord);
+    }
+    if !formats::syntax::syntax(format) {
+        return Answer::Refused(Refusal::BadSyntax);
+    }
+    let n = uses::test(table, format);
+    if n != 0 {
+        return Answer::Refused(refusal_of(n));
+    }
+    read_items(table, stored, &directory.places, format, buffer)
+}
+
+// The same for C: the number is returned, and the length used is written.
+#[no_mangle]
+pub extern "C" fn lyrecanyon_read(
+    table: &[u8],
+    stored: &[u8],
+    format: &[u8],
+    buffer: &mut [u8],
+    used: &mut usize,
+) -> u8
+    ensures { λ r. ⌜ Exported (Rules.read (now (table .entry)) (now (stored .entry)) (now (format .entry)) (length (now (buffer .entry)))) (now (buffer .entry)) (now (buffer .exit)) (now (used .exit)) r ⌝ }
+{
+    let answer = read(table, stored, format, buffer);
+    *used = answer.length();
+    answer.number()
 }
 
 // The empty record of a table, to the front of the room. It is built by itself first, so that a refusal changes nothing.

@@ -100,10 +100,10 @@ unfolding bytes-of
 left-length false at a out h = refl
 left-length true at a out h = length-splice at a out h
 
-at-inj : {m n : ℕ} → At m ≡ At n → m ≡ n
+pub at-inj : {m n : ℕ} → At m ≡ At n → m ≡ n
 at-inj p = cc
 
-no-at : {m k : ℕ} → _≡_ {A = Next} (At m) (Refused k) → ⊥
+pub no-at : {m k : ℕ} → _≡_ {A = Next} (At m) (Refused k) → ⊥
 no-at p = let z : _≡_ {A = ℕ} 0 1 = cc in omega arith
 
 -- A turn that takes the items xs, of which a callee says where they end and what it left in the buffer.
