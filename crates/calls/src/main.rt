@@ -56,10 +56,15 @@ fn no_call() -> Answered
     }
 }
 
-fn answer_read(table: &[u8], record: &[u8], format: &[u8], room: &mut [u8]) -> Answered
+fn answer_read(table: &[u8], stored: &[u8], format: &[u8], room: &mut [u8]) -> Answered
     ensures { λ r. ⌜ r .length ≤ length (now (room .entry)) ⌝ }
 {
-    no_call()
+    let answer = lyrecanyon::read(table, stored, format, room);
+    Answered {
+        number: answer.number(),
+        length: answer.length(),
+        known: true,
+    }
 }
 
 fn answer_update(

@@ -1,0 +1,28 @@
+-- `calls::answer_read` meets its contract: what the service writes lies in the room. Assumes nothing.
+use native.Mathlib.Omega.{arith}
+use lib.ListN.{length}
+use Rattle.lyrecanyon.proofs.Readings.{read-within}
+use borrow.Author.Needs.{needs}
+use Rattle.calls.proofs.answer_read.Statement.{statement}
+use Rattle.calls.proofs.answer_read.Tie as tie
+
+read-requires : tie.Need-read-requires
+read-requires c κs = search needs
+
+number-requires : tie.Need-number-requires
+number-requires c κs = search needs
+
+length-requires : tie.Need-length-requires
+length-requires c κs = search needs
+
+same-length : tie.Need-same-length
+same-length c = search needs
+
+returns : tie.Need-returns
+returns c =
+    let s = c .before .before .before .before .before .before .before .before .before .before in
+    omega (arith, c .length .ensures, c .before .before .before .before .read .ensures .size, read-within (s .args .table .now) (s .args .stored .now) (s .args .format .now) (length (s .args .room .now)))
+
+pub answer-read-spec : {M : Type 1} → statement M
+answer-read-spec =
+    tie.close (tie.spec read-requires number-requires length-requires same-length returns)
