@@ -1,24 +1,58 @@
-//! Times reads: each row is a call, and every service is timed on the same rows.
+//! Times reads: each row is a call, and both services are timed on it in turn, in one run.
 
 use std::time::{Duration, Instant};
 
 #[allow(dead_code)]
 mod service;
 
-// To come: a second service, linked from C, as a second column.
-//
-// extern "C" {
-//     fn service_read(
-//         table: *const u8, table_length: usize, record: *const u8, record_length: usize,
-//         format: *const u8, format_length: usize, buffer: *mut u8, buffer_length: usize, length: *mut usize,
-//     ) -> u8;
-// }
+extern "C" {
+    fn lyrecanyon_read(
+        table: *const u8,
+        table_length: usize,
+        record: *const u8,
+        record_length: usize,
+        format: *const u8,
+        format_length: usize,
+        buffer: *mut u8,
+        buffer_length: usize,
+        used: *mut usize,
+    ) -> u8;
+}
 
+/// The proved service, by its export to C.
+fn proved(table: &[u8], record: &[u8], format: &[u8], buffer: &mut [u8]) -> (u8, usize) {
+    let mut used = 0;
+    let number = unsafe {
+        lyrecanyon_read(
+            table.as_ptr(),
+            table.len(),
+            record.as_ptr(),
+            record.len(),
+            format.as_ptr(),
+            format.len(),
+            buffer.as_mut_ptr(),
+            buffer.len(),
+            &mut used,
+        )
+    };
+    (number, used)
+}
+
+/// Times of a call in nanoseconds, by the Rust service and by the proved one, and the second as a multiple of the first.
 fn main() {
-    println!("{:<44}{:>8}{:>8}{:>14}", "row", "number", "length", "ns a call");
+    println!("| call | number | length | Rust, ns | proved, ns | times |");
+    println!("|---|---|---|---|---|---|");
     for call in rows() {
-        let (number, length, nanoseconds) = time(&call, service::read);
-        println!("{:<44}{:>8}{:>8}{:>14.1}", call.row, number, length, nanoseconds);
+        let (mut rust, mut lyrecanyon) = (f64::MAX, f64::MAX);
+        for _ in 0..3 {
+            let (answer, nanoseconds) = time(&call, service::read);
+            let (other, others) = time(&call, proved);
+            assert_eq!(answer, other, "the services differ on {}", call.row);
+            rust = rust.min(nanoseconds);
+            lyrecanyon = lyrecanyon.min(others);
+        }
+        let (number, length) = proved(&call.table, &call.record, &call.format, &mut vec![0; call.buffer]);
+        println!("| {} | {} | {} | {:.0} | {:.0} | {:.2} |", call.row, number, length, rust, lyrecanyon, lyrecanyon / rust);
     }
 }
 
@@ -31,7 +65,7 @@ pub struct Call {
 }
 
 /// The answer of a call and the least time it took, in nanoseconds.
-pub fn time<F>(call: &Call, service: F) -> (u8, usize, f64)
+pub fn time<F>(call: &Call, service: F) -> ((u8, usize), f64)
 where
     F: Fn(&[u8], &[u8], &[u8], &mut [u8]) -> (u8, usize),
 {
@@ -48,9 +82,9 @@ where
     while run(times).1 < Duration::from_micros(500) {
         times *= 2;
     }
-    let ((number, length), _) = run(1);
-    let least = (0..60).map(|_| run(times).1).min().unwrap_or_default();
-    (number, length, least.as_nanos() as f64 / f64::from(times))
+    let (answer, _) = run(1);
+    let least = (0..20).map(|_| run(times).1).min().unwrap_or_default();
+    (answer, least.as_nanos() as f64 / f64::from(times))
 }
 
 pub fn rows() -> Vec<Call> {

@@ -4,6 +4,7 @@
 // whether the value is in normal form, so that it may stand in a record. An answer is `0 LENGTH BYTES`, or a number of
 // document 01 as `9 0 -`; to what is no such line it is `? 0 -`.
 use hexadecimal::Number;
+use lines::Line;
 use values::First;
 use values::Fit;
 ghost use mathlib.Core.Path.{_≡_};
@@ -14,6 +15,7 @@ ghost use lib.Dec.{ltb};
 ghost use lib.ListN.{length};
 ghost use Rattle.rules.specs.Values.{allowed};
 ghost use Rattle.kinds.specs.Formats.{format-at};
+ghost use Rattle.lines.specs.Placed.{Placed};
 ghost use Rattle.conversions.specs.Cases.{used, Areas};
 
 // How many bytes in front of room are the value, or the number of the refusal.
@@ -186,31 +188,35 @@ fn put(a: Answer, room: &[u8], out: &mut [u8]) -> usize
     }
 }
 
-fn write_answer(a: Answer, room: &[u8], out: &mut [u8])
-    requires { ⌜ (used a ≤ length (now room)) × (length (now room) ≤ 4096) × (8208 ≤ length (now out)) ⌝ }
+// The next line of the input is answered, where there is one.
+fn answer_next(input: &mut [u8], l: Line, bytes: &mut [u8], room: &mut [u8], out: &mut [u8]) -> Line
+    requires { ⌜ Areas (now input) (now bytes) (now room) (now out) × Placed (length (now input)) l × (0 < l .more) ⌝ }
+    ensures { λ r. ⌜ Placed (length (now (input .entry))) r × (r .more < l .more) ⌝ }
 {
-    let end = put(a, room, out);
-    io::write_all(libc::STDOUT_FILENO, &out[..end]);
+    let next = lines::next(input, l);
+    let start = next.start;
+    let end = next.end;
+    if next.found {
+        let a = answer_line(&input[start..end], bytes, room);
+        let behind = put(a, room, out);
+        lines::write(out, behind);
+    }
+    next
 }
 
-fn answer_lines(input: &[u8], bytes: &mut [u8], room: &mut [u8], out: &mut [u8])
+fn answer_lines(input: &mut [u8], bytes: &mut [u8], room: &mut [u8], out: &mut [u8])
     requires { ⌜ Areas (now input) (now bytes) (now room) (now out) ⌝ }
 {
-    let mut at = 0;
-    while at < input.len() {
-        let end = hexadecimal::find(input, at, b'\n');
-        let a = answer_line(&input[at..end], bytes, room);
-        write_answer(a, room, out);
-        at = end + 1;
+    let mut l = lines::begin();
+    while 0 < l.more {
+        l = answer_next(input, l, bytes, room, out);
     }
 }
 
-// At most 65,536 bytes of the input are read.
 fn main() {
     let mut input = io::large_buffer();
     let mut bytes = io::large_buffer();
     let mut room = io::buffer();
     let mut out = io::large_buffer();
-    let n = io::read_full(libc::STDIN_FILENO, &mut input);
-    answer_lines(&input[..n], &mut bytes, &mut room, &mut out);
+    answer_lines(&mut input, &mut bytes, &mut room, &mut out);
 }

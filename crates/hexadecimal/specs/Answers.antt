@@ -12,6 +12,7 @@ use Rattle.hexadecimal.specs.declared.Decoded.{Decoded}
 use Rattle.hexadecimal.specs.declared.Decoded.the-variants.{Upto, NoBytes}
 use Rattle.hexadecimal.specs.declared.Taken.{Taken}
 use Rattle.hexadecimal.specs.declared.Three.{Three}
+use Rattle.hexadecimal.specs.declared.Call.{Call}
 use Rattle.hexadecimal.specs.declared.Number.{Number}
 use Rattle.hexadecimal.specs.declared.Number.the-variants.{Is, NoNumber}
 
@@ -61,6 +62,13 @@ pub record TakesThree (line out out′ : Bytes) (r : Three) : Type 0 where
   pub after : out′ ≡ splice 0 ((first-bytes line ++ second-bytes line) ++ third-bytes line) out
   pub upto : 2 * r .format ≤ r .next
   pub within : r .next ≤ length line + 1
+
+-- The bytes of a call's words stand one behind the other, in n bytes.
+pub record Called (n : ℕ) (c : Call) : Type 0 where
+  pub first : c .table ≤ c .record
+  pub second : c .record ≤ c .format
+  pub third : c .format ≤ c .buffer
+  pub fourth : c .buffer ≤ n
 
 -- The line of an answer is written to out from at on; the place behind it.
 pub record Answers (number : ℕ) (bytes : Bytes) (at : ℕ) (out out′ : Bytes) (r : ℕ) : Type 0 where

@@ -8,7 +8,7 @@ ghost use Rattle.buffer.specs.Splice.{splice};
 ghost use Rattle.rules.specs.Lists.{same};
 ghost use Rattle.hexadecimal.specs.Text as Text;
 ghost use Rattle.hexadecimal.specs.Lines as Lines;
-ghost use Rattle.hexadecimal.specs.Answers.{number-of, Decodes, Takes, TakesThree, Answers};
+ghost use Rattle.hexadecimal.specs.Answers.{number-of, Decodes, Takes, TakesThree, Called, Answers};
 
 // The place behind the bytes that were written; or the word spells no bytes.
 pub enum Decoded {
@@ -299,13 +299,114 @@ pub fn take_number(line: &[u8], at: usize) -> Number
     read_number(&line[at..])
 }
 
-// A number and a space.
-fn put_field(n: usize, out: &mut [u8], at: usize) -> usize
+// A call that a line makes: its letter, where the bytes of its table, record, format and record buffer end, and the length that it
+// asks for. A word that the call does not have is empty, and what is no call has the letter 0.
+pub struct Call {
+    pub letter: u8,
+    pub table: usize,
+    pub record: usize,
+    pub format: usize,
+    pub buffer: usize,
+    pub asked: usize,
+}
+
+fn no_call() -> Call
+    ensures { λ r. ⌜ Called 0 r ⌝ }
+{
+    Call {
+        letter: 0,
+        table: 0,
+        record: 0,
+        format: 0,
+        buffer: 0,
+        asked: 0,
+    }
+}
+
+fn take_read(line: &[u8], out: &mut [u8]) -> Call
+    requires { ⌜ (2 ≤ length (now line)) × (length (now line) ≤ 2 * length (now out)) ⌝ }
+    ensures { λ r. ⌜ Called (length (now (out .entry))) r ⌝ }
+{
+    let s = take_three(line, out);
+    let n = take_number(line, s.next);
+    match n {
+        Number::Is(asked) => Call {
+            letter: b'R',
+            table: s.table,
+            record: s.record,
+            format: s.format,
+            buffer: s.format,
+            asked,
+        },
+        Number::NoNumber => no_call(),
+    }
+}
+
+fn take_update(line: &[u8], out: &mut [u8]) -> Call
+    requires { ⌜ (2 ≤ length (now line)) × (length (now line) ≤ 2 * length (now out)) ⌝ }
+    ensures { λ r. ⌜ Called (length (now (out .entry))) r ⌝ }
+{
+    let s = take_three(line, out);
+    let buffer = take_bytes(line, s.next, out, s.format);
+    let n = take_number(line, buffer.next);
+    match n {
+        Number::Is(asked) => Call {
+            letter: b'U',
+            table: s.table,
+            record: s.record,
+            format: s.format,
+            buffer: buffer.end,
+            asked,
+        },
+        Number::NoNumber => no_call(),
+    }
+}
+
+fn take_empty(line: &[u8], out: &mut [u8]) -> Call
+    requires { ⌜ (2 ≤ length (now line)) × (length (now line) ≤ 2 * length (now out)) ⌝ }
+    ensures { λ r. ⌜ Called (length (now (out .entry))) r ⌝ }
+{
+    let table = take_bytes(line, 2, out, 0);
+    let n = take_number(line, table.next);
+    match n {
+        Number::Is(asked) => Call {
+            letter: b'E',
+            table: table.end,
+            record: table.end,
+            format: table.end,
+            buffer: table.end,
+            asked,
+        },
+        Number::NoNumber => no_call(),
+    }
+}
+
+// The call that a line makes, by its first word, which is one letter; the bytes of its words, to out one behind the other.
+pub fn take_call(line: &[u8], out: &mut [u8]) -> Call
+    requires { ⌜ length (now line) ≤ 2 * length (now out) ⌝ }
+    ensures { λ r. ⌜ Called (length (now (out .entry))) r ⌝ }
+{
+    if line.len() < 2 {
+        return no_call();
+    }
+    if line[1] != b' ' {
+        return no_call();
+    }
+    match line[0] {
+        b'R' => take_read(line, out),
+        b'U' => take_update(line, out),
+        b'E' => take_empty(line, out),
+        _ => no_call(),
+    }
+}
+
+// A number and the character behind it, to out from at on; the place behind both.
+pub fn put_field(n: usize, behind: u8, out: &mut [u8], at: usize) -> usize
     requires { ⌜ (n < 1000000) × (at + 7 ≤ length (now out)) ⌝ }
-    ensures { λ r. ⌜ (r ≡ at + length (Text.decimal n ++ (32 ∷ []))) × (now (out .exit) ≡ splice at (Text.decimal n ++ (32 ∷ [])) (now (out .entry))) × (r ≤ at + 7) ⌝ }
+    ensures { λ r. ⌜ (r ≡ at + length (Text.decimal n ++ (behind ∷ []))) × (now (out .exit) ≡ splice at (Text.decimal n ++ (behind ∷ [])) (now (out .entry))) × (r ≤ at + 7) ⌝ }
 {
     let end = put_number(n, out, at);
-    out[end] = b' ';
+    out[end] = behind;
     end + 1
 }
 
@@ -314,8 +415,8 @@ pub fn put_answer(number: u8, bytes: &[u8], out: &mut [u8], at: usize) -> usize
     requires { ⌜ (length (now bytes) < 1000000) × (at + (2 * length (now bytes) + 16) ≤ length (now out)) ⌝ }
     ensures { λ r. ⌜ Answers number (now (bytes .entry)) at (now (out .entry)) (now (out .exit)) r ⌝ }
 {
-    let behind_number = put_field(wide(number), out, at);
-    let behind_length = put_field(bytes.len(), out, behind_number);
+    let behind_number = put_field(wide(number), b' ', out, at);
+    let behind_length = put_field(bytes.len(), b' ', out, behind_number);
     let end = encode(bytes, out, behind_length);
     out[end] = 10;
     end + 1

@@ -1,9 +1,9 @@
--- `calls::write_out` is safe: what is used of the output lies within it. Assumes nothing.
+-- `lines::write` is safe: what is used of the output lies within it. Assumes nothing.
 use native.Mathlib.Omega.{arith}
 use lib.ListN.{length-take}
 use borrow.Author.Needs.{needs}
-use Rattle.calls.proofs.write_out.Statement.{statement}
-use Rattle.calls.proofs.write_out.Tie as tie
+use Rattle.lines.proofs.write.Statement.{statement}
+use Rattle.lines.proofs.write.Tie as tie
 
 slice-aggregate-write-all : tie.Need-slice-aggregate-write-all
 slice-aggregate-write-all c = simp length-take (omega arith)
@@ -23,8 +23,8 @@ fail-requires c κs = search needs
 returns-2 : tie.Need-returns-2
 returns-2 c = search needs
 
-pub write-out-spec : {M : Type 1} → statement M
-write-out-spec =
+pub write-spec : {M : Type 1} → statement M
+write-spec =
     tie.close
     (tie.spec
     slice-aggregate-write-all

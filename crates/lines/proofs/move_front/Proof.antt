@@ -1,13 +1,13 @@
--- `calls::move_front` meets its contract: the list that it writes is the part that is moved. Assumes nothing.
+-- `lines::move_front` meets its contract: the list that it writes is the part that is moved. Assumes nothing.
 use native.Mathlib.Nat.{zero-add}
 use Prim.Native.Nat.{_-_}
 use mathlib.Core.Path.{_≡_, refl, sym}
 use lib.ListN.{take, drop}
 use Rattle.buffer.proofs.Loops.{Up, up-start, up-turn, up-end}
-use Rattle.calls.proofs.Moving.{move-none, length-moved, move-turn}
+use Rattle.lines.proofs.Moving.{move-none, length-moved, move-turn}
 use borrow.Author.Needs.{needs}
-use Rattle.calls.proofs.move_front.Statement.{statement}
-use Rattle.calls.proofs.move_front.Tie as tie
+use Rattle.lines.proofs.move_front.Statement.{statement}
+use Rattle.lines.proofs.move_front.Tie as tie
 
 abbrev Inv-loop : tie.InvT-loop
 Inv-loop s₀ from to n i₀ s i = (n ≡ to - from) × Up 0 n (take (to - from) (drop from s₀)) s₀ s i

@@ -1,0 +1,75 @@
+-- `decisions::decide` meets its contract: each test's refusal is the first, since those before it passed. Assumes nothing.
+use mathlib.Core.Path.{_≡_, sym, _∙_}
+use mathlib.Core.Bool.{true}
+use borrow.Author.Tests.{not-true, not-false}
+use Rattle.rules.specs.Outcome.{is-done}
+use Rattle.rules.specs.Format.{elements}
+use Rattle.tables.specs.Entries.{Valid}
+use Rattle.decisions.proofs.Deciding.{by-table, by-syntax, by-uses, by-none, by-twice, by-once}
+use borrow.Author.Needs.{needs}
+use Rattle.decisions.proofs.decide.Statement.{statement}
+use Rattle.decisions.proofs.decide.Tie as tie
+
+valid-requires : tie.Need-valid-requires
+valid-requires c κs = search needs
+
+returns : tie.Need-returns
+returns c = by-table _ _ _ (sym (c .before .valid .ensures) ∙ not-true (c .before .valid .result) (c .if1 .taken))
+
+syntax-requires : tie.Need-syntax-requires
+syntax-requires c κs = search needs
+
+returns-2 : tie.Need-returns-2
+returns-2 c =
+    let p = c .before .before in
+    by-syntax _ _ _ (sym (p .before .valid .ensures) ∙ not-false (p .before .valid .result) (p .if1 .left)) (sym (c .before .syntax .ensures) ∙ not-true (c .before .syntax .result) (c .if2 .taken))
+
+test-requires : tie.Need-test-requires
+test-requires c κs =
+    let p = c .before .before in
+    (sym (p .before .valid .ensures) ∙ not-false (p .before .valid .result) (p .if1 .left), sym (c .before .syntax .ensures) ∙ not-false (c .before .syntax .result) (c .if2 .left))
+
+returns-3 : tie.Need-returns-3
+returns-3 c =
+    let p = c .before .before .before .before in
+    by-uses _ _ _ (sym (p .before .valid .ensures) ∙ not-false (p .before .valid .result) (p .if1 .left)) _ (c .before .test .ensures) (c .if3 .taken)
+
+returns-4 : tie.Need-returns-4
+returns-4 c =
+    let u = c .before .before in
+    let p = u .before .before .before in
+    by-none _ _ _ (sym (p .before .valid .ensures) ∙ not-false (p .before .valid .result) (p .if1 .left)) _ (u .test .ensures) (c .before .if3 .left) (not-true _ (c .if4 .taken))
+
+named-twice-requires : tie.Need-named-twice-requires
+named-twice-requires c κs =
+    let p = c .before .before .before .before .before in
+    sym (p .before .valid .ensures) ∙ not-false (p .before .valid .result) (p .if1 .left)
+
+returns-5 : tie.Need-returns-5
+returns-5 c =
+    let n = c .before in
+    let u = n .before .before .before in
+    let p = u .before .before .before in
+    by-twice _ _ _ (sym (p .before .valid .ensures) ∙ not-false (p .before .valid .result) (p .if1 .left)) _ (u .test .ensures) (n .before .before .if3 .left) (not-false _ (n .before .if4 .left)) _ (n .named-twice .ensures) (c .if5 .taken)
+
+returns-6 : tie.Need-returns-6
+returns-6 c =
+    let n = c .before in
+    let u = n .before .before .before in
+    let p = u .before .before .before in
+    by-once _ _ _ (sym (p .before .valid .ensures) ∙ not-false (p .before .valid .result) (p .if1 .left)) _ (u .test .ensures) (n .before .before .if3 .left) (not-false _ (n .before .if4 .left)) _ (n .named-twice .ensures) (c .if5 .left)
+
+pub decide-spec : {M : Type 1} → statement M
+decide-spec =
+    tie.close
+    (tie.spec
+    valid-requires
+    returns
+    syntax-requires
+    returns-2
+    test-requires
+    returns-3
+    returns-4
+    named-twice-requires
+    returns-5
+    returns-6)
