@@ -1,7 +1,7 @@
 -- `decimals::unpacked_zeros` meets its contract: zeros from the left are passed, a byte each. Assumes nothing.
 use mathlib.Core.Path.{sym, _∙_}
 use mathlib.Core.Bool.{false}
-use Prim.Native.Nat.{_-_, _≤_, _<_}
+use Prim.Native.Nat.{_-_, _≤_}
 use native.Mathlib.Omega.{arith}
 use Rattle.decimals.specs.Decimals.{places}
 use Rattle.decimals.proofs.Halves.{unpacked-at}
