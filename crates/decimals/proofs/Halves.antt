@@ -58,6 +58,11 @@ unfolding digits-of places
 length-digits-of true s = length-but-last (halves s) ∙ rw (length-halves s)
 length-digits-of false s = length-map s (λ b. b % 16)
 
+pub places-some : (p : Bool) (n : ℕ) → 0 < n → 0 < places p n
+unfolding places
+places-some true n h = omega arith
+places-some false n h = h
+
 -- ---- a digit by the byte that holds it
 
 pub packed-high : (s : Bytes) (i : ℕ) → i < places true (length s) → i % 2 ≡ 0 → getD (digits-of true s) i 0 ≡ getD s (i / 2) 0 / 16
@@ -67,6 +72,19 @@ packed-high s i h e = but-last-at (halves s) i (rw (length-halves s) (omega arit
 pub packed-low : (s : Bytes) (i : ℕ) → i < places true (length s) → (i % 2 ≡ 0 → ⊥) → getD (digits-of true s) i 0 ≡ getD s (i / 2) 0 % 16
 unfolding digits-of places
 packed-low s i h e = but-last-at (halves s) i (rw (length-halves s) (omega arith)) ∙ halves-low s (i / 2) i (omega arith)
+
+-- the same by the byte
+module _ (s : Bytes) (i : ℕ) where
+  half : 2 * i / 2 ≡ i
+  half = omega arith
+
+  pub high-at : 2 * i < places true (length s) → getD (digits-of true s) (2 * i) 0 ≡ getD s i 0 / 16
+  high-at h = packed-high s (2 * i) h (omega arith) ∙ ap (λ j. getD s j 0 / 16) half
+
+  pub low-at : 2 * i + 1 < places true (length s) → getD (digits-of true s) (2 * i + 1) 0 ≡ getD s i 0 % 16
+  low-at h =
+      let e : (2 * i + 1) / 2 ≡ i = omega arith in
+      packed-low s (2 * i + 1) h (λ q. omega arith) ∙ ap (λ j. getD s j 0 % 16) e
 
 pub unpacked-at : (s : Bytes) (i : ℕ) → getD (digits-of false s) i 0 ≡ getD s i 0 % 16
 unfolding digits-of

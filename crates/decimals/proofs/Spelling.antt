@@ -19,7 +19,7 @@ use Rattle.words.specs.declared.Word.the-variants.{Number, Outside}
 use Rattle.buffer.proofs.Cases.{by-order}
 use Rattle.decimals.specs.Decimals.{decimal-format, digits-of, magnitude-of, is-minus, all-digits, Readable, places, place}
 use Rattle.decimals.proofs.Digits.{all-drop, spelled-below, spelled-full, spelled-grows, place-spelled, place-spelled-past}
-use Rattle.decimals.proofs.Halves.{length-digits-of}
+use Rattle.decimals.proofs.Halves.{length-digits-of, high-at, low-at}
 use Rattle.decimals.proofs.Sound.{Sound, below-ten}
 
 pub record Spelling (p : Bool) (s : Bytes) (i x : ℕ) : Type 0 where
@@ -75,6 +75,31 @@ module _ {p : Bool} {s : Bytes} {i : ℕ} (w : Spelling p s i 0) where
       let f = spelled-below 10 (drop i (digits-of p s)) (all-drop _ i (digits-of p s) (below-ten p s a)) in
       let g : 10 ^ length (drop i (digits-of p s)) ≤ 10 ^ m = pow-le-pow-right (lit< tt) (simp length-drop (omega arith)) in
       lt-ltb (magnitude-of p s) (10 ^ m) (rw (← w .rest) (lt-of-lt-of-le f g))
+
+-- ---- leading zeros of P, two a byte
+
+module _ {s : Bytes} (i : ℕ) (w : Spelling true s (2 * i) 0) where
+  pub packed-zero : 2 * i + 1 < places true (length s) → getD s i 0 ≡ 0 → Spelling true s (2 * (i + 1)) 0
+  packed-zero h z =
+      let e : 2 * i + 1 + 1 ≡ 2 * (i + 1) = omega arith in
+      let a = high-at s i (omega arith) in
+      let b = low-at s i h in
+      rw e at (spelling-zero (spelling-zero w (omega arith) (omega arith)) h (omega arith))
+
+  pub packed-more : (m : ℕ) → m + (2 * i + 1) < places true (length s) → (getD s i 0 ≡ 0 → ⊥) → ltb (magnitude-of true s) (10 ^ m) ≡ false
+  packed-more m h z =
+      let a = high-at s i (omega arith) in
+      let b = low-at s i (omega arith) in
+      by-order 0 (getD (digits-of true s) (2 * i) 0) (λ l. spelling-more w m (omega arith) (λ q. omega arith))
+      (λ l. spelling-more (spelling-zero w (omega arith) (omega arith)) m (omega arith) (λ q. z (omega arith)))
+
+  -- a digit alone, in the high half of its byte
+  pub packed-half : (m : ℕ) → all-digits true s ≡ true → m + (2 * i + 1) ≡ places true (length s) → ltb (getD s i 0) 16 ≡ ltb (magnitude-of true s) (10 ^ m)
+  packed-half m n h =
+      let a = high-at s i (omega arith) in
+      by-order (getD s i 0) 16
+      (λ l. lt-ltb (getD s i 0) 16 l ∙ sym (spelling-fits (spelling-zero w (omega arith) (omega arith)) m n (omega arith)))
+      (λ l. le-ltb (getD s i 0) 16 l ∙ sym (spelling-more w m (omega arith) (λ q. omega arith)))
 
 -- no digits at all: zero
 pub zero-digits : (x : ℕ) → ltb 0 x ≡ not (ltb x (10 ^ 0))

@@ -2,7 +2,7 @@
 // `packed` selects the format of a value, P where it is true, else U; `target` likewise that of the bytes to write.
 ghost use mathlib.Core.Path.{_≡_};
 ghost use mathlib.Core.Bool.{_&&_, true, false};
-ghost use Prim.Native.Nat.{_+_, _≤_, _<_, _^_};
+ghost use Prim.Native.Nat.{_+_, _-_, _≤_, _<_, _^_};
 ghost use lib.Dec.{leb, ltb};
 ghost use lib.ListN.{length, getD};
 ghost use Rattle.rules.specs.Outcome.{is-done};
@@ -110,20 +110,54 @@ fn sign(s: &[u8], packed: bool) -> u8
     if packed { b % 16 } else { b / 16 }
 }
 
+// Whether the first k digits of U are zeros: whether the magnitude has no more digits than stand behind them.
+fn unpacked_zeros(s: &[u8], k: usize) -> bool
+    requires { ⌜ Readable false (now s) × (k ≤ places false (length (now s))) ⌝ }
+    ensures { λ r. ⌜ r ≡ ltb (magnitude-of false (now (s .entry))) (10 ^ (places false (length (now (s .entry))) - k)) ⌝ }
+{
+    let mut i = 0;
+    while i < k {
+        if s[i] % 16 != 0 {
+            return false;
+        }
+        i += 1;
+    }
+    true
+}
+
+// Likewise of P, of which a byte holds two.
+fn packed_zeros(s: &[u8], k: usize) -> bool
+    requires { ⌜ Readable true (now s) × (k ≤ places true (length (now s))) ⌝ }
+    ensures { λ r. ⌜ r ≡ ltb (magnitude-of true (now (s .entry))) (10 ^ (places true (length (now (s .entry))) - k)) ⌝ }
+{
+    let whole = k / 2;
+    let mut i = 0;
+    while i < whole {
+        if s[i] != 0 {
+            return false;
+        }
+        i += 1;
+    }
+    if k % 2 == 0 {
+        return true;
+    }
+    s[i] < 16
+}
+
 // Whether the magnitude has at most m digits.
 fn within(s: &[u8], packed: bool, m: usize) -> bool
     requires { ⌜ Readable packed (now s) ⌝ }
     ensures { λ r. ⌜ r ≡ ltb (magnitude-of packed (now (s .entry))) (10 ^ m) ⌝ }
 {
     let n = digit_count(packed, s.len());
-    let mut i = 0;
-    while m < n - i {
-        if digit(s, packed, i) != 0 {
-            return false;
-        }
-        i += 1;
+    if n <= m {
+        return true;
     }
-    true
+    if packed {
+        packed_zeros(s, n - m)
+    } else {
+        unpacked_zeros(s, n - m)
+    }
 }
 
 // Whether it is below zero: zero is not, whatever its sign.
@@ -283,13 +317,34 @@ fn ten_digits(x: u32) -> [u8; 10]
     ds
 }
 
+// A power of ten that a magnitude can reach.
+fn power_of_ten(m: usize) -> u32
+    requires { ⌜ (0 < m) × (m < 10) ⌝ }
+    ensures { λ r. ⌜ r ≡ 10 ^ m ⌝ }
+{
+    match m {
+        1 => 10,
+        2 => 100,
+        3 => 1000,
+        4 => 10000,
+        5 => 100000,
+        6 => 1000000,
+        7 => 10000000,
+        8 => 100000000,
+        _ => 1000000000,
+    }
+}
+
 // Whether the number v fits n bytes.
 pub fn fits_word(v: Signed, packed: bool, n: usize) -> bool
     requires { ⌜ (0 < n) × (n ≤ 29) ⌝ }
     ensures { λ r. ⌜ r ≡ is-done (normal (decimal-format packed) n (signed-value v)) ⌝ }
 {
-    let ds = ten_digits(v.magnitude);
-    within(&ds, false, digit_count(packed, n))
+    let m = digit_count(packed, n);
+    if 10 <= m {
+        return true;
+    }
+    v.magnitude < power_of_ten(m)
 }
 
 // The number v, which fits, to n bytes of out from at on.

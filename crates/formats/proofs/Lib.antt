@@ -7,3 +7,4 @@ pub mod Scans
 pub mod Joins
 pub mod Puts
 pub mod StepLaws
+pub mod Longer

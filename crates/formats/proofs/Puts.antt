@@ -1,15 +1,16 @@
 -- A piece put before what stands behind it, and then the elements taken: what comes of it for each kind of piece.
 use mathlib.Core.Path.{_≡_, refl, ap, _∙_}
-use mathlib.Core.Bool.{Bool, true, false}
+use mathlib.Core.Bool.{Bool, true, false, false≢true}
 use mathlib.Core.List.{List, _∷_}
 use mathlib.Core.Option.{Option, none, some}
 use Prim.Native.Nat.{ℕ}
 use Rattle.rules.specs.Outcome.{Outcome, done, refused, _>>=_, need}
 use Rattle.rules.specs.Lists.{Bytes, absent}
 use Rattle.rules.specs.Format.{Element, element, length-piece, format-piece, Pending, texts, settled, completed, put-before, assembled}
-use Rattle.rules.proofs.Only.{Only, Is}
+use Rattle.rules.proofs.Steps.{from-bind, done-inj}
 use Rattle.formats.specs.Syntax.{parsed, before}
-use Rattle.formats.specs.Texts.{pending}
+use Rattle.formats.specs.Texts.{pending, elements-first}
+use Rattle.rules.proofs.Only.{Only, Is}
 
 -- The elements, where neither a length nor a format stands before them.
 abbrev pub settle : Pending → Outcome (List Element)
@@ -59,20 +60,26 @@ completed-settled e h (done p) = rw (h p) (over (settled p))
     over false = refl
 completed-settled e h (refused n) = refl
 
+-- Behind an element put before them, the elements come first.
+pub put-first : (e : Element) (m : Outcome Pending) → elements-first (m >>= put-before (element e))
+unfolding put-before settled absent
+put-first e m p h =
+    from-bind m _ h λ r _ g.
+    from-bind (completed e r) _ g λ x _ q. rw (← done-inj q) refl
+
 -- The step that follows: it takes what was put.
 module _ (k : Pending → Outcome (List Element)) where
-  -- An element: behind it stands neither a length nor a format, and the step adds x to the elements.
-  module _ (e x : Element) (h : (es : List Element) → k (both none none es) ≡ done (x ∷ es)) where
-    completes : (o : Outcome Element) (es : List Element) → ((o >>= λ y. done (both none none (y ∷ es))) >>= k)
-        ≡ before x ((o >>= λ y. done (both none none (y ∷ es))) >>= settle)
-    unfolding settled absent
-    completes (done y) es = h (y ∷ es)
-    completes (refused n) es = refl
-
-    pub put-element : (m : Outcome Pending) → ((m >>= put-before (element e)) >>= k) ≡ before x ((m >>= put-before (element e)) >>= settle)
-    unfolding put-before
-    put-element (done p) = completes (completed e p) (p .elements)
-    put-element (refused n) = refl
+  -- The elements come first, and the step adds x to them.
+  pub take-elements : (x : Element) → ((es : List Element) → k (both none none es) ≡ done (x ∷ es)) → (m : Outcome Pending) → elements-first m
+      → (m >>= k) ≡ before x (m >>= settle)
+  unfolding settled absent
+  take-elements x h (done p) s = go (p .size) (p .format) (p .elements) (s p refl)
+    where
+      go : (l b : Option ℕ) (es : List Element) → settled (both l b es) ≡ true → k (both l b es) ≡ before x (settle (both l b es))
+      go none none es e = h es
+      go none (some b) es e = absurd (false≢true e)
+      go (some l) b es e = absurd (false≢true e)
+  take-elements x h (refused n) s = refl
 
   -- A length or a format goes on to the step where the test passes.
   through : (t : Bool) (r : Pending) (o : Outcome (List Element)) → k r ≡ o → ((need t 3 >>= λ _. done r) >>= k) ≡ (need t 3 >>= λ _. o)

@@ -18,7 +18,7 @@ use Rattle.rules.proofs.Only.{Only, Is, only-bind, only-pick}
 use Rattle.rules.proofs.Refusals.{texts-only, assembled-only}
 use Rattle.formats.specs.Elements.{optional, element-of, named-of, sound, with-length, with-format}
 use Rattle.formats.specs.Pieces.{piece-of}
-use Rattle.formats.specs.Texts.{pending, rest, none-pending, Looked}
+use Rattle.formats.specs.Texts.{pending, elements-first, rest, none-pending, Looked}
 use Rattle.formats.specs.Syntax.{parsed, before, by-step, step-place, Stepped, then-settled, then-format, then-completed}
 use Rattle.formats.specs.declared.Named.{Named}
 use Rattle.formats.specs.declared.Element.{Element}
@@ -29,7 +29,7 @@ use Rattle.formats.specs.declared.texts.Ahead.{Ahead}
 use Rattle.formats.specs.declared.syntax.Step.{Step}
 use Rattle.formats.specs.declared.syntax.Step.the-variants.{More, Last, Bad}
 use Rattle.formats.proofs.Joins.{rest-period, rest-comma}
-use Rattle.formats.proofs.Puts.{settle, parsed-pending, settle-before, put-completed, completed-settled, put-element, put-format, put-format-bad, put-length, put-length-bad}
+use Rattle.formats.proofs.Puts.{settle, parsed-pending, settle-before, put-completed, completed-settled, both, take-elements, put-first, put-format, put-format-bad, put-length, put-length-bad}
 
 -- What was read, once the piece is known.
 pub looked-as : {f : Bytes} {at : ℕ} {r : Ahead} {q : Piece} → Looked f at r → r .piece ≡ q → Looked f at (record { piece = q; end = r .end })
@@ -38,6 +38,10 @@ looked-as {f} {at} {r} w e = record {
   place = rw e at (w .place);
   sound = rw e at (w .sound);
 }
+
+-- Where an element was read, the elements come first.
+pub looked-element : {f : Bytes} {at end : ℕ} {x : Element} → Looked f at (record { piece = piece.Element x; end = end }) → elements-first (pending (drop at f))
+looked-element {f} {at} {end} {x} w p h = put-first (element-of f x) (rest f end) p (sym (w .answer) ∙ h)
 
 step-later : (f : Bytes) (at at′ : ℕ) (r : Step) → at ≤ at′ → step-place f at′ r → step-place f at r
 step-later f at at′ (More e next) h (a, b, c) = (omega arith, b, c)
@@ -99,67 +103,66 @@ module _ (f : Bytes) (end : ℕ) (e : getD f end 0 ≡ period → ⊥) where
   settled-more x = settle-before x (rest f end) ∙ ap (λ m. before x (m >>= settle)) goes-on ∙ ap (before x) (sym (parsed-pending (drop (end + 1) f)))
 
   -- The next piece has been read.
-  module _ (end′ : ℕ) (q : Piece) (w : Looked f (end + 1) (record { piece = q; end = end′ })) where
-    followed : (k : Pending → Outcome (List rules.Element)) → (rest f end >>= k) ≡ ((piece-of f q >>= λ p. rest f end′ >>= put-before p) >>= k)
-    followed k = ap (λ m. m >>= k) (goes-on ∙ w .answer)
+  followed : (end′ : ℕ) (q : Piece) → Looked f (end + 1) (record { piece = q; end = end′ })
+      → (k : Pending → Outcome (List rules.Element)) → (rest f end >>= k) ≡ ((piece-of f q >>= λ p. rest f end′ >>= put-before p) >>= k)
+  followed end′ q w k = ap (λ m. m >>= k) (goes-on ∙ w .answer)
 
-    parsed-next : parsed (drop (end + 1) f) ≡ ((piece-of f q >>= λ p. rest f end′ >>= put-before p) >>= settle)
-    parsed-next = parsed-pending (drop (end + 1) f) ∙ ap (λ m. m >>= settle) (w .answer)
+  -- The elements come first.
+  more : (k : Pending → Outcome (List rules.Element)) (x : rules.Element) → ((es : List rules.Element) → k (both none none es) ≡ done (x ∷ es))
+      → elements-first (pending (drop (end + 1) f)) → (rest f end >>= k) ≡ before x (parsed (drop (end + 1) f))
+  more k x h s =
+      ap (λ m. m >>= k) goes-on ∙ take-elements k x h (pending (drop (end + 1) f)) s ∙ ap (before x) (sym (parsed-pending (drop (end + 1) f)))
 
-  -- A name at a length, by the piece behind it.
-  module _ (n : Named) (size end′ : ℕ) where
+  -- A name at a length, by what stands behind it.
+  module _ (n : Named) (size : ℕ) where
     abbrev step : Pending → Outcome (List rules.Element)
     step p = need (absent (p .size)) 3 >>= λ _. done (named-of n (some size) (p .format) ∷ p .elements)
 
-    pub format-format : (b : ℕ) → Looked f (end + 1) (record { piece = piece.Format b; end = end′ })
-        → then-format f end n size ≡ then-settled f end′ (named-of n (some size) (some b))
-    unfolding then-format then-settled absent
-    format-format b w = followed end′ (piece.Format b) w step ∙ put-format step b (named-of n (some size) (some b)) (λ es. refl) (rest f end′)
-
-    pub format-element : (x : Element) → Looked f (end + 1) (record { piece = piece.Element x; end = end′ })
+    pub format-more : elements-first (pending (drop (end + 1) f))
         → then-format f end n size ≡ before (named-of n (some size) none) (parsed (drop (end + 1) f))
     unfolding then-format absent
-    format-element x w =
-        followed end′ (piece.Element x) w step
-        ∙ put-element step (element-of f x) (named-of n (some size) none) (λ es. refl) (rest f end′)
-        ∙ ap (before (named-of n (some size) none)) (sym (parsed-next end′ (piece.Element x) w))
+    format-more s = more step (named-of n (some size) none) (λ es. refl) s
 
-    pub format-length : (l : ℕ) → Looked f (end + 1) (record { piece = piece.Length l; end = end′ }) → then-format f end n size ≡ refused 3
-    unfolding then-format absent
-    format-length l w = followed end′ (piece.Length l) w step ∙ put-length-bad step l (λ p. refl) (rest f end′) (rest-only f end′)
+    module _ (end′ : ℕ) where
+      pub format-format : (b : ℕ) → Looked f (end + 1) (record { piece = piece.Format b; end = end′ })
+          → then-format f end n size ≡ then-settled f end′ (named-of n (some size) (some b))
+      unfolding then-format then-settled absent
+      format-format b w = followed end′ (piece.Format b) w step ∙ put-format step b (named-of n (some size) (some b)) (λ es. refl) (rest f end′)
 
-    pub format-bad : Looked f (end + 1) (record { piece = piece.Bad; end = end′ }) → then-format f end n size ≡ refused 3
-    unfolding then-format
-    format-bad w = followed end′ piece.Bad w step
+      pub format-length : (l : ℕ) → Looked f (end + 1) (record { piece = piece.Length l; end = end′ }) → then-format f end n size ≡ refused 3
+      unfolding then-format absent
+      format-length l w = followed end′ (piece.Length l) w step ∙ put-length-bad step l (λ p. refl) (rest f end′) (rest-only f end′)
 
-  -- A name alone, by the piece behind it.
-  module _ (n : Named) (l b : Option ℕ) (end′ : ℕ) where
+      pub format-bad : Looked f (end + 1) (record { piece = piece.Bad; end = end′ }) → then-format f end n size ≡ refused 3
+      unfolding then-format
+      format-bad w = followed end′ piece.Bad w step
+
+  -- A name alone, by what stands behind it.
+  module _ (n : Named) (l b : Option ℕ) where
     abbrev complete : Pending → Outcome (List rules.Element)
     complete p = completed (named-of n l b) p >>= λ x. done (x ∷ p .elements)
 
-    pub name-length : (size : ℕ) → Looked f (end + 1) (record { piece = piece.Length size; end = end′ })
-        → then-completed f end (named-of n l b) ≡ then-format f end′ n size
-    unfolding then-completed then-format completed
-    name-length size w =
-        followed end′ (piece.Length size) w complete
-        ∙ put-length complete size (λ p. named-of n (some size) (p .format)) (λ p. refl) (rest f end′)
-
-    pub name-format : (c : ℕ) → Looked f (end + 1) (record { piece = piece.Format c; end = end′ })
-        → then-completed f end (named-of n l b) ≡ then-settled f end′ (named-of n none (some c))
-    unfolding then-completed then-settled completed
-    name-format c w = followed end′ (piece.Format c) w complete ∙ put-format complete c (named-of n none (some c)) (λ es. refl) (rest f end′)
-
-    pub name-element : (x : Element) → Looked f (end + 1) (record { piece = piece.Element x; end = end′ })
+    pub name-more : elements-first (pending (drop (end + 1) f))
         → then-completed f end (named-of n l b) ≡ before (named-of n none none) (parsed (drop (end + 1) f))
     unfolding then-completed completed
-    name-element x w =
-        followed end′ (piece.Element x) w complete
-        ∙ put-element complete (element-of f x) (named-of n none none) (λ es. refl) (rest f end′)
-        ∙ ap (before (named-of n none none)) (sym (parsed-next end′ (piece.Element x) w))
+    name-more s = more complete (named-of n none none) (λ es. refl) s
 
-    pub name-bad : Looked f (end + 1) (record { piece = piece.Bad; end = end′ }) → then-completed f end (named-of n l b) ≡ refused 3
-    unfolding then-completed
-    name-bad w = followed end′ piece.Bad w complete
+    module _ (end′ : ℕ) where
+      pub name-length : (size : ℕ) → Looked f (end + 1) (record { piece = piece.Length size; end = end′ })
+          → then-completed f end (named-of n l b) ≡ then-format f end′ n size
+      unfolding then-completed then-format completed
+      name-length size w =
+          followed end′ (piece.Length size) w complete
+          ∙ put-length complete size (λ p. named-of n (some size) (p .format)) (λ p. refl) (rest f end′)
+
+      pub name-format : (c : ℕ) → Looked f (end + 1) (record { piece = piece.Format c; end = end′ })
+          → then-completed f end (named-of n l b) ≡ then-settled f end′ (named-of n none (some c))
+      unfolding then-completed then-settled completed
+      name-format c w = followed end′ (piece.Format c) w complete ∙ put-format complete c (named-of n none (some c)) (λ es. refl) (rest f end′)
+
+      pub name-bad : Looked f (end + 1) (record { piece = piece.Bad; end = end′ }) → then-completed f end (named-of n l b) ≡ refused 3
+      unfolding then-completed
+      name-bad w = followed end′ piece.Bad w complete
 
 -- An element other than a name.
 abbrev pub nameless : Element → Type 0

@@ -9,7 +9,7 @@ use lib.ListN.{length, drop, getD}
 use Rattle.rules.specs.Outcome.{Outcome, done, _>>=_}
 use Rattle.rules.specs.Characters.{period}
 use Rattle.rules.specs.Lists.{Bytes}
-use Rattle.rules.specs.Format.{turned, ends, texts, Pending, assembled, put-before}
+use Rattle.rules.specs.Format.{turned, ends, texts, Pending, settled, assembled, put-before}
 use Rattle.formats.specs.Pieces.{piece-of, piece-sound}
 use Rattle.formats.specs.declared.pieces.Piece.{Piece}
 use Rattle.formats.specs.declared.pieces.Piece.the-variants as piece
@@ -29,6 +29,10 @@ pub record Narrowed (at upto r : ℕ) (o bs : Bytes) : Type 0 where
 -- The elements of some bytes, with a length and a format that stand before them.
 unfoldable pub pending : Bytes → Outcome Pending
 pending bs = texts false bs >>= assembled
+
+-- Neither a length nor a format stands before the elements, if there are any.
+abbrev pub elements-first : Outcome Pending → Type 0
+elements-first o = (p : Pending) → o ≡ done p → settled p ≡ true
 
 -- Nothing behind the period counts.
 abbrev pub none-pending : Pending

@@ -7,13 +7,37 @@ use super::syntax::Step;
 use super::texts::text_at;
 use characters::PERIOD;
 ghost use mathlib.Core.Path.{_≡_};
-ghost use mathlib.Core.Bool.{false};
+ghost use mathlib.Core.Bool.{true, false};
 ghost use Prim.Native.Nat.{_≤_, _<_};
-ghost use lib.ListN.{length};
+ghost use lib.ListN.{length, drop};
 ghost use Rattle.rules.specs.Limits.{greatest-length};
 ghost use Rattle.formats.specs.Elements.{element-of, sound, Small};
 ghost use Rattle.formats.specs.Pieces.{unfinished};
+ghost use Rattle.formats.specs.Texts.{pending, elements-first};
 ghost use Rattle.formats.specs.Syntax.{Stepped, then-settled, then-format, then-completed};
+
+// The letters lie from C1 to E9, and the digits behind them.
+const FIRST_LETTER: u8 = 0xC1;
+
+const LAST_LETTER: u8 = 0xE9;
+
+// Whether the text at a place begins with two bytes as no length and no format does: a letter, and a letter or a digit.
+fn begins_longer(f: &[u8], at: usize) -> bool
+    requires { ⌜ at ≤ length (now f) ⌝ }
+    ensures { λ r. ⌜ (r ≡ true → elements-first (pending (drop at (now (f .entry))))) ⌝ }
+{
+    if f.len() - at < 2 {
+        return false;
+    }
+    let first = f[at];
+    if first < FIRST_LETTER {
+        return false;
+    }
+    if first > LAST_LETTER {
+        return false;
+    }
+    f[at + 1] >= FIRST_LETTER
+}
 
 // Nothing may follow the element but another.
 fn settled(f: &[u8], end: usize, e: Element) -> Step
@@ -36,6 +60,9 @@ fn format_behind(f: &[u8], end: usize, n: Named, size: u16) -> Step
     if f[end] == PERIOD {
         return Step::Last(Element::Named(named));
     }
+    if begins_longer(f, end + 1) {
+        return Step::More(Element::Named(named), end + 1);
+    }
     let next = text_at(f, end + 1);
     let piece = next.piece;
     match piece {
@@ -53,6 +80,9 @@ fn length_behind(f: &[u8], end: usize, n: Named) -> Step
 {
     if f[end] == PERIOD {
         return Step::Last(Element::Named(n));
+    }
+    if begins_longer(f, end + 1) {
+        return Step::More(Element::Named(n), end + 1);
     }
     let next = text_at(f, end + 1);
     let piece = next.piece;

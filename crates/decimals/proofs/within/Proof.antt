@@ -1,61 +1,71 @@
--- `decimals::within` meets its contract: zeros from the left are passed until at most m digits are left. Assumes nothing.
-use mathlib.Core.Path.{sym, _∙_}
-use Prim.Native.Nat.{_-_}
+-- `decimals::within` meets its contract: all digits before the last m are zeros. Assumes nothing.
+use mathlib.Core.Path.{_≡_, sym}
+use mathlib.Core.Bool.{Bool}
+use Prim.Native.Nat.{ℕ, _-_, _^_, _≤_}
 use native.Mathlib.Omega.{arith}
-use Rattle.decimals.proofs.Spelling.{Spelling, spelling-start, spelling-zero, spelling-more, spelling-fits}
+use lib.Dec.{ltb}
+use lib.ListN.{length}
+use Rattle.rules.specs.Lists.{Bytes}
+use Rattle.decimals.specs.Decimals.{magnitude-of, Readable, places}
+use Rattle.decimals.proofs.Spelling.{spelling-start, spelling-fits}
 use borrow.Author.Needs.{needs}
 use Rattle.decimals.proofs.within.Statement.{statement}
 use Rattle.decimals.proofs.within.Tie as tie
 
-abbrev Inv-loop : tie.InvT-loop
-Inv-loop s packed m n i₀ i = Spelling packed s i 0
+-- the format p is q, and s has n digits
+module _ (p q : Bool) (f : p ≡ q) (s : Bytes) (n m : ℕ) (e : n ≡ places p (length s)) where
+  asked : Readable p s → Readable q s × (n - m ≤ places q (length s))
+  asked v = let g = rw f at e in (rw f at v, omega arith)
 
-abbrev μ-loop : tie.MeasureT-loop
-μ-loop s packed m n i₀ i = n - i
+  answered : (r : Bool) → m ≤ n → r ≡ ltb (magnitude-of q s) (10 ^ (places q (length s) - (n - m))) → r ≡ ltb (magnitude-of p s) (10 ^ m)
+  answered r h a =
+      let g = rw f at e in
+      let k : places q (length s) - (n - m) ≡ m = omega arith in
+      rw f (rw k at a)
 
-digit-count-requires : tie.Need-digit-count-requires Inv-loop μ-loop
+digit-count-requires : tie.Need-digit-count-requires
 digit-count-requires c κs = search needs
 
-loop-holds : tie.Need-loop-holds Inv-loop μ-loop
-loop-holds c = spelling-start _ _
-
-sub-loop : tie.Need-sub-loop Inv-loop μ-loop
-sub-loop c = search needs
-
-digit-requires : tie.Need-digit-requires Inv-loop μ-loop
-digit-requires c κs = (omega arith, omega arith)
-
-returns : tie.Need-returns Inv-loop μ-loop
+returns : tie.Need-returns
 returns c =
-    let l = c .before .before .before in
-    sym (spelling-more (l .loop .inv) (l .before .before .before .args .m) (omega arith) (λ e. c .if1 .taken (c .before .digit .ensures ∙ e)))
+    let a = c .before .before .before in
+    sym (spelling-fits (spelling-start (a .args .packed) (a .args .s .now)) (a .args .m) (a .pre .nines) (omega arith))
 
-add-i : tie.Need-add-i Inv-loop μ-loop
-add-i c = search needs
+sub-packed-zeros : tie.Need-sub-packed-zeros
+sub-packed-zeros c = search needs
 
-loop-less : tie.Need-loop-less Inv-loop μ-loop
-loop-less c = search needs
+packed-zeros-requires : tie.Need-packed-zeros-requires
+packed-zeros-requires c κs =
+    let d = c .before .before in
+    asked _ _ (c .if2 .taken) _ _ _ (d .digit-count .ensures) (d .before .before .pre)
 
-loop-again : tie.Need-loop-again Inv-loop μ-loop
-loop-again c = spelling-zero (c .before .before .before .loop .inv) (omega arith) (sym (c .before .digit .ensures) ∙ c .if1 .left)
+sub-unpacked-zeros : tie.Need-sub-unpacked-zeros
+sub-unpacked-zeros c = search needs
 
-returns-2 : tie.Need-returns-2 Inv-loop μ-loop
+unpacked-zeros-requires : tie.Need-unpacked-zeros-requires
+unpacked-zeros-requires c κs =
+    let d = c .before .before in
+    asked _ _ (c .if2 .left) _ _ _ (d .digit-count .ensures) (d .before .before .pre)
+
+returns-2 : tie.Need-returns-2
 returns-2 c =
-    let a = c .before .before .before .before in
-    sym (spelling-fits (c .before .loop .inv) (a .args .m) (a .pre .nines) (omega arith))
+    let d = c .before .before .before in
+    answered _ _ (c .before .if2 .taken) _ _ _ (d .digit-count .ensures) _ (omega arith) (c .packed-zeros .ensures)
+
+returns-3 : tie.Need-returns-3
+returns-3 c =
+    let d = c .before .before .before in
+    answered _ _ (c .before .if2 .left) _ _ _ (d .digit-count .ensures) _ (omega arith) (c .unpacked-zeros .ensures)
 
 pub within-spec : {M : Type 1} → statement M
 within-spec =
     tie.close
     (tie.spec
-    Inv-loop
-    μ-loop
     digit-count-requires
-    loop-holds
-    sub-loop
-    digit-requires
     returns
-    add-i
-    loop-less
-    loop-again
-    returns-2)
+    sub-packed-zeros
+    packed-zeros-requires
+    sub-unpacked-zeros
+    unpacked-zeros-requires
+    returns-2
+    returns-3)
