@@ -9,6 +9,7 @@ use lib.ListN.{length, getD, take, drop}
 use Rattle.rules.specs.Outcome.{Outcome, done, refused, is-done}
 use Rattle.rules.specs.Limits.{most-entries, deepest-level}
 use Rattle.rules.specs.Lists.{Bytes, same, all}
+use Rattle.rules.specs.Characters.{space}
 use Rattle.rules.specs.Values.{Format, alpha, binary, fixed, packed, unpacked}
 use Rattle.rules.specs.Table.{What, field, group, Entry, format-of, is-name, name-of, what-of, entries, names, table-head, table}
 unfoldable pub use Rattle.kinds.specs.Formats.{format-at}
@@ -97,6 +98,9 @@ row-of bs = record {
   multiple = eqb (getD bs 5 0) 1;
   periodic = eqb (getD bs 5 0) 2;
 }
+
+unfoldable pub group-letter : Bytes → Bool
+group-letter bs = eqb (getD bs 3 0) space
 
 unfoldable pub right-of : Bytes → Bool
 right-of bs = is-name (getD bs 0 0) (getD bs 1 0) && is-done (what-of (getD bs 2 0) (getD bs 3 0) (getD bs 4 0) (getD bs 5 0))
