@@ -334,6 +334,9 @@ module _ (t : Bytes) (i : ℕ) where
   unfolding row-of
   name-at-is = simp (getD-drop, add-zero)
 
+  pub named-at : is-name (getD (bytes-at t i) 0 0) (getD (bytes-at t i) 1 0) ≡ is-name (getD t (i * 6 + 6) 0) (getD t (i * 6 + 6 + 1) 0)
+  named-at = simp (getD-drop, add-zero)
+
   -- byte k of entry i, at the place that the code reads
   byte-is : (k p : ℕ) → i * 6 + 6 + k ≡ p → getD (bytes-at t i) k 0 ≡ getD t p 0
   byte-is k p e = rw (← e) (simp getD-drop)

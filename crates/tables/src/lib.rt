@@ -1,14 +1,14 @@
 // The field definition table: whether a slice is one, and what the layers above ask of one.
 ghost use mathlib.Core.Path.{_≡_};
-ghost use mathlib.Core.Bool.{false};
+ghost use mathlib.Core.Bool.{true, false};
 ghost use Prim.Native.Nat.{_<_, _≤_, _+_, _*_};
 ghost use lib.ListN.{length, getD, drop};
 ghost use lib.Dec.{eqb};
 ghost use Rattle.rules.specs.Outcome.{is-done};
-ghost use Rattle.rules.specs.Table.{group, name-of, what-of, entries, levels, differ, names, table, fields-below};
+ghost use Rattle.rules.specs.Table.{group, is-name, name-of, what-of, entries, levels, differ, names, table, fields-below};
 ghost use Rattle.rules.specs.Lists.{all};
 ghost use Rattle.rules.specs.Use.{plain};
-ghost use Rattle.tables.specs.Entries.{letter-number, is-group, is-multiple, is-periodic, row-of, group-letter, right-of, bytes-at, read-entries, Right, follows, unused, headed, Valid, entries-of, decoded, blank};
+ghost use Rattle.tables.specs.Entries.{letter-number, is-group, is-multiple, is-periodic, row-of, group-letter, right-of, bytes-at, read-entries, Right, follows, unused, index-of, headed, Valid, entries-of, decoded, blank};
 ghost use Rattle.tables.specs.Places.{Finds, Homes, inside-at};
 ghost use Rattle.tables.specs.Groups.{group-end, Expanded, Fields-of, plain-row, Spanned};
 
@@ -212,8 +212,8 @@ fn name_unused(t: &[u8], n: usize, from: usize, name: u16) -> bool
     true
 }
 
-// Whether the names of the n entries differ.
-fn names_differ(t: &[u8], n: usize) -> bool
+// Whether the names of the n entries differ, by each pair of them.
+fn names_paired(t: &[u8], n: usize) -> bool
     requires { ⌜ Right n (now t) ⌝ }
     ensures { λ r. ⌜ r ≡ differ (names (read-entries n (now (t .entry)))) ⌝ }
 {
@@ -226,6 +226,44 @@ fn names_differ(t: &[u8], n: usize) -> bool
         }
     }
     true
+}
+
+// Where a name stands in an index of all names: its first byte is C1 to E9, its second C1 to F9.
+fn place_of(a: u8, b: u8) -> usize
+    requires { ⌜ is-name a b ≡ true ⌝ }
+    ensures { λ r. ⌜ (r ≡ index-of (name-of a b)) × (r < 2688) ⌝ }
+{
+    (wide(a) - 0xc0) * 64 + (wide(b) - 0xc0)
+}
+
+// The same by an index of the names that were seen.
+fn names_indexed(t: &[u8], n: usize) -> bool
+    requires { ⌜ Right n (now t) ⌝ }
+    ensures { λ r. ⌜ r ≡ differ (names (read-entries n (now (t .entry)))) ⌝ }
+{
+    let mut seen = [false; 2688];
+    let mut i = 0;
+    while i < n {
+        let p = i * 6 + 6;
+        let k = place_of(t[p], t[p + 1]);
+        if seen[k] {
+            return false;
+        }
+        seen[k] = true;
+        i += 1;
+    }
+    true
+}
+
+// Whether the names of the n entries differ: of few by their pairs, since an index has to be cleared.
+fn names_differ(t: &[u8], n: usize) -> bool
+    requires { ⌜ Right n (now t) ⌝ }
+    ensures { λ r. ⌜ r ≡ differ (names (read-entries n (now (t .entry)))) ⌝ }
+{
+    if n <= 16 {
+        return names_paired(t, n);
+    }
+    names_indexed(t, n)
 }
 
 // Whether the head, the number of entries and the length of the slice are a table's.
