@@ -36,7 +36,7 @@ unfolding levels follows
 levels-cons true l e es = rw (← levels-mark (e .what) (e .level) es)
 levels-cons false l e es = rw (← levels-mark (e .what) (e .level) es)
 
-unused-nil : (n : ℕ) → unused n [] ≡ true
+pub unused-nil : (n : ℕ) → unused n [] ≡ true
 unfolding unused names all
 unused-nil n = refl
 
@@ -44,7 +44,7 @@ pub unused-cons : (n : ℕ) (e : Entry) (es : List Entry) → unused n (e ∷ es
 unfolding unused names all
 unused-cons n e es = refl
 
-differ-nil : differ (names []) ≡ true
+pub differ-nil : differ (names []) ≡ true
 unfolding differ names
 differ-nil = refl
 
@@ -54,7 +54,7 @@ differ-cons e es = refl
 
 -- ---- a turn at entry i, and the end
 module _ (es : List Entry) (i : ℕ) where
-  rest-at : i < length es → drop i es ≡ getD es i blank ∷ drop (i + 1) es
+  pub rest-at : i < length es → drop i es ≡ getD es i blank ∷ drop (i + 1) es
   rest-at h = rw (add-one) (drop-cons es i blank h)
 
   levels-at : i < length es → (g : Bool) (l : ℕ)

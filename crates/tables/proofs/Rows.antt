@@ -4,10 +4,10 @@ use mathlib.Core.Path.{_≡_, refl, sym, ap, subst, _∙_}
 use mathlib.Core.Bool.{Bool, true, false, not, _&&_, _||_}
 use mathlib.Core.List.{List, [], _∷_}
 use mathlib.Core.Option.{none, some}
-use Prim.Native.Nat.{ℕ, zero, suc, _+_, _*_, _-_, _≤_, _<_}
+use Prim.Native.Nat.{ℕ, zero, suc, _+_, _*_, _/_, _%_, _-_, _≤_, _<_}
 use native.Mathlib.Omega.{arith}
 use native.Mathlib.Nat.{add-zero, le-of-suc-le-suc, not-suc-le-zero}
-use borrow.Author.Tests.{leb-true, eqb-true, ne-eqb}
+use borrow.Author.Tests.{leb-true, eqb-true, eqb-false, eq-eqb, ne-eqb}
 use lib.Dec.{T, eqb, leb}
 use lib.ListN.{length, getD, drop, length-drop, drop-of-length-le}
 use lib.Seq.{drop-drop, getD-drop}
@@ -17,8 +17,8 @@ use Rattle.rules.specs.Characters.{space, letter, digit, letter-A, letter-B, le
 use Rattle.rules.specs.Values.{Format, alpha, binary, fixed, packed, unpacked, allowed}
 use Rattle.rules.specs.Table.{What, field, group, Entry, format-of, format-letters, is-name, name-of, what-of, entries}
 use Rattle.tables.proofs.Bools.{and-true, and-false, or-true, or-false}
-use Rattle.rules.proofs.Steps.{from-bind, from-need, done-inj, not-done, by-option, T-true, and-left, and-right}
-use Rattle.tables.specs.Entries.{blank, format-at, number-of, letter-number, decoded, row-of, right-of, format-number, size-of, is-multiple, is-periodic, bytes-at}
+use Rattle.rules.proofs.Steps.{from-bind, from-need, done-inj, not-done, by-test, by-option, T-true, and-left, and-right}
+use Rattle.tables.specs.Entries.{blank, format-at, number-of, letter-number, decoded, row-of, group-letter, right-of, is-group, format-number, size-of, is-multiple, is-periodic, bytes-at}
 use Rattle.tables.specs.declared.Entry.{Entry as Row}
 
 -- ---- formats by number
@@ -94,6 +94,23 @@ module _ (a b : ℕ) where
   unfolding is-name
   name-neither e = rw e
 
+-- two names of two bytes each
+module _ (a b c d : ℕ) (h : b < 256) (k : d < 256) where
+  pub name-same : a ≡ c → eqb (name-of a b) (name-of c d) ≡ eqb b d
+  unfolding name-of
+  name-same e = by-test (eqb b d)
+      (λ q. eq-eqb (a * 256 + b) (c * 256 + d) (omega (arith, e, eqb-true b d q)) ∙ sym q)
+      (λ q. ne-eqb (a * 256 + b) (c * 256 + d) (λ z. eqb-false b d q (omega (arith, e, z))) ∙ sym q)
+
+  pub name-other : (a ≡ c → ⊥) → eqb (name-of a b) (name-of c d) ≡ false
+  unfolding name-of
+  name-other e = ne-eqb (a * 256 + b) (c * 256 + d) (λ z. e (omega (arith, h, k, z)))
+
+-- a name of its own two bytes
+pub name-bytes : (n : ℕ) → name-of (n / 256) (n % 256) ≡ n
+unfolding name-of
+name-bytes n = omega arith
+
 -- ---- what an entry is
 
 need-is : {A : Type 0} (b : Bool) (n : ℕ) (a : A) → is-done (need b n >>= λ (_ : Unit {0}). done a) ≡ b
@@ -127,6 +144,10 @@ six (a ∷ b ∷ l ∷ f ∷ []) h = absurd (omega arith)
 six (a ∷ b ∷ l ∷ f ∷ s ∷ []) h = absurd (omega arith)
 six (a ∷ b ∷ l ∷ f ∷ s ∷ o ∷ bs) h = refl
 
+space-none : format-of space ≡ none
+unfolding format-of format-letters look-up
+space-none = refl
+
 -- what an entry's level, length and option say of a field, and of a group
 abbrev pub Sound : ℕ → What → Type 0
 Sound l (field g n m) = allowed g n ≡ true
@@ -138,6 +159,7 @@ pub record Read (l f s o : ℕ) (w : What) : Type 0 where
   pub size : s ≡ size-of w
   pub multiple : eqb o 1 ≡ is-multiple w
   pub periodic : eqb o 2 ≡ is-periodic w
+  pub grouped : eqb f space ≡ is-group w
   pub sound : Sound l w
 
 module _ (l f s o : ℕ) where
@@ -160,6 +182,7 @@ module _ (l f s o : ℕ) where
         size = refl;
         multiple = refl;
         periodic = ne-eqb o 2 (λ q. omega arith);
+        grouped = ne-eqb f space (λ q. omega (arith, letter-some f g e, number-small g, ap letter-number q, letter-none space space-none));
         sound = T-true (allowed g s) (and-left (allowed g s) (leb o 1) t);
       }
 
@@ -180,6 +203,7 @@ module _ (l f s o : ℕ) where
         size = eqb-true s 0 (T-true (eqb s 0) v);
         multiple = ne-eqb o 1 (not-one u);
         periodic = refl;
+        grouped = T-true (eqb f space) (and-left (eqb f space) (eqb s 0) (and-left (eqb f space && eqb s 0) (eqb o 0 || (eqb o 2 && eqb l 1)) t));
         sound = level-one u;
       }
 
@@ -190,18 +214,24 @@ module _ (l f s o : ℕ) where
 
 -- ---- entries
 
+-- an entry and the six bytes that it was read from
+pub record Made (bs : Bytes) (e : Entry) : Type 0 where
+  pub row : row-of bs ≡ decoded e
+  pub named : is-name (getD bs 0 0) (getD bs 1 0) ≡ true
+  pub grouped : group-letter bs ≡ is-group (e .what)
+  pub sound : Sound (e .level) (e .what)
+
 -- a done list of entries: its first, from the first six bytes, and the rest
 pub record First (n : ℕ) (bs : Bytes) (es : List Entry) : Type 0 where
   pub first : Entry
   pub rest : List Entry
   pub is : es ≡ first ∷ rest
   pub long : 6 ≤ length bs
-  pub row : row-of bs ≡ decoded first
-  pub sound : Sound (first .level) (first .what)
+  pub made : Made bs first
   pub behind : entries n (drop 6 bs) ≡ done rest
 
 pub entries-first : (n : ℕ) (bs : Bytes) (es : List Entry) → entries (suc n) bs ≡ done es → First n bs es
-unfolding entries row-of
+unfolding entries row-of group-letter
 entries-first n [] es p = absurd (not-done p)
 entries-first n (a ∷ []) es p = absurd (not-done p)
 entries-first n (a ∷ b ∷ []) es p = absurd (not-done p)
@@ -219,8 +249,12 @@ entries-first n (a ∷ b ∷ l ∷ f ∷ s ∷ o ∷ bs) es p =
       rest = rest;
       is = sym (done-inj p₃);
       long = omega arith;
-      row = rw (r .number, r .size, r .multiple, r .periodic);
-      sound = r .sound;
+      made = record {
+        row = rw (r .number, r .size, r .multiple, r .periodic);
+        named = T-true (is-name a b) t;
+        grouped = r .grouped;
+        sound = r .sound;
+      };
       behind = k;
     }
 
@@ -233,21 +267,13 @@ entries-length (suc n) bs es p =
     let h = entries-length n (drop 6 bs) (x .rest) (x .behind) in
     (ap length (x .is) ∙ ap suc (h .0), omega (arith, h .1, length-drop 6 bs, x .long))
 
-pub entry-row : (n : ℕ) (bs : Bytes) (es : List Entry) (i : ℕ) → entries n bs ≡ done es → i < n → row-of (drop (i * 6) bs) ≡ decoded (getD es i blank)
-entry-row zero bs es i p h = absurd (not-suc-le-zero h)
-entry-row (suc n) bs es zero p h = let x = entries-first n bs es p in rw (x .is) (x .row)
-entry-row (suc n) bs es (suc i) p h =
+pub entry-made : (n : ℕ) (bs : Bytes) (es : List Entry) (i : ℕ) → entries n bs ≡ done es → i < n → Made (drop (i * 6) bs) (getD es i blank)
+entry-made zero bs es i p h = absurd (not-suc-le-zero h)
+entry-made (suc n) bs es zero p h = let x = entries-first n bs es p in rw (x .is) (x .made)
+entry-made (suc n) bs es (suc i) p h =
     let x = entries-first n bs es p in
     let e : suc i * 6 ≡ 6 + i * 6 = omega arith in
-    rw (x .is, e, ← drop-drop (i * 6) 6 bs) (entry-row n (drop 6 bs) (x .rest) i (x .behind) (le-of-suc-le-suc h))
-
-pub entry-sound : (n : ℕ) (bs : Bytes) (es : List Entry) (i : ℕ) → entries n bs ≡ done es → i < n
-    → Sound (getD es i blank .level) (getD es i blank .what)
-entry-sound zero bs es i p h = absurd (not-suc-le-zero h)
-entry-sound (suc n) bs es zero p h = let x = entries-first n bs es p in rw (x .is) (x .sound)
-entry-sound (suc n) bs es (suc i) p h =
-    let x = entries-first n bs es p in
-    rw (x .is) (entry-sound n (drop 6 bs) (x .rest) i (x .behind) (le-of-suc-le-suc h))
+    rw (x .is, e, ← drop-drop (i * 6) 6 bs) (entry-made n (drop 6 bs) (x .rest) i (x .behind) (le-of-suc-le-suc h))
 
 -- ---- a turn of the loop over the entries
 
@@ -307,6 +333,33 @@ module _ (t : Bytes) (i : ℕ) where
   pub name-at-is : row-of (bytes-at t i) .name ≡ name-of (getD t (i * 6 + 6) 0) (getD t (i * 6 + 6 + 1) 0)
   unfolding row-of
   name-at-is = simp (getD-drop, add-zero)
+
+  pub named-at : is-name (getD (bytes-at t i) 0 0) (getD (bytes-at t i) 1 0) ≡ is-name (getD t (i * 6 + 6) 0) (getD t (i * 6 + 6 + 1) 0)
+  named-at = simp (getD-drop, add-zero)
+
+  -- byte k of entry i, at the place that the code reads
+  byte-is : (k p : ℕ) → i * 6 + 6 + k ≡ p → getD (bytes-at t i) k 0 ≡ getD t p 0
+  byte-is k p e = rw (← e) (simp getD-drop)
+
+  pub level-at-is : row-of (bytes-at t i) .level ≡ getD t (i * 6 + 8) 0
+  unfolding row-of
+  level-at-is = byte-is 2 (i * 6 + 8) (omega arith)
+
+  pub group-at-is : group-letter (bytes-at t i) ≡ eqb (getD t (i * 6 + 9) 0) space
+  unfolding group-letter
+  group-at-is = ap (λ (b : ℕ). eqb b space) (byte-is 3 (i * 6 + 9) (omega arith))
+
+  pub size-at-is : row-of (bytes-at t i) .size ≡ getD t (i * 6 + 10) 0
+  unfolding row-of
+  size-at-is = byte-is 4 (i * 6 + 10) (omega arith)
+
+  pub multiple-at-is : row-of (bytes-at t i) .multiple ≡ eqb (getD t (i * 6 + 11) 0) 1
+  unfolding row-of
+  multiple-at-is = ap (λ (b : ℕ). eqb b 1) (byte-is 5 (i * 6 + 11) (omega arith))
+
+  pub periodic-at-is : row-of (bytes-at t i) .periodic ≡ eqb (getD t (i * 6 + 11) 0) 2
+  unfolding row-of
+  periodic-at-is = ap (λ (b : ℕ). eqb b 2) (byte-is 5 (i * 6 + 11) (omega arith))
 
   pub row-is : (r : Row) → r .name ≡ row-of (bytes-at t i) .name → r .level ≡ getD t (i * 6 + 6 + 2) 0
       → r .format ≡ letter-number (getD t (i * 6 + 6 + 3) 0) → r .size ≡ getD t (i * 6 + 6 + 4) 0

@@ -16,7 +16,9 @@ use Rattle.rules.specs.Table.{What, field, group, Entry, entries, levels, diffe
 use Rattle.rules.proofs.Steps.{by-test, from-bind, from-need}
 use Rattle.tables.specs.Entries.{listed, Valid, entries-of, read-entries, blank, format-at, format-number, decoded, what-by, entry-of, row-of, bytes-at, Right, headed, group-number, is-group}
 use Rattle.tables.proofs.Bools.{clash, and-true, and-both, and-four}
-use Rattle.tables.proofs.Rows.{Sound, entries-length, entry-row, entry-sound}
+use Rattle.tables.specs.declared.Entry.{Entry as Row}
+use Rattle.tables.proofs.Index.{Placed, name-placed, All-placed}
+use Rattle.tables.proofs.Rows.{Sound, Made, entries-length, entry-made}
 
 done-listed : (m : Outcome (List Entry)) → is-done m ≡ true → m ≡ done (listed m)
 done-listed (done es) e = refl
@@ -37,13 +39,20 @@ module _ (n : ℕ) (t : Bytes) (v : Right n t) where
   read-length : 1 ≤ n → length t ≡ n * 6 + 6
   read-length h = omega (arith, entries-length n (drop 6 t) (read-entries n t) read .1, length-drop 6 t)
 
-  pub read-row : (i : ℕ) → i < n → row-of (bytes-at t i) ≡ decoded (getD (read-entries n t) i blank)
-  read-row i h =
+  pub read-made : (i : ℕ) → i < n → Made (bytes-at t i) (getD (read-entries n t) i blank)
+  read-made i h =
       let e : i * 6 + 6 ≡ 6 + i * 6 = omega arith in
-      rw (e, ← drop-drop (i * 6) 6 t) (entry-row n (drop 6 t) (read-entries n t) i read h)
+      rw (e, ← drop-drop (i * 6) 6 t) (entry-made n (drop 6 t) (read-entries n t) i read h)
 
-  read-sound : (i : ℕ) → i < n → Sound (getD (read-entries n t) i blank .level) (getD (read-entries n t) i blank .what)
-  read-sound i h = entry-sound n (drop 6 t) (read-entries n t) i read h
+  pub read-row : (i : ℕ) → i < n → row-of (bytes-at t i) ≡ decoded (getD (read-entries n t) i blank)
+  read-row i h = read-made i h .row
+
+  -- each name has a place in an index of names
+  pub read-placed : All-placed (read-entries n t)
+  unfolding row-of
+  read-placed j h =
+      let m = read-made j (omega (arith, read-count, h)) in
+      subst Placed (ap (λ (r : Row). r .name) (m .row)) (name-placed (getD (bytes-at t j) 0 0) (getD (bytes-at t j) 1 0) (m .named))
 
 pub is-group-number : (w : What) → eqb (format-number w) group-number ≡ is-group w
 is-group-number (field alpha n m) = refl
@@ -164,13 +173,15 @@ module _ (t : Bytes) (v : Valid t) where
     pub valid-reach : i * 6 + 12 ≤ length t
     valid-reach = read-reach (getD t 5 0) t (tabled t v .right) i below
 
+    pub valid-made : Made (bytes-at t i) (getD (entries-of t) i blank)
+    valid-made = subst (λ (es : List Entry). Made (bytes-at t i) (getD es i blank)) (sym same-entries) (read-made (getD t 5 0) t (tabled t v .right) i below)
+
     pub valid-row : row-of (bytes-at t i) ≡ decoded (getD (entries-of t) i blank)
-    valid-row = read-row (getD t 5 0) t (tabled t v .right) i below ∙ ap (λ es. decoded (getD es i blank)) (sym same-entries)
+    valid-row = valid-made .row
 
     -- a field's length is one that its format allows, and a periodic group has level 1
     pub valid-sound : Sound (getD (entries-of t) i blank .level) (getD (entries-of t) i blank .what)
-    valid-sound = subst (λ (es : List Entry). Sound (getD es i blank .level) (getD es i blank .what)) (sym same-entries)
-        (read-sound (getD t 5 0) t (tabled t v .right) i below)
+    valid-sound = valid-made .sound
 
 -- ---- an entry of the code and what it means
 what-back : (n l : ℕ) (w : What)

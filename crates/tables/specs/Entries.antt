@@ -3,12 +3,13 @@ use mathlib.Core.Path.{_≡_}
 use mathlib.Core.Bool.{Bool, true, false, not, _&&_}
 use mathlib.Core.List.{List, [], _∷_}
 use mathlib.Core.Option.{none, some}
-use Prim.Native.Nat.{ℕ, suc, _+_, _*_}
+use Prim.Native.Nat.{ℕ, suc, _+_, _-_, _*_, _/_, _%_}
 use lib.Dec.{eqb, leb}
 use lib.ListN.{length, getD, take, drop}
 use Rattle.rules.specs.Outcome.{Outcome, done, refused, is-done}
 use Rattle.rules.specs.Limits.{most-entries, deepest-level}
 use Rattle.rules.specs.Lists.{Bytes, same, all}
+use Rattle.rules.specs.Characters.{space}
 use Rattle.rules.specs.Values.{Format, alpha, binary, fixed, packed, unpacked}
 use Rattle.rules.specs.Table.{What, field, group, Entry, format-of, is-name, name-of, what-of, entries, names, table-head, table}
 unfoldable pub use Rattle.kinds.specs.Formats.{format-at}
@@ -98,6 +99,9 @@ row-of bs = record {
   periodic = eqb (getD bs 5 0) 2;
 }
 
+unfoldable pub group-letter : Bytes → Bool
+group-letter bs = eqb (getD bs 3 0) space
+
 unfoldable pub right-of : Bytes → Bool
 right-of bs = is-name (getD bs 0 0) (getD bs 1 0) && is-done (what-of (getD bs 2 0) (getD bs 3 0) (getD bs 4 0) (getD bs 5 0))
 
@@ -122,3 +126,7 @@ follows false before level = leb 1 level && leb level before
 -- Whether no entry has a name.
 unfoldable pub unused : ℕ → List Entry → Bool
 unused n es = all (λ m. not (eqb m n)) (names es)
+
+-- The place of a name in an index of all names, by its two bytes, which are letters or digits.
+unfoldable pub index-of : ℕ → ℕ
+index-of n = (n / 256 - 0xC0) * 64 + (n % 256 - 0xC0)

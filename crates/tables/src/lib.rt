@@ -1,14 +1,14 @@
 // The field definition table: whether a slice is one, and what the layers above ask of one.
 ghost use mathlib.Core.Path.{_≡_};
-ghost use mathlib.Core.Bool.{false};
+ghost use mathlib.Core.Bool.{true, false};
 ghost use Prim.Native.Nat.{_<_, _≤_, _+_, _*_};
 ghost use lib.ListN.{length, getD, drop};
 ghost use lib.Dec.{eqb};
 ghost use Rattle.rules.specs.Outcome.{is-done};
-ghost use Rattle.rules.specs.Table.{group, what-of, entries, levels, differ, names, table, fields-below};
+ghost use Rattle.rules.specs.Table.{group, is-name, name-of, what-of, entries, levels, differ, names, table, fields-below};
 ghost use Rattle.rules.specs.Lists.{all};
 ghost use Rattle.rules.specs.Use.{plain};
-ghost use Rattle.tables.specs.Entries.{letter-number, row-of, right-of, bytes-at, read-entries, Right, follows, unused, headed, Valid, entries-of, decoded, blank};
+ghost use Rattle.tables.specs.Entries.{letter-number, is-group, is-multiple, is-periodic, row-of, group-letter, right-of, bytes-at, read-entries, Right, follows, unused, index-of, headed, Valid, entries-of, decoded, blank};
 ghost use Rattle.tables.specs.Places.{Finds, Homes, inside-at};
 ghost use Rattle.tables.specs.Groups.{group-end, Expanded, Fields-of, plain-row, Spanned};
 
@@ -130,11 +130,32 @@ fn row(t: &[u8], i: usize) -> Entry
     }
 }
 
-// Whether a decoded entry is a group.
-fn is_group(e: Entry) -> bool
-    ensures { λ r. ⌜ r ≡ eqb (e .format) 5 ⌝ }
+// Whether entry i has the name of two bytes.
+fn named_in(t: &[u8], i: usize, a: u8, b: u8) -> bool
+    requires { ⌜ i * 6 + 12 ≤ length (now t) ⌝ }
+    ensures { λ r. ⌜ r ≡ eqb (row-of (bytes-at (now (t .entry)) i) .name) (name-of a b) ⌝ }
 {
-    e.format == GROUP
+    let p = i * 6 + 6;
+    if t[p] == a {
+        return t[p + 1] == b;
+    }
+    false
+}
+
+// The level of entry i, whether or not it is right.
+fn level_in(t: &[u8], i: usize) -> u8
+    requires { ⌜ i * 6 + 12 ≤ length (now t) ⌝ }
+    ensures { λ r. ⌜ r ≡ row-of (bytes-at (now (t .entry)) i) .level ⌝ }
+{
+    t[i * 6 + 8]
+}
+
+// Whether a group's letter stands in entry i.
+fn group_in(t: &[u8], i: usize) -> bool
+    requires { ⌜ i * 6 + 12 ≤ length (now t) ⌝ }
+    ensures { λ r. ⌜ r ≡ group-letter (bytes-at (now (t .entry)) i) ⌝ }
+{
+    t[i * 6 + 9] == characters::SPACE
 }
 
 // Whether a level may follow that of a group, or of a field.
@@ -162,10 +183,10 @@ fn levels_right(t: &[u8], n: usize) -> bool
     let mut before = 0;
     let mut i = 0;
     while i < n {
-        let e = row(t, i);
-        if may_follow(after_group, before, e.level) {
-            after_group = is_group(e);
-            before = e.level;
+        let level = level_in(t, i);
+        if may_follow(after_group, before, level) {
+            after_group = group_in(t, i);
+            before = level;
             i += 1;
         } else {
             return false;
@@ -179,9 +200,11 @@ fn name_unused(t: &[u8], n: usize, from: usize, name: u16) -> bool
     requires { ⌜ Right n (now t) × (from ≤ n) ⌝ }
     ensures { λ r. ⌜ r ≡ unused name (drop from (read-entries n (now (t .entry)))) ⌝ }
 {
+    let a = (name / 256) as u8;
+    let b = (name % 256) as u8;
     let mut i = from;
     while i < n {
-        if name_at(t, i) == name {
+        if named_in(t, i, a, b) {
             return false;
         }
         i += 1;
@@ -189,8 +212,8 @@ fn name_unused(t: &[u8], n: usize, from: usize, name: u16) -> bool
     true
 }
 
-// Whether the names of the n entries differ.
-fn names_differ(t: &[u8], n: usize) -> bool
+// Whether the names of the n entries differ, by each pair of them.
+fn names_paired(t: &[u8], n: usize) -> bool
     requires { ⌜ Right n (now t) ⌝ }
     ensures { λ r. ⌜ r ≡ differ (names (read-entries n (now (t .entry)))) ⌝ }
 {
@@ -203,6 +226,44 @@ fn names_differ(t: &[u8], n: usize) -> bool
         }
     }
     true
+}
+
+// Where a name stands in an index of all names: its first byte is C1 to E9, its second C1 to F9.
+fn place_of(a: u8, b: u8) -> usize
+    requires { ⌜ is-name a b ≡ true ⌝ }
+    ensures { λ r. ⌜ (r ≡ index-of (name-of a b)) × (r < 2688) ⌝ }
+{
+    (wide(a) - 0xc0) * 64 + (wide(b) - 0xc0)
+}
+
+// The same by an index of the names that were seen.
+fn names_indexed(t: &[u8], n: usize) -> bool
+    requires { ⌜ Right n (now t) ⌝ }
+    ensures { λ r. ⌜ r ≡ differ (names (read-entries n (now (t .entry)))) ⌝ }
+{
+    let mut seen = [false; 2688];
+    let mut i = 0;
+    while i < n {
+        let p = i * 6 + 6;
+        let k = place_of(t[p], t[p + 1]);
+        if seen[k] {
+            return false;
+        }
+        seen[k] = true;
+        i += 1;
+    }
+    true
+}
+
+// Whether the names of the n entries differ: of few by their pairs, since an index has to be cleared.
+fn names_differ(t: &[u8], n: usize) -> bool
+    requires { ⌜ Right n (now t) ⌝ }
+    ensures { λ r. ⌜ r ≡ differ (names (read-entries n (now (t .entry)))) ⌝ }
+{
+    if n <= 16 {
+        return names_paired(t, n);
+    }
+    names_indexed(t, n)
 }
 
 // Whether the head, the number of entries and the length of the slice are a table's.
@@ -256,6 +317,38 @@ pub fn entry_at(t: &[u8], i: usize) -> Entry
     row(t, i)
 }
 
+// The level of entry i.
+pub fn level_at(t: &[u8], i: usize) -> u8
+    requires { ⌜ Valid (now t) × (i < length (entries-of (now t))) ⌝ }
+    ensures { λ r. ⌜ r ≡ getD (entries-of (now (t .entry))) i blank .level ⌝ }
+{
+    level_in(t, i)
+}
+
+// Whether entry i is a group.
+pub fn group_at(t: &[u8], i: usize) -> bool
+    requires { ⌜ Valid (now t) × (i < length (entries-of (now t))) ⌝ }
+    ensures { λ r. ⌜ r ≡ is-group (getD (entries-of (now (t .entry))) i blank .what) ⌝ }
+{
+    group_in(t, i)
+}
+
+// Whether entry i is an MU field.
+pub fn multiple_at(t: &[u8], i: usize) -> bool
+    requires { ⌜ Valid (now t) × (i < length (entries-of (now t))) ⌝ }
+    ensures { λ r. ⌜ r ≡ is-multiple (getD (entries-of (now (t .entry))) i blank .what) ⌝ }
+{
+    t[i * 6 + 11] == 1
+}
+
+// Whether entry i is a periodic group.
+pub fn periodic_at(t: &[u8], i: usize) -> bool
+    requires { ⌜ Valid (now t) × (i < length (entries-of (now t))) ⌝ }
+    ensures { λ r. ⌜ r ≡ is-periodic (getD (entries-of (now (t .entry))) i blank .what) ⌝ }
+{
+    t[i * 6 + 11] == 2
+}
+
 // The number of an entry, where there is one.
 pub enum Found {
     At(usize),
@@ -268,9 +361,11 @@ pub fn find(t: &[u8], name: u16) -> Found
     ensures { λ r. ⌜ Finds name (entries-of (now (t .entry))) r ⌝ }
 {
     let n = count(t);
+    let a = (name / 256) as u8;
+    let b = (name % 256) as u8;
     let mut i = 0;
     while i < n {
-        if name_at(t, i) == name {
+        if named_in(t, i, a, b) {
             return Found::At(i);
         }
         i += 1;
@@ -284,12 +379,10 @@ pub fn group_end(t: &[u8], i: usize) -> usize
     ensures { λ r. ⌜ r ≡ group-end (entries-of (now (t .entry))) i ⌝ }
 {
     let n = count(t);
-    let e = entry_at(t, i);
-    let level = e.level;
+    let level = level_at(t, i);
     let mut j = i + 1;
     while j < n {
-        let m = entry_at(t, j);
-        if m.level <= level {
+        if level_at(t, j) <= level {
             return j;
         }
         j += 1;
@@ -304,9 +397,8 @@ pub fn periodic_group(t: &[u8], i: usize) -> Found
 {
     let mut j = i;
     loop {
-        let e = entry_at(t, j);
-        if e.level == 1 {
-            if e.periodic {
+        if level_at(t, j) == 1 {
+            if periodic_at(t, j) {
                 return Found::At(j);
             }
             return Found::Nothing;
@@ -341,12 +433,11 @@ fn expand_from(t: &[u8], at: usize, n: usize, level: u8, out: &mut [u8; 64], cou
     if at == n {
         return Walked { next: n, count };
     }
-    let e = entry_at(t, at);
-    let deep = e.level;
+    let deep = level_at(t, at);
     if deep <= level {
         return Walked { next: at, count };
     }
-    if is_group(e) {
+    if group_at(t, at) {
         let inner = expand_from(t, at + 1, n, deep, out, count);
         let next = inner.next;
         let sofar = inner.count;
@@ -367,17 +458,18 @@ pub fn expand(t: &[u8], i: usize, out: &mut [u8; 64]) -> usize
     walked.count
 }
 
-// Whether an entry can stand in a group that is named.
-fn is_plain(e: Entry) -> bool
-    ensures { λ r. ⌜ r ≡ plain-row e ⌝ }
+// Whether entry i can stand in a group that is named.
+fn plain_at(t: &[u8], i: usize) -> bool
+    requires { ⌜ Valid (now t) × (i < length (entries-of (now t))) ⌝ }
+    ensures { λ r. ⌜ r ≡ plain-row (decoded (getD (entries-of (now (t .entry))) i blank)) ⌝ }
 {
-    if e.format == GROUP {
+    if group_at(t, i) {
         return true;
     }
-    if e.multiple {
+    if multiple_at(t, i) {
         return false;
     }
-    1 <= e.size
+    1 <= t[i * 6 + 10]
 }
 
 // Whether group i can be named: it has neither an MU field nor one of variable length.
@@ -386,15 +478,13 @@ pub fn plain_group(t: &[u8], i: usize) -> bool
     ensures { λ r. ⌜ r ≡ all plain (fields-below (getD (entries-of (now (t .entry))) i blank .level) (drop (i + 1) (entries-of (now (t .entry))))) ⌝ }
 {
     let n = count(t);
-    let e = entry_at(t, i);
-    let level = e.level;
+    let level = level_at(t, i);
     let mut j = i + 1;
     while j < n {
-        let m = entry_at(t, j);
-        if m.level <= level {
+        if level_at(t, j) <= level {
             return true;
         }
-        if is_plain(m) {
+        if plain_at(t, j) {
             j += 1;
         } else {
             return false;
@@ -411,15 +501,14 @@ pub fn series(t: &[u8], i: usize, j: usize) -> bool
     let n = count(t);
     let mut k = i;
     while k < n {
-        let e = entry_at(t, k);
-        if e.multiple {
+        if multiple_at(t, k) {
             return false;
         }
-        if e.periodic {
+        if periodic_at(t, k) {
             return false;
         }
         if k == j {
-            return e.format != GROUP;
+            return !group_at(t, k);
         }
         k += 1;
     }

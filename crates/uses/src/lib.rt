@@ -327,11 +327,10 @@ fn use_of_count(t: &[u8], i: usize, c: Count) -> Meant
     requires { ⌜ Valid (now t) × (i < length (entries-of (now t))) ⌝ }
     ensures { λ r. ⌜ Settles (entries-of (now (t .entry))) (count-use (entries-of (now (t .entry))) i c) r ⌝ }
 {
-    let e = tables::entry_at(t, i);
-    if e.multiple {
+    if tables::multiple_at(t, i) {
         return use_of_value_count(t, i, c);
     }
-    if e.periodic {
+    if tables::periodic_at(t, i) {
         if c.indexed {
             return Meant::Refused(5);
         }
@@ -345,8 +344,7 @@ fn use_of_series(t: &[u8], i: usize, j: usize) -> Meant
     requires { ⌜ Valid (now t) × (i < length (entries-of (now t))) × (j < length (entries-of (now t))) ⌝ }
     ensures { λ r. ⌜ Settles (entries-of (now (t .entry))) (series-use (entries-of (now (t .entry))) i j) r ⌝ }
 {
-    let e = tables::entry_at(t, i);
-    if e.format == tables::GROUP {
+    if tables::group_at(t, i) {
         return Meant::Refused(5);
     }
     if tables::inside(t, i) {
@@ -376,8 +374,7 @@ fn use_of_name(t: &[u8], last: &[u8; 64], n: Named) -> Meant
     let found = tables::find(t, n.name);
     match found {
         Found::At(i) => {
-            let e = tables::entry_at(t, i);
-            if e.format == tables::GROUP {
+            if tables::group_at(t, i) {
                 return use_of_group(t, i, n);
             }
             use_of_field(t, i, byte(last[i]), n)
@@ -435,8 +432,7 @@ fn remember_span(t: &[u8], last: &mut [u8; 64], s: Span)
         return;
     }
     let i = s.first;
-    let e = tables::entry_at(t, i);
-    if e.multiple {
+    if tables::multiple_at(t, i) {
         last[i] = s.value_upto as u8;
         return;
     }

@@ -42,8 +42,7 @@ fn share_entries(t: &[u8], first: usize, end: usize, low: usize, high: usize) ->
     let mut i = larger(first, low);
     let stop = smaller(end, high);
     while i < stop {
-        let e = tables::entry_at(t, i);
-        if e.format == tables::GROUP {
+        if tables::group_at(t, i) {
             i += 1;
         } else {
             return true;

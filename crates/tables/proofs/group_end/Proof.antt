@@ -1,11 +1,10 @@
 -- `tables::group_end` meets its contract: what is left of the run ends where the whole does. Assumes nothing.
-use mathlib.Core.Path.{_≡_, ap, _∙_}
+use mathlib.Core.Path.{_≡_, _∙_}
 use native.Mathlib.Omega.{arith}
 use Prim.Native.Nat.{_+_, _≤_, _-_}
 use lib.ListN.{length, drop}
 use Rattle.tables.specs.Entries.{entries-of}
 use Rattle.tables.specs.Groups.{run-below, group-end}
-use Rattle.tables.specs.declared.Entry.{Entry}
 use Rattle.tables.proofs.Nesting.{end-start, end-turn, end-here, end-last}
 use borrow.Author.Needs.{needs}
 use Rattle.tables.proofs.group_end.Statement.{statement}
@@ -20,8 +19,8 @@ abbrev μ-loop : tie.MeasureT-loop
 count-requires : tie.Need-count-requires Inv-loop μ-loop
 count-requires c κs = search needs
 
-entry-at-requires : tie.Need-entry-at-requires Inv-loop μ-loop
-entry-at-requires c κs = search needs
+level-at-requires : tie.Need-level-at-requires Inv-loop μ-loop
+level-at-requires c κs = search needs
 
 add-j : tie.Need-add-j Inv-loop μ-loop
 add-j c = search needs
@@ -29,16 +28,15 @@ add-j c = search needs
 loop-holds : tie.Need-loop-holds Inv-loop μ-loop
 loop-holds c =
     let s = c .before .before .before in
-    (c .before .count .ensures, omega (arith, c .before .count .ensures, s .pre .1), end-start (entries-of (s .args .t .now)) _ (s .args .i) (ap (λ (r : Entry). r .level) (c .entry-at .ensures)))
+    (c .before .count .ensures, omega (arith, c .before .count .ensures, s .pre .1), end-start (entries-of (s .args .t .now)) _ (s .args .i) (c .level-at .ensures))
 
-entry-at-requires-2 : tie.Need-entry-at-requires-2 Inv-loop μ-loop
-entry-at-requires-2 c κs = (c .before .before .before .before .before .pre .0, omega arith)
+level-at-requires-2 : tie.Need-level-at-requires-2 Inv-loop μ-loop
+level-at-requires-2 c κs = (c .before .before .before .before .before .pre .0, omega arith)
 
 returns : tie.Need-returns Inv-loop μ-loop
 returns c =
-    let l = c .before .before .before .before in
-    let q = ap (λ (r : Entry). r .level) (c .before .before .entry-at2 .ensures) in
-    end-here (entries-of (l .before .before .before .before .args .t .now)) (l .before .entry-at .result .level) (l .loop .j) (omega arith) (rw q at (c .if1 .taken)) ∙ l .loop .inv .2
+    let l = c .before .before .before in
+    end-here (entries-of (l .before .before .before .before .args .t .now)) (l .before .level-at .result) (l .loop .j) (omega arith) (rw (c .before .level-at2 .ensures) at (c .if1 .taken)) ∙ l .loop .inv .2
 
 add-j-2 : tie.Need-add-j-2 Inv-loop μ-loop
 add-j-2 c = search needs
@@ -48,14 +46,13 @@ loop-less c = search needs
 
 loop-again : tie.Need-loop-again Inv-loop μ-loop
 loop-again c =
-    let l = c .before .before .before .before in
-    let q = ap (λ (r : Entry). r .level) (c .before .before .entry-at2 .ensures) in
-    (l .loop .inv .0, omega arith, end-turn (entries-of (l .before .before .before .before .args .t .now)) (l .before .entry-at .result .level) (l .loop .j) (omega arith) (rw q at (c .if1 .left)) ∙ l .loop .inv .2)
+    let l = c .before .before .before in
+    (l .loop .inv .0, omega arith, end-turn (entries-of (l .before .before .before .before .args .t .now)) (l .before .level-at .result) (l .loop .j) (omega arith) (rw (c .before .level-at2 .ensures) at (c .if1 .left)) ∙ l .loop .inv .2)
 
 returns-2 : tie.Need-returns-2 Inv-loop μ-loop
 returns-2 c =
     let l = c .before in
-    end-last (entries-of (l .before .before .before .before .args .t .now)) (l .before .entry-at .result .level) (l .loop .j) (omega arith) ∙ l .loop .inv .2
+    end-last (entries-of (l .before .before .before .before .args .t .now)) (l .before .level-at .result) (l .loop .j) (omega arith) ∙ l .loop .inv .2
 
 pub group-end-spec : {M : Type 1} → statement M
 group-end-spec =
@@ -64,10 +61,10 @@ group-end-spec =
     Inv-loop
     μ-loop
     count-requires
-    entry-at-requires
+    level-at-requires
     add-j
     loop-holds
-    entry-at-requires-2
+    level-at-requires-2
     returns
     add-j-2
     loop-less

@@ -3,13 +3,12 @@ use mathlib.Core.Path.{_≡_, refl, sym, ap, _∙_}
 use mathlib.Core.Bool.{false}
 use native.Mathlib.Omega.{arith}
 use Prim.Native.Nat.{_≤_, _-_}
-use lib.Dec.{eqb}
-use lib.ListN.{getD, drop}
+use lib.ListN.{drop}
 use Rattle.rules.specs.Table.{levels, group}
-use Rattle.tables.specs.Entries.{read-entries, blank}
+use Rattle.tables.specs.Entries.{read-entries}
 use Rattle.tables.specs.declared.Entry.{Entry}
 use Rattle.tables.proofs.Levels.{mark, levels-turn, levels-stop, levels-end}
-use Rattle.tables.proofs.Tables.{read-count, read-reach, read-row, is-group-number}
+use Rattle.tables.proofs.Tables.{read-count, read-reach, read-made, read-row}
 use borrow.Author.Needs.{needs}
 use Rattle.tables.proofs.levels_right.Statement.{statement}
 use Rattle.tables.proofs.levels_right.Tie as tie
@@ -23,14 +22,17 @@ abbrev μ-loop : tie.MeasureT-loop
 loop-holds : tie.Need-loop-holds Inv-loop μ-loop
 loop-holds c = (omega arith, refl)
 
-row-requires : tie.Need-row-requires Inv-loop μ-loop
-row-requires c κs = let s = c .before .before .before in read-reach (s .args .n) (s .args .t .now) (s .pre) (c .before .loop .i) (c .loop-test .taken)
+level-in-requires : tie.Need-level-in-requires Inv-loop μ-loop
+level-in-requires c κs = let s = c .before .before .before in read-reach (s .args .n) (s .args .t .now) (s .pre) (c .before .loop .i) (c .loop-test .taken)
 
 may-follow-requires : tie.Need-may-follow-requires Inv-loop μ-loop
 may-follow-requires c κs = search needs
 
-is-group-requires : tie.Need-is-group-requires Inv-loop μ-loop
-is-group-requires c κs = search needs
+group-in-requires : tie.Need-group-in-requires Inv-loop μ-loop
+group-in-requires c κs =
+    let l = c .before .before .before .before in
+    let s = l .before .before in
+    read-reach (s .args .n) (s .args .t .now) (s .pre) (l .loop .i) (c .before .before .before .loop-test .taken)
 
 add-i : tie.Need-add-i Inv-loop μ-loop
 add-i c = search needs
@@ -44,10 +46,10 @@ loop-again c =
     let s = l .before .before in
     let es = read-entries (s .args .n) (s .args .t .now) in
     let h = c .before .before .before .before .loop-test .taken in
-    let q = c .before .before .before .row .ensures ∙ read-row (s .args .n) (s .args .t .now) (s .pre) (l .loop .i) h in (
+    let m = read-made (s .args .n) (s .args .t .now) (s .pre) (l .loop .i) h in (
       omega arith,
-      levels-turn es (l .loop .i) (omega (arith, read-count (s .args .n) (s .args .t .now) (s .pre))) _ _ _ _ (ap (λ (r : Entry). r .level) q)
-          (c .is-group .ensures ∙ ap (λ (r : Entry). eqb (r .format) 5) q ∙ is-group-number (getD es (l .loop .i) blank .what))
+      levels-turn es (l .loop .i) (omega (arith, read-count (s .args .n) (s .args .t .now) (s .pre))) _ _ _ _ (c .before .before .before .level-in .ensures ∙ ap (λ (r : Entry). r .level) (m .row))
+          (c .group-in .ensures ∙ m .grouped)
           (sym (c .before .before .may-follow .ensures) ∙ c .before .if1 .taken)
           ∙ l .loop .inv .1,
     )
@@ -57,8 +59,8 @@ returns c =
     let l = c .before .before .before .before in
     let s = l .before .before in
     let es = read-entries (s .args .n) (s .args .t .now) in
-    let q = c .before .before .row .ensures ∙ read-row (s .args .n) (s .args .t .now) (s .pre) (l .loop .i) (c .before .before .before .loop-test .taken) in
-    levels-stop es (l .loop .i) (omega (arith, read-count (s .args .n) (s .args .t .now) (s .pre))) _ _ _ (ap (λ (r : Entry). r .level) q)
+    let q = c .before .before .level-in .ensures ∙ ap (λ (r : Entry). r .level) (read-row (s .args .n) (s .args .t .now) (s .pre) (l .loop .i) (c .before .before .before .loop-test .taken)) in
+    levels-stop es (l .loop .i) (omega (arith, read-count (s .args .n) (s .args .t .now) (s .pre))) _ _ _ q
     (sym (c .before .may-follow .ensures) ∙ c .if1 .left)
     ∙ l .loop .inv .1
 
@@ -76,9 +78,9 @@ levels-right-spec =
     Inv-loop
     μ-loop
     loop-holds
-    row-requires
+    level-in-requires
     may-follow-requires
-    is-group-requires
+    group-in-requires
     add-i
     loop-less
     loop-again

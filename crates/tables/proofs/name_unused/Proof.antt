@@ -1,27 +1,35 @@
 -- `tables::name_unused` meets its contract: what is left of the names answers as the whole does. Assumes nothing.
-use mathlib.Core.Path.{_≡_, refl, ap, _∙_}
+use mathlib.Core.Path.{_≡_, refl, sym, ap, _∙_}
 use native.Mathlib.Omega.{arith}
 use Prim.Native.Nat.{_≤_, _-_}
+use borrow.Author.Tests.{eqb-true, eqb-false}
 use lib.ListN.{drop}
 use Rattle.tables.specs.Entries.{read-entries, unused}
 use Rattle.tables.specs.declared.Entry.{Entry}
 use Rattle.tables.proofs.Levels.{unused-turn, unused-stop, unused-end}
+use Rattle.tables.proofs.Rows.{name-bytes}
 use Rattle.tables.proofs.Tables.{read-count, read-reach, read-row}
 use borrow.Author.Needs.{needs}
 use Rattle.tables.proofs.name_unused.Statement.{statement}
 use Rattle.tables.proofs.name_unused.Tie as tie
 
 abbrev Inv-loop : tie.InvT-loop
-Inv-loop t n from name i₀ i = (i ≤ n) × (unused name (drop i (read-entries n t)) ≡ unused name (drop from (read-entries n t)))
+Inv-loop t n from name a b i₀ i = (i ≤ n) × (unused name (drop i (read-entries n t)) ≡ unused name (drop from (read-entries n t)))
 
 abbrev μ-loop : tie.MeasureT-loop
-μ-loop t n from name i₀ i = n - i
+μ-loop t n from name a b i₀ i = n - i
+
+cast-a : tie.Need-cast-a Inv-loop μ-loop
+cast-a c = omega arith
+
+cast-b : tie.Need-cast-b Inv-loop μ-loop
+cast-b c = omega arith
 
 loop-holds : tie.Need-loop-holds Inv-loop μ-loop
 loop-holds c = (omega arith, refl)
 
-name-at-requires : tie.Need-name-at-requires Inv-loop μ-loop
-name-at-requires c κs = let s = c .before .before .before in read-reach (s .args .n) (s .args .t .now) (s .pre .0) (c .before .loop .i) (c .loop-test .taken)
+named-in-requires : tie.Need-named-in-requires Inv-loop μ-loop
+named-in-requires c κs = let s = c .before .before .before in read-reach (s .args .n) (s .args .t .now) (s .pre .0) (c .before .loop .i) (c .loop-test .taken)
 
 returns : tie.Need-returns Inv-loop μ-loop
 returns c =
@@ -29,7 +37,7 @@ returns c =
     let s = l .before .before in
     let q = read-row (s .args .n) (s .args .t .now) (s .pre .0) (l .loop .i) (c .before .before .loop-test .taken) in
     unused-stop (read-entries (s .args .n) (s .args .t .now)) (l .loop .i) (omega (arith, read-count (s .args .n) (s .args .t .now) (s .pre .0))) _ _
-    (c .before .name-at .ensures ∙ ap (λ (r : Entry). r .name) q) (c .if1 .taken)
+    (ap (λ (r : Entry). r .name) q) (eqb-true _ _ (sym (c .before .named-in .ensures) ∙ c .if1 .taken) ∙ name-bytes (s .args .name))
     ∙ l .loop .inv .1
 
 add-i : tie.Need-add-i Inv-loop μ-loop
@@ -45,7 +53,7 @@ loop-again c =
     let q = read-row (s .args .n) (s .args .t .now) (s .pre .0) (l .loop .i) (c .before .before .loop-test .taken) in (
       omega arith,
       unused-turn (read-entries (s .args .n) (s .args .t .now)) (l .loop .i) (omega (arith, read-count (s .args .n) (s .args .t .now) (s .pre .0))) _ _
-          (c .before .name-at .ensures ∙ ap (λ (r : Entry). r .name) q) (c .if1 .left)
+          (ap (λ (r : Entry). r .name) q) (λ e. eqb-false _ _ (sym (c .before .named-in .ensures) ∙ c .if1 .left) (e ∙ sym (name-bytes (s .args .name))))
           ∙ l .loop .inv .1,
     )
 
@@ -61,8 +69,10 @@ name-unused-spec =
     (tie.spec
     Inv-loop
     μ-loop
+    cast-a
+    cast-b
     loop-holds
-    name-at-requires
+    named-in-requires
     returns
     add-i
     loop-less

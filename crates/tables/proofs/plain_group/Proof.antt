@@ -1,5 +1,5 @@
 -- `tables::plain_group` meets its contract: what is left of the group's fields answers as the whole does. Assumes nothing.
-use mathlib.Core.Path.{_≡_, sym, ap, _∙_}
+use mathlib.Core.Path.{_≡_, sym, _∙_}
 use native.Mathlib.Omega.{arith}
 use Prim.Native.Nat.{_+_, _≤_, _-_}
 use lib.ListN.{length, getD, drop}
@@ -7,8 +7,6 @@ use Rattle.rules.specs.Lists.{all}
 use Rattle.rules.specs.Table.{fields-below}
 use Rattle.rules.specs.Use.{plain}
 use Rattle.tables.specs.Entries.{entries-of, blank}
-use Rattle.tables.specs.Groups.{plain-row}
-use Rattle.tables.specs.declared.Entry.{Entry}
 use Rattle.tables.proofs.Plains.{plain-turn, plain-fails, plain-stop, plain-none}
 use Rattle.tables.proofs.Tables.{valid-most}
 use borrow.Author.Needs.{needs}
@@ -27,8 +25,8 @@ abbrev μ-loop : tie.MeasureT-loop
 count-requires : tie.Need-count-requires Inv-loop μ-loop
 count-requires c κs = search needs
 
-entry-at-requires : tie.Need-entry-at-requires Inv-loop μ-loop
-entry-at-requires c κs = search needs
+level-at-requires : tie.Need-level-at-requires Inv-loop μ-loop
+level-at-requires c κs = search needs
 
 add-j : tie.Need-add-j Inv-loop μ-loop
 add-j c = let s = c .before .before .before in omega (arith, valid-most (s .args .t .now) (s .pre .0), s .pre .1)
@@ -36,19 +34,18 @@ add-j c = let s = c .before .before .before in omega (arith, valid-most (s .args
 loop-holds : tie.Need-loop-holds Inv-loop μ-loop
 loop-holds c =
     let s = c .before .before .before in
-    (c .before .count .ensures, omega (arith, c .before .count .ensures, s .pre .1), rw (ap (λ (r : Entry). r .level) (c .entry-at .ensures)))
+    (c .before .count .ensures, omega (arith, c .before .count .ensures, s .pre .1), rw (c .level-at .ensures))
 
-entry-at-requires-2 : tie.Need-entry-at-requires-2 Inv-loop μ-loop
-entry-at-requires-2 c κs = (c .before .before .before .before .before .pre .0, omega arith)
+level-at-requires-2 : tie.Need-level-at-requires-2 Inv-loop μ-loop
+level-at-requires-2 c κs = (c .before .before .before .before .before .pre .0, omega arith)
 
 returns : tie.Need-returns Inv-loop μ-loop
 returns c =
-    let l = c .before .before .before .before in
-    let q = ap (λ (r : Entry). r .level) (c .before .before .entry-at2 .ensures) in
-    plain-stop (entries-of (l .before .before .before .before .args .t .now)) (l .before .entry-at .result .level) (l .loop .j) (omega arith) (rw q at (c .if1 .taken)) ∙ l .loop .inv .2
+    let l = c .before .before .before in
+    plain-stop (entries-of (l .before .before .before .before .args .t .now)) (l .before .level-at .result) (l .loop .j) (omega arith) (rw (c .before .level-at2 .ensures) at (c .if1 .taken)) ∙ l .loop .inv .2
 
-is-plain-requires : tie.Need-is-plain-requires Inv-loop μ-loop
-is-plain-requires c κs = search needs
+plain-at-requires : tie.Need-plain-at-requires Inv-loop μ-loop
+plain-at-requires c κs = search needs
 
 add-j-2 : tie.Need-add-j-2 Inv-loop μ-loop
 add-j-2 c = search needs
@@ -58,27 +55,25 @@ loop-less c = search needs
 
 loop-again : tie.Need-loop-again Inv-loop μ-loop
 loop-again c =
-    let l = c .before .before .before .before .before .before in
-    let e = c .before .before .before .before .entry-at2 .ensures in (
+    let l = c .before .before .before .before .before in (
       l .loop .inv .0,
       omega arith,
-      plain-turn (entries-of (l .before .before .before .before .args .t .now)) (l .before .entry-at .result .level) (l .loop .j) (omega arith)
-          (rw (ap (λ (r : Entry). r .level) e) at (c .before .before .if1 .left)) (sym (c .before .is-plain .ensures ∙ ap plain-row e) ∙ c .if2 .taken)
+      plain-turn (entries-of (l .before .before .before .before .args .t .now)) (l .before .level-at .result) (l .loop .j) (omega arith)
+          (rw (c .before .before .before .level-at2 .ensures) at (c .before .before .if1 .left)) (sym (c .before .plain-at .ensures) ∙ c .if2 .taken)
           ∙ l .loop .inv .2,
     )
 
 returns-2 : tie.Need-returns-2 Inv-loop μ-loop
 returns-2 c =
-    let l = c .before .before .before .before .before .before in
-    let e = c .before .before .before .before .entry-at2 .ensures in
-    plain-fails (entries-of (l .before .before .before .before .args .t .now)) (l .before .entry-at .result .level) (l .loop .j) (omega arith)
-    (rw (ap (λ (r : Entry). r .level) e) at (c .before .before .if1 .left)) (sym (c .before .is-plain .ensures ∙ ap plain-row e) ∙ c .if2 .left)
+    let l = c .before .before .before .before .before in
+    plain-fails (entries-of (l .before .before .before .before .args .t .now)) (l .before .level-at .result) (l .loop .j) (omega arith)
+    (rw (c .before .before .before .level-at2 .ensures) at (c .before .before .if1 .left)) (sym (c .before .plain-at .ensures) ∙ c .if2 .left)
     ∙ l .loop .inv .2
 
 returns-3 : tie.Need-returns-3 Inv-loop μ-loop
 returns-3 c =
     let l = c .before in
-    plain-none (entries-of (l .before .before .before .before .args .t .now)) (l .before .entry-at .result .level) (l .loop .j) (omega arith) ∙ l .loop .inv .2
+    plain-none (entries-of (l .before .before .before .before .args .t .now)) (l .before .level-at .result) (l .loop .j) (omega arith) ∙ l .loop .inv .2
 
 pub plain-group-spec : {M : Type 1} → statement M
 plain-group-spec =
@@ -87,12 +82,12 @@ plain-group-spec =
     Inv-loop
     μ-loop
     count-requires
-    entry-at-requires
+    level-at-requires
     add-j
     loop-holds
-    entry-at-requires-2
+    level-at-requires-2
     returns
-    is-plain-requires
+    plain-at-requires
     add-j-2
     loop-less
     loop-again

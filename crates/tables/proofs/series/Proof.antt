@@ -4,15 +4,13 @@ use mathlib.Core.Path.{_≡_, refl, sym, ap, _∙_}
 use mathlib.Core.Bool.{not}
 use native.Mathlib.Omega.{arith}
 use Prim.Native.Nat.{_≤_, _-_}
-use lib.Dec.{eqb}
 use lib.ListN.{length, getD, drop}
 use Rattle.rules.specs.Outcome.{is-done}
 use Rattle.rules.specs.Use.{fields-to}
 use Rattle.tables.specs.Entries.{entries-of, blank}
-use Rattle.tables.specs.declared.Entry.{Entry}
 use Rattle.tables.proofs.Names.{one-name}
 use Rattle.tables.proofs.Serial.{series-none, series-multiple, series-periodic, series-ends, series-turn, spanned}
-use Rattle.tables.proofs.Tables.{valid-names, is-group-number}
+use Rattle.tables.proofs.Tables.{valid-names}
 use borrow.Author.Needs.{needs}
 use Rattle.tables.proofs.series.Statement.{statement}
 use Rattle.tables.proofs.series.Tie as tie
@@ -32,33 +30,38 @@ count-requires c κs = search needs
 loop-holds : tie.Need-loop-holds Inv-loop μ-loop
 loop-holds c = (c .count .ensures, omega (arith, c .count .ensures, c .before .before .pre .1), refl)
 
-entry-at-requires : tie.Need-entry-at-requires Inv-loop μ-loop
-entry-at-requires c κs = (c .before .before .before .before .pre .0, omega arith)
+multiple-at-requires : tie.Need-multiple-at-requires Inv-loop μ-loop
+multiple-at-requires c κs = (c .before .before .before .before .pre .0, omega arith)
+
+periodic-at-requires : tie.Need-periodic-at-requires Inv-loop μ-loop
+periodic-at-requires c κs = (c .before .before .before .before .before .before .pre .0, omega arith)
+
+group-at-requires : tie.Need-group-at-requires Inv-loop μ-loop
+group-at-requires c κs = (c .before .before .before .before .before .before .before .before .before .pre .0, omega arith)
 
 returns : tie.Need-returns Inv-loop μ-loop
 returns c =
     let l = c .before .before .before in
     let s = l .before .before .before in
     spanned (entries-of (s .args .t .now)) (valid-names (s .args .t .now) (s .pre .0)) (s .args .i) (s .args .j) (s .pre .2) _
-    (series-multiple (entries-of (s .args .t .now)) _ (l .loop .k) (omega arith) (sym (ap (λ (r : Entry). r .multiple) (c .before .entry-at .ensures)) ∙ c .if1 .taken) ∙ l .loop .inv .2)
+    (series-multiple (entries-of (s .args .t .now)) _ (l .loop .k) (omega arith) (sym (c .before .multiple-at .ensures) ∙ c .if1 .taken) ∙ l .loop .inv .2)
 
 returns-2 : tie.Need-returns-2 Inv-loop μ-loop
 returns-2 c =
-    let l = c .before .before .before .before in
+    let l = c .before .before .before .before .before in
     let s = l .before .before .before in
     spanned (entries-of (s .args .t .now)) (valid-names (s .args .t .now) (s .pre .0)) (s .args .i) (s .args .j) (s .pre .2) _
-    (series-periodic (entries-of (s .args .t .now)) _ (l .loop .k) (omega arith) (sym (ap (λ (r : Entry). r .periodic) (c .before .before .entry-at .ensures)) ∙ c .if2 .taken) ∙ l .loop .inv .2)
+    (series-periodic (entries-of (s .args .t .now)) _ (l .loop .k) (omega arith) (sym (c .before .periodic-at .ensures) ∙ c .if2 .taken) ∙ l .loop .inv .2)
 
 returns-3 : tie.Need-returns-3 Inv-loop μ-loop
 returns-3 c =
-    let l = c .before .before .before .before .before .before in
+    let e = c .before .before in
+    let l = e .before .before .before .before .before in
     let s = l .before .before .before in
     let es = entries-of (s .args .t .now) in
-    let e = c .before .before .before .before .entry-at .ensures in
-    let g = ap (λ (r : Entry). eqb (r .format) 5) e ∙ is-group-number (getD es (l .loop .k) blank .what) in
     spanned es (valid-names (s .args .t .now) (s .pre .0)) (s .args .i) (s .args .j) (s .pre .2) _
-    (ap not g
-    ∙ series-ends es _ (l .loop .k) (omega arith) (sym (ap (λ (r : Entry). r .multiple) e) ∙ c .before .before .before .if1 .left) (sym (ap (λ (r : Entry). r .periodic) e) ∙ c .before .before .if2 .left) (rw (c .before .if3 .taken))
+    (ap not (c .group-at .ensures)
+    ∙ series-ends es _ (l .loop .k) (omega arith) (sym (e .before .before .before .multiple-at .ensures) ∙ e .before .before .if1 .left) (sym (e .before .periodic-at .ensures) ∙ e .if2 .left) (rw (c .before .if3 .taken))
     ∙ l .loop .inv .2)
 
 add-k : tie.Need-add-k Inv-loop μ-loop
@@ -69,13 +72,13 @@ loop-less c = search needs
 
 loop-again : tie.Need-loop-again Inv-loop μ-loop
 loop-again c =
-    let l = c .before .before .before .before .before in
+    let e = c .before in
+    let l = e .before .before .before .before .before in
     let s = l .before .before .before in
-    let es = entries-of (s .args .t .now) in
-    let e = c .before .before .before .entry-at .ensures in (
+    let es = entries-of (s .args .t .now) in (
       l .loop .inv .0,
       omega arith,
-      series-turn es _ (l .loop .k) (omega arith) (sym (ap (λ (r : Entry). r .multiple) e) ∙ c .before .before .if1 .left) (sym (ap (λ (r : Entry). r .periodic) e) ∙ c .before .if2 .left)
+      series-turn es _ (l .loop .k) (omega arith) (sym (e .before .before .before .multiple-at .ensures) ∙ e .before .before .if1 .left) (sym (e .before .periodic-at .ensures) ∙ e .if2 .left)
           (λ q. c .if3 .left (one-name es (valid-names (s .args .t .now) (s .pre .0)) (l .loop .k) (s .args .j) (omega arith) (s .pre .2) q))
           ∙ l .loop .inv .2,
     )
@@ -95,9 +98,11 @@ series-spec =
     μ-loop
     count-requires
     loop-holds
-    entry-at-requires
+    multiple-at-requires
     returns
+    periodic-at-requires
     returns-2
+    group-at-requires
     returns-3
     add-k
     loop-less

@@ -1,10 +1,9 @@
 -- `uses::remember_span` meets its contract: the index of a span of one MU field is set, by the entry's number. Assumes nothing.
-use mathlib.Core.Path.{sym, ap, _∙_}
+use mathlib.Core.Path.{sym, _∙_}
 use Prim.Native.Nat.{_<_}
 use native.Mathlib.Omega.{arith}
 use lib.ListN.{length}
 use Rattle.tables.specs.Entries.{entries-of}
-use Rattle.tables.specs.declared.Entry.{Entry}
 use Rattle.tables.proofs.Known.{one-entry}
 use Rattle.tables.proofs.Tables.{valid-most}
 use Rattle.formats.specs.Elements.{range}
@@ -23,8 +22,8 @@ first-within c =
 returns : tie.Need-returns
 returns c = let s = c .before .before in stored-remembered (entries-of (s .args .t .now)) (s .args .s) _ (s .pre .1) (c .if1 .taken)
 
-entry-at-requires : tie.Need-entry-at-requires
-entry-at-requires c κs = (c .before .before .pre .0, first-within c)
+multiple-at-requires : tie.Need-multiple-at-requires
+multiple-at-requires c κs = (c .before .before .pre .0, first-within c)
 
 cast-last : tie.Need-cast-last
 cast-last c =
@@ -39,12 +38,12 @@ returns-2 : tie.Need-returns-2
 returns-2 c =
     let s = c .before .before .before .before .before in
     let h = first-within (c .before .before .before) in
-    multiple-remembered (entries-of (s .args .t .now)) (s .args .s) _ (c .before .before .before .if1 .left) (multiple-at (entries-of (s .args .t .now)) _ ∙ sym (ap (λ (e : Entry). e .multiple) (c .before .before .entry-at .ensures)) ∙ c .before .if2 .taken)
+    multiple-remembered (entries-of (s .args .t .now)) (s .args .s) _ (c .before .before .before .if1 .left) (multiple-at (entries-of (s .args .t .now)) _ ∙ sym (c .before .before .multiple-at .ensures) ∙ c .before .if2 .taken)
     (omega (arith, h, valid-most (s .args .t .now) (s .pre .0), s .pre .2)) (λ j k q. one-entry (s .args .t .now) (s .pre .0) _ j h k q)
 
 returns-3 : tie.Need-returns-3
-returns-3 c = let s = c .before .before .before .before in single-remembered (entries-of (s .args .t .now)) (s .args .s) _ (c .before .before .if1 .left) (multiple-at (entries-of (s .args .t .now)) _ ∙ sym (ap (λ (e : Entry). e .multiple) (c .before .entry-at .ensures)) ∙ c .if2 .left)
+returns-3 c = let s = c .before .before .before .before in single-remembered (entries-of (s .args .t .now)) (s .args .s) _ (c .before .before .if1 .left) (multiple-at (entries-of (s .args .t .now)) _ ∙ sym (c .before .multiple-at .ensures) ∙ c .if2 .left)
 
 pub remember-span-spec : {M : Type 1} → statement M
 remember-span-spec =
-    tie.close (tie.spec returns entry-at-requires cast-last element-write-last returns-2 returns-3)
+    tie.close (tie.spec returns multiple-at-requires cast-last element-write-last returns-2 returns-3)

@@ -1,12 +1,11 @@
 -- `uses::use_of_name` meets its contract: the entry of the name is a group or a field. Assumes nothing.
-use mathlib.Core.Path.{subst}
+use mathlib.Core.Path.{sym, subst, _∙_}
 use native.Mathlib.Omega.{arith}
 use Rattle.tables.specs.Entries.{entries-of}
 use Rattle.tables.specs.Places.{Finds}
 use Rattle.tables.specs.declared.Found.the-variants.{At}
 use Rattle.tables.proofs.Tables.{valid-most}
 use Rattle.uses.specs.Meant.{Settles, field-use}
-use Rattle.uses.proofs.Fields.{group-known, field-known}
 use Rattle.uses.proofs.Finding.{name-nothing, name-group, name-field}
 use borrow.Author.Needs.{needs}
 use Rattle.uses.proofs.use_of_name.Statement.{statement}
@@ -24,40 +23,40 @@ find-requires c κs = search needs
 enum-known-found : tie.Need-enum-known-found
 enum-known-found c = search needs
 
-entry-at-requires : tie.Need-entry-at-requires
-entry-at-requires c κs = (c .before .before .before .before .before .pre, found-at-entry (c .before) .0)
+group-at-requires : tie.Need-group-at-requires
+group-at-requires c κs = (c .before .before .before .before .before .pre, found-at-entry (c .before) .0)
 
 use-of-group-requires : tie.Need-use-of-group-requires
-use-of-group-requires c κs = (c .before .before .before .before .before .before .before .before .pre, found-at-entry (c .before .before .before .before) .0)
+use-of-group-requires c κs = (c .before .before .before .before .before .before .before .pre, found-at-entry (c .before .before .before) .0)
 
 returns : tie.Need-returns
 returns c =
-    let s = c .before .before .before .before .before .before .before .before .before in
-    name-group (entries-of (s .args .t .now)) _ (s .args .n) _ (found-at-entry (c .before .before .before .before .before) .1) _
-    (group-known (entries-of (s .args .t .now)) _ _ (c .before .before .before .entry-at .ensures) (c .before .if1 .taken)) (c .use-of-group .ensures)
+    let s = c .before .before .before .before .before .before .before .before in
+    name-group (entries-of (s .args .t .now)) _ (s .args .n) _ (found-at-entry (c .before .before .before .before) .1) _
+    (sym (c .before .before .group-at .ensures) ∙ c .before .if1 .taken) (c .use-of-group .ensures)
 
 element-copy-out-byte : tie.Need-element-copy-out-byte
 element-copy-out-byte c =
-    let s = c .before .before .before .before .before .before .before .before in
-    omega (arith, found-at-entry (c .before .before .before .before) .0, valid-most (s .args .t .now) (s .pre))
+    let s = c .before .before .before .before .before .before .before in
+    omega (arith, found-at-entry (c .before .before .before) .0, valid-most (s .args .t .now) (s .pre))
 
 byte-requires : tie.Need-byte-requires
 byte-requires c κs = search needs
 
 use-of-field-requires : tie.Need-use-of-field-requires
 use-of-field-requires c κs =
-    let s = c .before .before .before .before .before .before .before .before .before .before in
-    (s .pre, found-at-entry (c .before .before .before .before .before .before) .0, field-known (entries-of (s .args .t .now)) _ _ (c .before .before .before .before .entry-at .ensures) (c .before .before .if1 .left), c .byte .ensures .1)
+    let s = c .before .before .before .before .before .before .before .before .before in
+    (s .pre, found-at-entry (c .before .before .before .before .before) .0, sym (c .before .before .before .group-at .ensures) ∙ c .before .before .if1 .left, c .byte .ensures .1)
 
 enum-told : tie.Need-enum-told
 enum-told c = search needs
 
 returns-2 : tie.Need-returns-2
 returns-2 c =
-    let s = c .before .before .before .before .before .before .before .before .before .before .before in
-    name-field (entries-of (s .args .t .now)) (s .args .last .now) (s .args .n) _ (found-at-entry (c .before .before .before .before .before .before .before) .1) _ (found-at-entry (c .before .before .before .before .before .before .before) .0)
-    (field-known (entries-of (s .args .t .now)) _ _ (c .before .before .before .before .before .entry-at .ensures) (c .before .before .before .if1 .left))
-    (subst (λ k. Settles (entries-of (s .args .t .now)) (field-use (entries-of (s .args .t .now)) (c .before .before .before .before .before .before .before .found .given .0 .0) k (s .args .n)) (c .use-of-field .result)) (c .before .byte .ensures .0) (c .use-of-field .ensures))
+    let s = c .before .before .before .before .before .before .before .before .before .before in
+    name-field (entries-of (s .args .t .now)) (s .args .last .now) (s .args .n) _ (found-at-entry (c .before .before .before .before .before .before) .1) _ (found-at-entry (c .before .before .before .before .before .before) .0)
+    (sym (c .before .before .before .before .group-at .ensures) ∙ c .before .before .before .if1 .left)
+    (subst (λ k. Settles (entries-of (s .args .t .now)) (field-use (entries-of (s .args .t .now)) (c .before .before .before .before .before .before .found .given .0 .0) k (s .args .n)) (c .use-of-field .result)) (c .before .byte .ensures .0) (c .use-of-field .ensures))
 
 returns-3 : tie.Need-returns-3
 returns-3 c =
@@ -70,7 +69,7 @@ use-of-name-spec =
     (tie.spec
     find-requires
     enum-known-found
-    entry-at-requires
+    group-at-requires
     use-of-group-requires
     returns
     element-copy-out-byte

@@ -6,7 +6,6 @@ use lib.ListN.{getD}
 use Rattle.tables.specs.Entries.{entries-of, blank, is-group}
 use Rattle.tables.specs.Places.{found-at}
 use Rattle.tables.proofs.Tables.{valid-most}
-use Rattle.uses.proofs.Fields.{group-known, field-known}
 use Rattle.uses.proofs.Settling.{refuse, series-group, series-inside, series-as, series-fails}
 use borrow.Author.Needs.{needs}
 use Rattle.uses.proofs.use_of_series.Statement.{statement}
@@ -14,17 +13,17 @@ use Rattle.uses.proofs.use_of_series.Tie as tie
 
 -- The first entry is a field.
 first-field : (c : tie.Else1)
-    → (let a = c .before .before .before .before .args in is-group (getD (entries-of (a .t .now)) (a .i) blank .what) ≡ false)
-first-field c = let a = c .before .before .before .before .args in field-known (entries-of (a .t .now)) (a .i) _ (c .before .before .entry-at .ensures) (c .if1 .left)
+    → (let a = c .before .before .before .args in is-group (getD (entries-of (a .t .now)) (a .i) blank .what) ≡ false)
+first-field c = sym (c .before .group-at .ensures) ∙ c .if1 .left
 
-entry-at-requires : tie.Need-entry-at-requires
-entry-at-requires c κs = search needs
+group-at-requires : tie.Need-group-at-requires
+group-at-requires c κs = search needs
 
 returns : tie.Need-returns
 unfolding found-at
 returns c =
-    let s = c .before .before .before .before in
-    refuse _ _ (series-group (found-at (entries-of (s .args .t .now)) (s .args .i)) _ (group-known (entries-of (s .args .t .now)) (s .args .i) _ (c .before .before .entry-at .ensures) (c .if1 .taken)))
+    let s = c .before .before .before in
+    refuse _ _ (series-group (found-at (entries-of (s .args .t .now)) (s .args .i)) _ (sym (c .before .group-at .ensures) ∙ c .if1 .taken))
 
 inside-requires : tie.Need-inside-requires
 inside-requires c κs = search needs
@@ -32,21 +31,21 @@ inside-requires c κs = search needs
 returns-2 : tie.Need-returns-2
 unfolding found-at
 returns-2 c =
-    let s = c .before .before .before .before .before .before in
+    let s = c .before .before .before .before .before in
     refuse _ _ (series-inside (found-at (entries-of (s .args .t .now)) (s .args .i)) _ (first-field (c .before .before)) (sym (c .before .inside .ensures) ∙ c .if2 .taken))
 
 series-requires : tie.Need-series-requires
 series-requires c κs = search needs
 
 add-stored : tie.Need-add-stored
-add-stored c = let s = c .before .before .before .before .before .before .before .before in omega (arith, valid-most (s .args .t .now) (s .pre .0))
+add-stored c = let s = c .before .before .before .before .before .before .before in omega (arith, valid-most (s .args .t .now) (s .pre .0))
 
 stored-requires : tie.Need-stored-requires
 stored-requires c κs = search needs
 
 returns-3 : tie.Need-returns-3
 returns-3 c =
-    let s = c .before .before .before .before .before .before .before .before .before in
+    let s = c .before .before .before .before .before .before .before .before in
     let r = c .before .before .series .ensures in
     let t = c .before .if3 .taken in
     rw (c .stored .ensures)
@@ -54,7 +53,7 @@ returns-3 c =
 
 returns-4 : tie.Need-returns-4
 returns-4 c =
-    let s = c .before .before .before .before .before .before .before .before in
+    let s = c .before .before .before .before .before .before .before in
     refuse _ _ (series-fails (entries-of (s .args .t .now)) (s .args .i) (s .args .j) (s .pre .1) (s .pre .2) (first-field (c .before .before .before .before)) (sym (c .before .before .before .inside .ensures) ∙ c .before .before .if2 .left)
     (sym (c .before .series .ensures .answer) ∙ c .if3 .left))
 
@@ -62,7 +61,7 @@ pub use-of-series-spec : {M : Type 1} → statement M
 use-of-series-spec =
     tie.close
     (tie.spec
-    entry-at-requires
+    group-at-requires
     returns
     inside-requires
     returns-2

@@ -1,10 +1,9 @@
 -- `twice::share_entries` meets its contract: the entries of both spans are groups up to one that is a field. Assumes nothing.
-use mathlib.Core.Path.{sym}
+use mathlib.Core.Path.{sym, _∙_}
 use Prim.Native.Nat.{_-_}
 use native.Mathlib.Omega.{arith}
 use Rattle.tables.specs.Entries.{entries-of}
 use Rattle.tables.proofs.Known.{one-entry}
-use Rattle.uses.proofs.Fields.{group-known, field-known}
 use Rattle.uses.proofs.Sharing.{Apart, apart-start, apart-more, shared, apart}
 use borrow.Author.Needs.{needs}
 use Rattle.uses.proofs.twice.share_entries.Statement.{statement}
@@ -25,8 +24,8 @@ smaller-requires c κs = search needs
 loop-holds : tie.Need-loop-holds Inv-loop μ-loop
 loop-holds c = apart-start _ _ _ _ (c .before .larger .ensures)
 
-entry-at-requires : tie.Need-entry-at-requires Inv-loop μ-loop
-entry-at-requires c κs = search needs
+group-at-requires : tie.Need-group-at-requires Inv-loop μ-loop
+group-at-requires c κs = search needs
 
 add-i : tie.Need-add-i Inv-loop μ-loop
 add-i c = search needs
@@ -36,14 +35,13 @@ loop-less c = search needs
 
 loop-again : tie.Need-loop-again Inv-loop μ-loop
 loop-again c =
-    apart-more (c .before .before .before .before .loop .inv)
-    (group-known (entries-of (c .before .before .before .before .before .before .before .before .args .t .now)) (c .before .before .before .before .loop .i) _ (c .before .before .entry-at .ensures) (c .if1 .taken))
+    apart-more (c .before .before .before .loop .inv) (sym (c .before .group-at .ensures) ∙ c .if1 .taken)
 
 returns : tie.Need-returns Inv-loop μ-loop
 returns c =
-    let s = c .before .before .before .before .before .before .before .before in
-    let l = c .before .before .before .before .loop in
-    let g = field-known (entries-of (s .args .t .now)) (l .i) _ (c .before .before .entry-at .ensures) (c .if1 .left) in
+    let s = c .before .before .before .before .before .before .before in
+    let l = c .before .before .before .loop in
+    let g = sym (c .before .group-at .ensures) ∙ c .if1 .left in
     sym (shared (l .inv) (s .args .end) (s .args .high) (s .pre .1) (s .pre .2) (search needs) (search needs) g)
 
 returns-2 : tie.Need-returns-2 Inv-loop μ-loop
@@ -60,7 +58,7 @@ share-entries-spec =
     larger-requires
     smaller-requires
     loop-holds
-    entry-at-requires
+    group-at-requires
     add-i
     loop-less
     loop-again

@@ -1,4 +1,4 @@
--- `tables::names_differ` meets its contract: what is left of the names answers as the whole does. Assumes nothing.
+-- `tables::names_paired` meets its contract: what is left of the names answers as the whole does. Assumes nothing.
 use mathlib.Core.Path.{_≡_, refl, sym, ap, _∙_}
 use native.Mathlib.Omega.{arith}
 use Prim.Native.Nat.{_≤_, _-_}
@@ -9,8 +9,8 @@ use Rattle.tables.specs.declared.Entry.{Entry}
 use Rattle.tables.proofs.Levels.{differ-turn, differ-stop, differ-end}
 use Rattle.tables.proofs.Tables.{read-count, read-reach, read-row}
 use borrow.Author.Needs.{needs}
-use Rattle.tables.proofs.names_differ.Statement.{statement}
-use Rattle.tables.proofs.names_differ.Tie as tie
+use Rattle.tables.proofs.names_paired.Statement.{statement}
+use Rattle.tables.proofs.names_paired.Tie as tie
 
 abbrev Inv-loop : tie.InvT-loop
 Inv-loop t n i₀ i = (i ≤ n) × (differ (names (drop i (read-entries n t))) ≡ differ (names (read-entries n t)))
@@ -62,8 +62,8 @@ returns-2 c =
     differ-end (read-entries (s .args .n) (s .args .t .now)) (c .before .loop .i) (omega (arith, read-count (s .args .n) (s .args .t .now) (s .pre)))
     ∙ c .before .loop .inv .1
 
-pub names-differ-spec : {M : Type 1} → statement M
-names-differ-spec =
+pub names-paired-spec : {M : Type 1} → statement M
+names-paired-spec =
     tie.close
     (tie.spec
     Inv-loop
