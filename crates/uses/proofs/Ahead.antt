@@ -1,18 +1,15 @@
--- The uses of the elements of a format, one at a time: a test of those that are left answers as that of all does. Assumes nothing.
+-- The uses of the elements of a format, one at a time: a step of the code takes the first of those that are left. Assumes nothing.
 use mathlib.Core.Path.{_≡_, refl, sym, ap, subst, _∙_}
-use mathlib.Core.Bool.{Bool, true, false}
 use mathlib.Core.List.{List, [], _∷_}
 use Prim.Native.Nat.{ℕ}
 use lib.ListN.{getD, drop, replicate}
 use Rattle.rules.specs.Outcome.{Outcome, done}
-use Rattle.rules.specs.Lists.{Bytes, any}
+use Rattle.rules.specs.Lists.{Bytes}
 use Rattle.rules.specs.Table.{Entry}
 use Rattle.rules.specs.Format as rules
 use Rattle.rules.specs.Format.{elements}
 use Rattle.rules.specs.Use.{Use as Meaning, Indexes, indexes-after, use-of, uses}
-use Rattle.rules.specs.Update.{name-alike, named-twice}
 use Rattle.rules.proofs.Steps.{from-bind, done-inj, not-done}
-use Rattle.tables.proofs.Bools.{or-false}
 use Rattle.formats.specs.Elements.{element-of}
 use Rattle.formats.specs.Syntax.{parsed, Stepped}
 use Rattle.formats.specs.declared.Element.{Element}
@@ -110,67 +107,6 @@ module _ {es : List Entry} {f : Bytes} {at : ℕ} {before : List ℕ} where
               },
             );
       }
-
--- A test of the uses from one place on answers as that of those from an earlier place on.
-pub record Rest (g : List Meaning → Bool) (es : List Entry) (f : Bytes) (last₀ : List ℕ) (at₀ : ℕ) (last : List ℕ) (at : ℕ) : Type 0 where
-  pub left : (us : List Meaning) → Ahead es f last₀ at₀ us → (vs : List Meaning) × Ahead es f last at vs × (g vs ≡ g us)
-
-module _ {g : List Meaning → Bool} {es : List Entry} {f : Bytes} {last₀ : List ℕ} {at₀ : ℕ} where
-  pub rest-start : Rest g es f last₀ at₀ last₀ at₀
-  rest-start = record { left = λ us w. (us, w, refl) }
-
-  module _ {last after : List ℕ} {at : ℕ} (h : Rest g es f last₀ at₀ last at) where
-    module _ {u : Use} {next : ℕ} (n : Nexts es f at last after (More u next)) where
-      pub rest-more : ((vs : List Meaning) → Ahead es f after next vs → g (use-meant es f u ∷ vs) ≡ g vs) → Rest g es f last₀ at₀ after next
-      rest-more k = record {
-        left = λ us w.
-            let r = h .left us w in
-            let q = n .answer (r .0) (r .1) in
-            (q .0, q .2, sym (k (q .0) (q .2)) ∙ ap g (sym (q .1)) ∙ r .2);
-      }
-
-      pub rest-stops : {b : Bool} → ((vs : List Meaning) → Ahead es f after next vs → b ≡ g (use-meant es f u ∷ vs))
-          → (us : List Meaning) → Ahead es f last₀ at₀ us → b ≡ g us
-      rest-stops k us w =
-          let r = h .left us w in
-          let q = n .answer (r .0) (r .1) in
-          k (q .0) (q .2) ∙ ap g (sym (q .1)) ∙ r .2
-
-    pub rest-last : {u : Use} → Nexts es f at last after (Last u) → {b : Bool} → b ≡ g (use-meant es f u ∷ [])
-        → (us : List Meaning) → Ahead es f last₀ at₀ us → b ≡ g us
-    rest-last n e us w =
-        let r = h .left us w in
-        e ∙ ap g (sym (n .answer (r .0) (r .1))) ∙ r .2
-
-    pub rest-refused : Nexts es f at last after Refused → {b : Bool} → (us : List Meaning) → Ahead es f last₀ at₀ us → b ≡ g us
-    rest-refused n us w = let r = h .left us w in absurd (n .answer (r .0) (r .1))
-
--- The two tests, by the first use.
-module _ (u v : Meaning) {b : Bool} (e : b ≡ name-alike u v) where
-  pub any-met : b ≡ true → (vs : List Meaning) → true ≡ any (name-alike u) (v ∷ vs)
-  unfolding any
-  any-met t vs = rw (sym e ∙ t)
-
-  pub any-unmet : b ≡ false → (vs : List Meaning) → any (name-alike u) (v ∷ vs) ≡ any (name-alike u) vs
-  unfolding any
-  any-unmet t vs = rw (sym e ∙ t)
-
-  pub any-last : b ≡ any (name-alike u) (v ∷ [])
-  unfolding any
-  any-last = e ∙ sym (or-false (name-alike u v))
-
-module _ (u : Meaning) (us : List Meaning) {b : Bool} (e : b ≡ any (name-alike u) us) where
-  pub twice-met : b ≡ true → true ≡ named-twice (u ∷ us)
-  unfolding named-twice
-  twice-met t = rw (sym e ∙ t)
-
-  pub twice-unmet : b ≡ false → named-twice (u ∷ us) ≡ named-twice us
-  unfolding named-twice
-  twice-unmet t = rw (sym e ∙ t)
-
-pub twice-last : (u : Meaning) → false ≡ named-twice (u ∷ [])
-unfolding named-twice any
-twice-last u = refl
 
 -- The uses of all elements, before any index.
 pub uses-all : {es : List Entry} {f : Bytes} {us : List Meaning} → uses-of es f ≡ done us → Ahead es f (replicate 64 0) 0 us

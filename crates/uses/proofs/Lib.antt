@@ -8,3 +8,5 @@ pub mod Testing
 pub mod SpanFields
 pub mod Sharing
 pub mod Ahead
+pub mod Keeping
+pub mod Seen

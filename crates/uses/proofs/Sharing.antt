@@ -18,7 +18,7 @@ use Rattle.tables.specs.Groups.{field-by, field-at}
 use Rattle.tables.proofs.Bools.{clash, and-true, and-false, or-true}
 use Rattle.formats.specs.Elements.{range}
 use Rattle.uses.specs.Meant.{fields-from, asked-of, use-meant, Span-held}
-use Rattle.uses.specs.Twice.{stored-fields, Alike}
+use Rattle.uses.specs.Twice.{stored-fields, numbered-use, kept-use, Kept-alike}
 use Rattle.uses.specs.declared.Span.{Span}
 use Rattle.uses.specs.declared.Use.the-variants.{Values}
 use Rattle.uses.proofs.SpanFields.{no-entry, field-entry, group-entry, asked-one, asked-stored}
@@ -148,31 +148,38 @@ module _ (es : List Entry) (s : Span) (h : Span-held es s) where
       (λ e. ap (share fs) (asked-stored es s (s .standard) e))
       (λ e. ap (share fs) (asked-one es s (s .standard) e) ∙ rw (only e))
 
--- What two spans name in common, by the entries and the two pairs of ranges.
-abbrev fields-met : List Entry → Span → Span → Bool
-fields-met es a b = share (stored-fields es (a .first) (a .end)) (stored-fields es (b .first) (b .end))
+-- What a span kept and another name in common, by the entries and the two pairs of ranges.
+module _ {es : List Entry} {s : Span} (h : Span-held es s) (kept : Bytes) (at : ℕ) where
+  abbrev fields-met : Bool
+  fields-met = share (stored-fields es (getD kept at 0) (getD kept (at + 1) 0)) (stored-fields es (s .first) (s .end))
 
-abbrev occurrences-met : Span → Span → Bool
-occurrences-met a b = meet (range (a .from) (a .upto)) (range (b .from) (b .upto))
+  abbrev occurrences-met : Bool
+  occurrences-met = meet (range (getD kept (at + 2) 0) (getD kept (at + 3) 0)) (range (s .from) (s .upto))
 
-abbrev values-met : Span → Span → Bool
-values-met a b = meet (range (a .«value_from») (a .«value_upto»)) (range (b .«value_from») (b .«value_upto»))
+  abbrev values-met : Bool
+  values-met = meet (range (getD kept (at + 4) 0) (getD kept (at + 5) 0)) (range (s .«value_from») (s .«value_upto»))
 
-module _ {es : List Entry} {a b : Span} (h : Span-held es a) (k : Span-held es b) where
-  spans-met : (f : Bytes) → name-alike (use-meant es f (Values a)) (use-meant es f (Values b)) ≡ (fields-met es a b && occurrences-met a b && values-met a b)
+  spans-met : (f : Bytes) → name-alike (kept-use es kept at) (use-meant es f (Values s)) ≡ (fields-met && occurrences-met && values-met)
   unfolding name-alike
-  spans-met f = ap (λ s. s && occurrences-met a b && values-met a b) (left-stored es a h (asked-of es b) ∙ right-stored es b k _)
+  spans-met f = ap (λ b. b && occurrences-met && values-met) (right-stored es s h _)
 
   module _ {r : Bool} where
-    pub ranges-meet : {o v : Bool} → o ≡ occurrences-met a b → o ≡ true → v ≡ values-met a b → v ≡ true → r ≡ fields-met es a b
-        → Alike es (Values a) (Values b) r
-    ranges-meet p s q t e f = e ∙ sym (spans-met f ∙ rw (sym p ∙ s, sym q ∙ t) (and-true _ ∙ and-true (fields-met es a b)))
+    pub ranges-meet : {o v : Bool} → o ≡ occurrences-met → o ≡ true → v ≡ values-met → v ≡ true → r ≡ fields-met → Kept-alike es kept at s r
+    ranges-meet p x q y e f = e ∙ sym (spans-met f ∙ rw (sym p ∙ x, sym q ∙ y) (and-true _ ∙ and-true fields-met))
 
-    pub values-apart : r ≡ values-met a b → r ≡ false → Alike es (Values a) (Values b) false
-    values-apart q t f = sym (spans-met f ∙ rw (sym q ∙ t) (and-false (fields-met es a b && occurrences-met a b)))
+    pub values-apart : r ≡ values-met → r ≡ false → Kept-alike es kept at s false
+    values-apart q y f = sym (spans-met f ∙ rw (sym q ∙ y) (and-false (fields-met && occurrences-met)))
 
-    pub occurrences-apart : r ≡ occurrences-met a b → r ≡ false → Alike es (Values a) (Values b) false
-    occurrences-apart p t f = sym (spans-met f ∙ rw (sym p ∙ t, and-false (fields-met es a b)))
+    pub occurrences-apart : r ≡ occurrences-met → r ≡ false → Kept-alike es kept at s false
+    occurrences-apart p x f = sym (spans-met f ∙ rw (sym p ∙ x, and-false fields-met))
+
+-- The numbers that are kept of a span name what it names.
+pub numbered-alike : {es : List Entry} {s : Span} → Span-held es s → (f : Bytes) (v : rules.Use)
+    → name-alike (numbered-use es (s .first) (s .end) (s .from) (s .upto) (s .«value_from») (s .«value_upto»)) v ≡ name-alike (use-meant es f (Values s)) v
+unfolding name-alike
+numbered-alike {es} {s} h f (rules.one x) = refl
+numbered-alike {es} {s} h f (rules.values gs os vs b) =
+    ap (λ c. c && meet (range (s .from) (s .upto)) os && meet (range (s .«value_from») (s .«value_upto»)) vs) (sym (left-stored es s h gs))
 
 -- One item names nothing.
 pub one-left : (x : rules.Item) (u : rules.Use) → name-alike (rules.one x) u ≡ false

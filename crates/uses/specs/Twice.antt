@@ -1,29 +1,69 @@
--- What two uses name in common.
+-- What two uses name in common, and what is kept of a use to tell it.
 use mathlib.Core.Path.{_≡_}
-use mathlib.Core.Bool.{Bool}
-use mathlib.Core.List.{List, map}
-use Prim.Native.Nat.{ℕ}
+use mathlib.Core.Bool.{Bool, false, _||_}
+use mathlib.Core.List.{List, [], _∷_, map}
+use Prim.Native.Nat.{ℕ, zero, suc, _+_, _*_, _<_, _≤_}
+use lib.ListN.{length, getD}
 use Rattle.rules.specs.Outcome.{done}
-use Rattle.rules.specs.Lists.{Bytes, any}
+use Rattle.rules.specs.Lists.{Bytes}
 use Rattle.rules.specs.Table.{Entry}
 use Rattle.rules.specs.Use as rules-use
 use Rattle.rules.specs.Use.{Asked, as-stored}
 use Rattle.rules.specs.Update.{name-alike, named-twice}
-use Rattle.uses.specs.Meant.{fields-from, use-meant, uses-of}
-use Rattle.uses.specs.Ahead.{Ahead}
+use Rattle.formats.specs.Elements.{range}
+use Rattle.uses.specs.Meant.{fields-from, use-meant, uses-of, Span-known}
+use Rattle.uses.specs.declared.Span.{Span}
 use Rattle.uses.specs.declared.Use.{Use}
+use Rattle.uses.specs.declared.Use.the-variants as code
 
 -- The fields among the entries from one number up to another, each as it is stored.
 abbrev pub stored-fields : List Entry → ℕ → ℕ → List Asked
 stored-fields es first end = map as-stored (fields-from es first end)
 
--- Whether two uses name an occurrence in common, whatever the format.
-abbrev pub Alike : List Entry → Use → Use → Bool → Type 0
-Alike es a b r = (f : Bytes) → r ≡ name-alike (use-meant es f a) (use-meant es f b)
+-- The six numbers that are kept of a span, which are small, and the use that the six at a place of the area stand for.
+abbrev pub numbers : Span → Bytes
+numbers s = s .first ∷ s .end ∷ s .from ∷ s .upto ∷ s .«value_from» ∷ s .«value_upto» ∷ []
 
--- Whether the elements from a place on name an occurrence that a use names.
-abbrev pub Named-with : List Entry → Bytes → List ℕ → ℕ → Use → Bool → Type 0
-Named-with es f last at u r = (us : List rules-use.Use) → Ahead es f last at us → r ≡ any (name-alike (use-meant es f u)) us
+abbrev pub Small : Span → Type 0
+Small s = (s .first < 256) × (s .end < 256) × (s .from < 256) × (s .upto < 256) × (s .«value_from» < 256) × (s .«value_upto» < 256)
+
+abbrev pub small : Use → Type 0
+small (code.Blanks n) = Unit {0}
+small (code.Text from upto) = Unit {0}
+small (code.GroupCount i) = Unit {0}
+small (code.ValueCount i k) = Unit {0}
+small (code.Values s) = Small s
+
+abbrev pub numbered-use : List Entry → (first end from upto low high : ℕ) → rules-use.Use
+numbered-use es first end from upto low high = rules-use.values (stored-fields es first end) (range from upto) (range low high) false
+
+abbrev pub kept-use : List Entry → Bytes → ℕ → rules-use.Use
+kept-use es kept at =
+    numbered-use es (getD kept at 0) (getD kept (at + 1) 0) (getD kept (at + 2) 0) (getD kept (at + 3) 0) (getD kept (at + 4) 0) (getD kept (at + 5) 0)
+
+-- Whether one of the spans kept names an occurrence that a use names.
+unfoldable pub met-before : List Entry → Bytes → ℕ → rules-use.Use → Bool
+met-before es kept zero u = false
+met-before es kept (suc n) u = name-alike (kept-use es kept (6 * n)) u || met-before es kept n u
+
+-- The spans kept end among the entries.
+abbrev pub Ends : List Entry → Bytes → ℕ → Type 0
+Ends es kept count = (i : ℕ) → i < count → getD kept (6 * i + 1) 0 ≤ length es
+
+-- The answers of the code, whatever the format.
+abbrev pub Kept-alike : List Entry → Bytes → ℕ → Span → Bool → Type 0
+Kept-alike es kept at s r = (f : Bytes) → r ≡ name-alike (kept-use es kept at) (use-meant es f (code.Values s))
+
+abbrev pub Met : List Entry → Bytes → ℕ → Use → Bool → Type 0
+Met es kept count u r = (f : Bytes) → r ≡ met-before es kept count (use-meant es f u)
+
+-- A use was kept: what is met then is what it meets and what was met before.
+pub record Keeps (u : Use) (count : ℕ) (before : Bytes) (r : ℕ) (after : Bytes) : Type 0 where
+  pub same : length after ≡ length before
+  pub more : r ≤ count + 1
+  pub ends : (es : List Entry) → Span-known es u → Ends es before count → Ends es after r
+  pub met : (es : List Entry) (f : Bytes) (v : rules-use.Use) → Span-known es u
+      → met-before es after r v ≡ (name-alike (use-meant es f u) v || met-before es before count v)
 
 -- Whether two elements of a format that has uses name an occurrence in common.
 abbrev pub Named-twice : List Entry → Bytes → Bool → Type 0

@@ -1,16 +1,21 @@
-// Refusal 6: whether two elements of a format name an occurrence in common.
+// Refusal 6: whether two elements of a format name an occurrence in common. Six numbers are kept of each element that names any: its
+// entries, its occurrences and its values, each from and up to. So an element is read once, and compared with all that are kept.
 use super::Next;
 use super::Span;
 use super::Use;
 use super::next_use;
 ghost use mathlib.Core.Path.{_≡_};
-ghost use Prim.Native.Nat.{_≤_, max, min};
-ghost use lib.ListN.{length};
+ghost use Prim.Native.Nat.{_+_, _*_, _≤_, max, min};
+ghost use lib.ListN.{length, getD};
+ghost use lib.Seq.{sets};
 ghost use Rattle.rules.specs.Update.{meet, share};
 ghost use Rattle.tables.specs.Entries.{Valid, entries-of};
 ghost use Rattle.formats.specs.Elements.{range};
 ghost use Rattle.uses.specs.Meant.{Span-held, Span-known};
-ghost use Rattle.uses.specs.Twice.{stored-fields, Alike, Named-with, Named-twice};
+ghost use Rattle.uses.specs.Twice.{stored-fields, Ends, Kept-alike, Met, numbers, Small, small, Keeps, Named-twice};
+
+// The longest of the formats whose spans are kept in the smaller area. An element takes a byte at least, so that there is room for all.
+const SHORT: usize = 64;
 
 fn larger(a: usize, b: usize) -> usize
     ensures { λ r. ⌜ r ≡ max a b ⌝ }
@@ -51,32 +56,46 @@ fn share_entries(t: &[u8], first: usize, end: usize, low: usize, high: usize) ->
     false
 }
 
-// Whether two spans name an occurrence in common.
-fn spans_alike(t: &[u8], a: Span, b: Span) -> bool
-    requires { ⌜ Valid (now t) × Span-held (entries-of (now t)) a × Span-held (entries-of (now t)) b ⌝ }
-    ensures { λ r. ⌜ Alike (entries-of (now (t .entry))) (Use.Values a) (Use.Values b) r ⌝ }
+// Whether the span kept at a place and another name an occurrence in common.
+fn kept_alike(t: &[u8], kept: &[u8], at: usize, s: Span) -> bool
+    requires { ⌜ Valid (now t) × (at + 6 ≤ length (now kept)) × (getD (now kept) (at + 1) 0 ≤ length (entries-of (now t))) × Span-held (entries-of (now t)) s ⌝ }
+    ensures { λ r. ⌜ Kept-alike (entries-of (now (t .entry))) (now (kept .entry)) at s r ⌝ }
 {
-    if meet(a.from, a.upto, b.from, b.upto) {
-        if meet(a.value_from, a.value_upto, b.value_from, b.value_upto) {
-            return share_entries(t, a.first, a.end, b.first, b.end);
+    if meet(kept[at + 2] as usize, kept[at + 3] as usize, s.from, s.upto) {
+        if meet(
+            kept[at + 4] as usize,
+            kept[at + 5] as usize,
+            s.value_from,
+            s.value_upto,
+        ) {
+            return share_entries(t, kept[at] as usize, kept[at + 1] as usize, s.first, s.end);
         }
     }
     false
 }
 
-// Whether two uses name an occurrence in common. Counts, spaces and text name nothing.
-fn name_alike(t: &[u8], a: Use, b: Use) -> bool
-    requires { ⌜ Valid (now t) × Span-known (entries-of (now t)) a × Span-known (entries-of (now t)) b ⌝ }
-    ensures { λ r. ⌜ Alike (entries-of (now (t .entry))) a b r ⌝ }
+// Whether one of the spans kept names an occurrence that another names.
+fn span_met(t: &[u8], kept: &[u8], count: usize, s: Span) -> bool
+    requires { ⌜ Valid (now t) × (6 * count ≤ length (now kept)) × Ends (entries-of (now t)) (now kept) count × Span-held (entries-of (now t)) s ⌝ }
+    ensures { λ r. ⌜ Met (entries-of (now (t .entry))) (now (kept .entry)) count (Use.Values s) r ⌝ }
 {
-    match a {
-        Use::Values(s) => match b {
-            Use::Values(z) => spans_alike(t, s, z),
-            Use::Blanks(_) => false,
-            Use::Text(_, _) => false,
-            Use::GroupCount(_) => false,
-            Use::ValueCount(_, _) => false,
-        },
+    let mut i = count;
+    while 0 < i {
+        i -= 1;
+        if kept_alike(t, kept, 6 * i, s) {
+            return true;
+        }
+    }
+    false
+}
+
+// Whether one of the spans kept names an occurrence that a use names. Counts, spaces and text name nothing.
+fn met_before(t: &[u8], kept: &[u8], count: usize, u: Use) -> bool
+    requires { ⌜ Valid (now t) × (6 * count ≤ length (now kept)) × Ends (entries-of (now t)) (now kept) count × Span-known (entries-of (now t)) u ⌝ }
+    ensures { λ r. ⌜ Met (entries-of (now (t .entry))) (now (kept .entry)) count u r ⌝ }
+{
+    match u {
+        Use::Values(s) => span_met(t, kept, count, s),
         Use::Blanks(_) => false,
         Use::Text(_, _) => false,
         Use::GroupCount(_) => false,
@@ -84,23 +103,54 @@ fn name_alike(t: &[u8], a: Use, b: Use) -> bool
     }
 }
 
-// Whether an element from a place on, behind the last indexes there, names an occurrence that a use names.
-fn named_with(t: &[u8], f: &[u8], place: usize, indexes: [u8; 64], u: Use) -> bool
-    requires { ⌜ Valid (now t) × (place ≤ length (now f)) × (length indexes ≡ 64) × Span-known (entries-of (now t)) u ⌝ }
-    ensures { λ r. ⌜ Named-with (entries-of (now (t .entry))) (now (f .entry)) indexes place u r ⌝ }
+fn keep_span(kept: &mut [u8], at: usize, s: Span)
+    requires { ⌜ (at + 6 ≤ length (now kept)) × Small s ⌝ }
+    ensures { λ _. ⌜ now (kept .exit) ≡ sets (now (kept .entry)) at (numbers s) ⌝ }
 {
-    let mut last = indexes;
-    let mut at = place;
+    kept[at] = s.first as u8;
+    kept[at + 1] = s.end as u8;
+    kept[at + 2] = s.from as u8;
+    kept[at + 3] = s.upto as u8;
+    kept[at + 4] = s.value_from as u8;
+    kept[at + 5] = s.value_upto as u8;
+}
+
+// Keeps the span of a use behind the others, and says how many there are then.
+fn keep(kept: &mut [u8], count: usize, u: Use) -> usize
+    requires { ⌜ (6 * count + 6 ≤ length (now kept)) × small u ⌝ }
+    ensures { λ r. ⌜ Keeps u count (now (kept .entry)) r (now (kept .exit)) ⌝ }
+{
+    match u {
+        Use::Values(s) => {
+            keep_span(kept, 6 * count, s);
+            count + 1
+        }
+        Use::Blanks(_) => count,
+        Use::Text(_, _) => count,
+        Use::GroupCount(_) => count,
+        Use::ValueCount(_, _) => count,
+    }
+}
+
+// Whether a format names an occurrence twice, with an area to keep the spans of its elements in.
+fn named_twice_by(t: &[u8], f: &[u8], kept: &mut [u8]) -> bool
+    requires { ⌜ Valid (now t) × (6 * length (now f) ≤ length (now kept)) ⌝ }
+    ensures { λ r. ⌜ Named-twice (entries-of (now (t .entry))) (now (f .entry)) r ⌝ }
+{
+    let mut last = [0u8; 64];
+    let mut at = 0;
+    let mut count = 0;
     loop {
         match next_use(t, f, at, &mut last) {
-            Next::More(v, next) => {
-                if name_alike(t, u, v) {
+            Next::More(u, next) => {
+                if met_before(t, kept, count, u) {
                     return true;
                 }
+                count = keep(kept, count, u);
                 at = next;
             }
-            Next::Last(v) => {
-                return name_alike(t, u, v);
+            Next::Last(u) => {
+                return met_before(t, kept, count, u);
             }
             Next::Refused => {
                 return false;
@@ -109,27 +159,18 @@ fn named_with(t: &[u8], f: &[u8], place: usize, indexes: [u8; 64], u: Use) -> bo
     }
 }
 
-// Whether a format names an occurrence twice.
+// Whether a format names an occurrence twice. One that is too long has no uses.
 pub fn named_twice(t: &[u8], f: &[u8]) -> bool
     requires { ⌜ Valid (now t) ⌝ }
     ensures { λ r. ⌜ Named-twice (entries-of (now (t .entry))) (now (f .entry)) r ⌝ }
 {
-    let mut last = [0u8; 64];
-    let mut at = 0;
-    loop {
-        match next_use(t, f, at, &mut last) {
-            Next::More(u, next) => {
-                if named_with(t, f, next, last, u) {
-                    return true;
-                }
-                at = next;
-            }
-            Next::Last(_) => {
-                return false;
-            }
-            Next::Refused => {
-                return false;
-            }
-        }
+    if f.len() <= SHORT {
+        let mut kept = [0u8; 6 * SHORT];
+        return named_twice_by(t, f, &mut kept);
     }
+    if f.len() <= rules::LONGEST_FORMAT {
+        let mut kept = [0u8; 6 * rules::LONGEST_FORMAT];
+        return named_twice_by(t, f, &mut kept);
+    }
+    false
 }
