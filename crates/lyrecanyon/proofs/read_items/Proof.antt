@@ -10,7 +10,7 @@ use Rattle.lyrecanyon.proofs.read_items.Tie as tie
 
 ready : (c : tie.After-least)
     → Ready (c .before .before .before .before .before .args .table .now) (c .before .before .before .before .before .args .stored .now) (c .before .before .before .before .before .args .places .now) (c .before .before .before .before .before .args .format .now) (c .before .before .before .before .before .args .buffer .now) (c .least .result)
-ready c = let p = c .before .before .before .before .before .pre in record { valid = p .0; holds = p .1; kept = p .2; room = c .least .ensures }
+ready c = let p = c .before .before .before .before .before .pre in record { valid = p .0; holds = p .1; kept = p .2; room = omega (arith, c .least .ensures) }
 
 least-requires : tie.Need-least-requires
 least-requires c κs = search needs
