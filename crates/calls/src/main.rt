@@ -38,8 +38,8 @@ fn output_area() -> [u8; 80016]
     [0; 80016]
 }
 
-// The number and the length that a service returned. What is no call has no known answer, and so has every call until the
-// services are there.
+// The number and the length that a service returned. What is no call has no known answer, and so has an update until that
+// service is there.
 struct Answered {
     number: u8,
     length: usize,
