@@ -16,8 +16,8 @@ use Rattle.rules.specs.Use.{Item}
 use Rattle.rules.specs.Services.{item-bytes, filled}
 use Rattle.rules.proofs.Steps.{from-bind, from-need, need-true, done-inj, not-done, by-test, by-outcome, not-both}
 use Rattle.buffer.specs.Splice.{splice}
-use Rattle.buffer.proofs.Laws.{splice-nil, splice-then, length-splice}
-use Rattle.reading.specs.Filling.{placed, left-as, Filling}
+use Rattle.buffer.proofs.Laws.{splice-nil, splice-then}
+use Rattle.reading.specs.Filling.{placed, left-as, Counts, Filling}
 use Rattle.reading.specs.declared.Next.{Next}
 use Rattle.reading.specs.declared.Next.the-variants.{At, Refused}
 
@@ -70,15 +70,15 @@ module _ (ps : List Part) (r : Record) where
       (λ t. rw (h, t) (rw (h, t) at p)))
       (λ n h. rw h (rw h at p))
 
--- A loop over items: it began at `start` and stands at `at`, with `rest` still to come of the `whole`. It writes only what is all done.
+-- A loop over items: it began at `start` and stands at `at`, with `rest` still to come of the `whole`.
 pub record Going (whole rest : Outcome Bytes) (start at : ℕ) (write : Bool) (out₀ out : Bytes) : Type 0 where
   pub answer : placed at rest ≡ placed start whole
-  pub bytes : left-as write at rest out ≡ left-as write start whole out₀
+  pub alike : is-done rest ≡ is-done whole
   pub same : length out ≡ length out₀
-  pub sound : write ≡ true → is-done rest ≡ true
+  pub bytes : Counts write rest → left-as write at rest out ≡ left-as write start whole out₀
 
-pub going-start : (whole : Outcome Bytes) (at : ℕ) (write : Bool) (out : Bytes) → (write ≡ true → is-done whole ≡ true) → Going whole whole at at write out out
-going-start whole at write out h = record { answer = refl; bytes = refl; same = refl; sound = h }
+pub going-start : (whole : Outcome Bytes) (at : ℕ) (write : Bool) (out : Bytes) → Going whole whole at at write out out
+going-start whole at write out = record { answer = refl; alike = refl; same = refl; bytes = λ h. refl }
 
 placed-before : (at : ℕ) (a : Bytes) (o : Outcome Bytes) → placed at (before a o) ≡ placed (at + length a) o
 placed-before at a (done b) = ap At (rw length-append (omega arith))
@@ -88,17 +88,12 @@ done-before : (a : Bytes) (o : Outcome Bytes) → is-done (before a o) ≡ is-do
 done-before a (done b) = refl
 done-before a (refused k) = refl
 
-left-before : (write : Bool) (at : ℕ) (a : Bytes) (o : Outcome Bytes) (out : Bytes) → at + length a ≤ length out → (write ≡ true → is-done o ≡ true)
+left-before : (write : Bool) (at : ℕ) (a : Bytes) (o : Outcome Bytes) (out : Bytes) → at + length a ≤ length out → Counts write o
     → left-as write (at + length a) o (left-as write at (done a) out) ≡ left-as write at (before a o) out
 unfolding bytes-of
 left-before false at a o out h s = refl
 left-before true at a (done b) out h s = splice-then at a b out (at + length a) refl h
 left-before true at a (refused k) out h s = absurd (not-both (s refl))
-
-left-length : (write : Bool) (at : ℕ) (a out : Bytes) → at + length a ≤ length out → length (left-as write at (done a) out) ≡ length out
-unfolding bytes-of
-left-length false at a out h = refl
-left-length true at a out h = length-splice at a out h
 
 at-inj : {m n : ℕ} → At m ≡ At n → m ≡ n
 at-inj p = cc
@@ -123,29 +118,35 @@ module _ (ps : List Part) (r : Record) (end : ℕ) (xs ys : List Item) {whole : 
       on a h l e =
           let m : end - at - length a ≡ end - at′ = omega arith in
           let o : filled ps r (end - at) (xs ++ ys) ≡ before a (filled ps r (end - at′) ys) = append-on ps r (end - at) xs ys a h ∙ rw m refl in
-          let d : write ≡ true → is-done (filled ps r (end - at′) ys) ≡ true = λ w. sym (done-before a (filled ps r (end - at′) ys)) ∙ rw o at (g .sound w) in
-          let b : out′ ≡ left-as write at (done a) out = f .bytes ∙ ap (λ x. left-as write at x out) h in
+          let d : is-done (filled ps r (end - at) (xs ++ ys)) ≡ is-done (filled ps r (end - at′) ys) = ap is-done o ∙ done-before a (filled ps r (end - at′) ys) in
+          let b : out′ ≡ left-as write at (done a) out = f .bytes (λ w. ap is-done h) ∙ ap (λ x. left-as write at x out) h in
           record {
             answer = rw (← e) (sym (placed-before at a (filled ps r (end - (at + length a)) ys))) ∙ rw (o, ← e) at (g .answer);
-            bytes = rw (b, ← e) (left-before write at a (filled ps r (end - (at + length a)) ys) out (omega arith) (rw (← e) at d)) ∙ rw (o, ← e) at (g .bytes);
-            same = rw b (left-length write at a out (omega arith) ∙ g .same);
-            sound = d;
+            alike = sym d ∙ g .alike;
+            same = f .same ∙ g .same;
+            bytes = λ k.
+                rw (b, ← e) (left-before write at a (filled ps r (end - (at + length a)) ys) out (omega arith) (rw (← e) at k))
+                ∙ rw (o, ← e) at (g .bytes (λ w. d ∙ k w));
           }
 
-  -- A stop: the items xs are refused, which happens only where nothing is written.
+  -- A stop: the items xs are refused, and so is the whole; its bytes count only where nothing was written.
   pub stop : (k : ℕ) → n ≡ Refused k → Filling whole start write out₀ out′ (Refused k)
   stop k q = by-outcome (filled ps r (end - at) xs)
       (λ a h. absurd (no-at (sym (f .answer ∙ ap (placed at) h) ∙ q)))
       (λ j h. off j h (append-off ps r (end - at) xs ys j h) (sym (f .answer ∙ ap (placed at) h) ∙ q))
     where
       off : (j : ℕ) → filled ps r (end - at) xs ≡ refused j → filled ps r (end - at) (xs ++ ys) ≡ refused j → Refused j ≡ Refused k → Filling whole start write out₀ out′ (Refused k)
-      off j h o e = unwritten write (g .answer) (g .bytes) (g .sound) (f .bytes)
+      off j h o e = record {
+        answer = sym e ∙ rw o at (g .answer);
+        same = f .same ∙ g .same;
+        bytes = unwritten write (sym (g .alike) ∙ ap is-done o) (g .bytes) (f .bytes);
+      }
         where
-          unwritten : (w : Bool) → placed at (filled ps r (end - at) (xs ++ ys)) ≡ placed start whole
-              → left-as w at (filled ps r (end - at) (xs ++ ys)) out ≡ left-as w start whole out₀ → (w ≡ true → is-done (filled ps r (end - at) (xs ++ ys)) ≡ true)
-              → out′ ≡ left-as w at (filled ps r (end - at) xs) out → Filling whole start w out₀ out′ (Refused k)
-          unwritten false p b s c = record { answer = sym e ∙ rw o at p; bytes = c ∙ b }
-          unwritten true p b s c = absurd (not-both (rw o at (s refl)))
+          unwritten : (w : Bool) → is-done whole ≡ false
+              → (Counts w (filled ps r (end - at) (xs ++ ys)) → left-as w at (filled ps r (end - at) (xs ++ ys)) out ≡ left-as w start whole out₀)
+              → (Counts w (filled ps r (end - at) xs) → out′ ≡ left-as w at (filled ps r (end - at) xs) out) → Counts w whole → out′ ≡ left-as w start whole out₀
+          unwritten false d b c s = c (λ w. absurd (not-both w)) ∙ b (λ w. absurd (not-both w))
+          unwritten true d b c s = absurd (not-both (sym d ∙ s refl))
 
 -- The end: no item is left.
 pub going-end : (ps : List Part) (r : Record) (room : ℕ) {whole : Outcome Bytes} {start at : ℕ} {write : Bool} {out₀ out : Bytes}
@@ -153,7 +154,8 @@ pub going-end : (ps : List Part) (r : Record) (room : ℕ) {whole : Outcome Byte
 unfolding filled bytes-of
 going-end ps r room {whole} {start} {at} {write} {out₀} {out} g = record {
   answer = ap At (sym (add-zero at)) ∙ g .answer;
-  bytes = sym (nothing-written write) ∙ g .bytes;
+  same = g .same;
+  bytes = λ s. sym (nothing-written write) ∙ g .bytes (λ w. refl);
 }
   where
     nothing-written : (w : Bool) → left-as w at (done []) out ≡ out

@@ -18,7 +18,7 @@ ghost use Rattle.formats.specs.Elements.{range};
 ghost use Rattle.uses.specs.Meant.{Span-held, Use-held, use-meant, uses-of};
 ghost use Rattle.records.specs.Places.{Holds, Value-of};
 ghost use Rattle.reading.specs.Filling.{Filling, within};
-ghost use Rattle.reading.specs.Runs.{Fills, Sound, carried-from, Lies, Cell-holds, asked-at, Askable, Only, field-items, row-items, span-items};
+ghost use Rattle.reading.specs.Runs.{Fills, carried-from, Lies, Cell-holds, asked-at, Askable, Only, field-items, row-items, span-items};
 use records::places::Cell;
 use records::places::Content;
 use uses::Next as Ahead;
@@ -172,7 +172,7 @@ fn put_values(
     end: usize,
     write: bool,
 ) -> Next
-    requires { ⌜ Valid (now t) × Askable (entries-of (now t)) i o format size × (1 ≤ first) × (last ≤ highest-index) × Holds (entries-of (now t)) (now b) (now places) × (at ≤ end) × (end ≤ length (now out)) × Sound (entries-of (now t)) (now b) (now places) (value-items (asked-at (entries-of (now t)) i format size ∷ []) (just o) (range first last) false) at end write ⌝ }
+    requires { ⌜ Valid (now t) × Askable (entries-of (now t)) i o format size × (1 ≤ first) × (last ≤ highest-index) × Holds (entries-of (now t)) (now b) (now places) × (at ≤ end) × (end ≤ length (now out)) ⌝ }
     ensures { λ r. ⌜ Fills (entries-of (now (t .entry))) (now (b .entry)) (now (places .entry)) (value-items (asked-at (entries-of (now (t .entry))) i format size ∷ []) (just o) (range first last) false) at end write (now (out .entry)) (now (out .exit)) r ⌝ }
 {
     let e = tables::entry_at(t, i);
@@ -219,7 +219,7 @@ fn put_field(
     end: usize,
     write: bool,
 ) -> Next
-    requires { ⌜ Valid (now t) × (j < length (entries-of (now t))) × (1 ≤ o) × (inside-at (entries-of (now t)) j ≡ false → o ≡ 1) × (1 ≤ low) × (high ≤ highest-index) × Holds (entries-of (now t)) (now b) (now places) × (at ≤ end) × (end ≤ length (now out)) × Sound (entries-of (now t)) (now b) (now places) (field-items (entries-of (now t)) j (j + 1) o low high) at end write ⌝ }
+    requires { ⌜ Valid (now t) × (j < length (entries-of (now t))) × (1 ≤ o) × (inside-at (entries-of (now t)) j ≡ false → o ≡ 1) × (1 ≤ low) × (high ≤ highest-index) × Holds (entries-of (now t)) (now b) (now places) × (at ≤ end) × (end ≤ length (now out)) ⌝ }
     ensures { λ r. ⌜ Fills (entries-of (now (t .entry))) (now (b .entry)) (now (places .entry)) (field-items (entries-of (now (t .entry))) j (j + 1) o low high) at end write (now (out .entry)) (now (out .exit)) r ⌝ }
 {
     let e = tables::entry_at(t, j);
@@ -258,7 +258,7 @@ fn put_fields(
     end: usize,
     write: bool,
 ) -> Next
-    requires { ⌜ Valid (now t) × (first ≤ stop) × (stop ≤ length (entries-of (now t))) × (1 ≤ o) × Only (entries-of (now t)) first stop o × (1 ≤ low) × (high ≤ highest-index) × Holds (entries-of (now t)) (now b) (now places) × (at ≤ end) × (end ≤ length (now out)) × Sound (entries-of (now t)) (now b) (now places) (field-items (entries-of (now t)) first stop o low high) at end write ⌝ }
+    requires { ⌜ Valid (now t) × (first ≤ stop) × (stop ≤ length (entries-of (now t))) × (1 ≤ o) × Only (entries-of (now t)) first stop o × (1 ≤ low) × (high ≤ highest-index) × Holds (entries-of (now t)) (now b) (now places) × (at ≤ end) × (end ≤ length (now out)) ⌝ }
     ensures { λ r. ⌜ Fills (entries-of (now (t .entry))) (now (b .entry)) (now (places .entry)) (field-items (entries-of (now (t .entry))) first stop o low high) at end write (now (out .entry)) (now (out .exit)) r ⌝ }
 {
     let mut p = at;
@@ -290,7 +290,7 @@ fn put_row(
     end: usize,
     write: bool,
 ) -> Next
-    requires { ⌜ Valid (now t) × Span-held (entries-of (now t)) s × (1 ≤ o) × Only (entries-of (now t)) (s .first) (s .end) o × Holds (entries-of (now t)) (now b) (now places) × (at ≤ end) × (end ≤ length (now out)) × Sound (entries-of (now t)) (now b) (now places) (row-items (entries-of (now t)) s o) at end write ⌝ }
+    requires { ⌜ Valid (now t) × Span-held (entries-of (now t)) s × (1 ≤ o) × Only (entries-of (now t)) (s .first) (s .end) o × Holds (entries-of (now t)) (now b) (now places) × (at ≤ end) × (end ≤ length (now out)) ⌝ }
     ensures { λ r. ⌜ Fills (entries-of (now (t .entry))) (now (b .entry)) (now (places .entry)) (row-items (entries-of (now (t .entry))) s o) at end write (now (out .entry)) (now (out .exit)) r ⌝ }
 {
     if s.standard {
@@ -337,7 +337,7 @@ fn put_span(
     end: usize,
     write: bool,
 ) -> Next
-    requires { ⌜ Valid (now t) × Span-held (entries-of (now t)) s × Holds (entries-of (now t)) (now b) (now places) × (at ≤ end) × (end ≤ length (now out)) × Sound (entries-of (now t)) (now b) (now places) (span-items (entries-of (now t)) s (s .from)) at end write ⌝ }
+    requires { ⌜ Valid (now t) × Span-held (entries-of (now t)) s × Holds (entries-of (now t)) (now b) (now places) × (at ≤ end) × (end ≤ length (now out)) ⌝ }
     ensures { λ r. ⌜ Fills (entries-of (now (t .entry))) (now (b .entry)) (now (places .entry)) (span-items (entries-of (now (t .entry))) s (s .from)) at end write (now (out .entry)) (now (out .exit)) r ⌝ }
 {
     let mut p = at;
@@ -369,7 +369,7 @@ fn put_use(
     end: usize,
     write: bool,
 ) -> Next
-    requires { ⌜ Valid (now t) × Use-held (entries-of (now t)) (now f) u × Holds (entries-of (now t)) (now b) (now places) × (at ≤ end) × (end ≤ length (now out)) × Sound (entries-of (now t)) (now b) (now places) (items-of (use-meant (entries-of (now t)) (now f) u)) at end write ⌝ }
+    requires { ⌜ Valid (now t) × Use-held (entries-of (now t)) (now f) u × Holds (entries-of (now t)) (now b) (now places) × (at ≤ end) × (end ≤ length (now out)) ⌝ }
     ensures { λ r. ⌜ Fills (entries-of (now (t .entry))) (now (b .entry)) (now (places .entry)) (items-of (use-meant (entries-of (now (t .entry))) (now (f .entry)) u)) at end write (now (out .entry)) (now (out .exit)) r ⌝ }
 {
     match u {
@@ -397,7 +397,7 @@ pub fn fill(
     end: usize,
     write: bool,
 ) -> Next
-    requires { ⌜ Valid (now t) × Holds (entries-of (now t)) (now b) (now places) × (is-done (uses-of (entries-of (now t)) (now f)) ≡ true) × (end ≤ length (now out)) × ((us : List rules.Use) → uses-of (entries-of (now t)) (now f) ≡ done us → Sound (entries-of (now t)) (now b) (now places) (items us) 0 end write) ⌝ }
+    requires { ⌜ Valid (now t) × Holds (entries-of (now t)) (now b) (now places) × (is-done (uses-of (entries-of (now t)) (now f)) ≡ true) × (end ≤ length (now out)) ⌝ }
     ensures { λ r. ⌜ ((us : List rules.Use) → uses-of (entries-of (now (t .entry))) (now (f .entry)) ≡ done us → Fills (entries-of (now (t .entry))) (now (b .entry)) (now (places .entry)) (items us) 0 end write (now (out .entry)) (now (out .exit)) r) ⌝ }
 {
     let mut last = [0u8; 64];
