@@ -6,7 +6,7 @@ use Prim.Native.Nat.{ℕ, _≤_}
 use native.Mathlib.Omega.{arith}
 use lib.ListN.{length, replicate}
 use Rattle.rules.specs.Outcome.{done, is-done}
-use Rattle.rules.specs.Lists.{Bytes, join}
+use Rattle.rules.specs.Lists.{Bytes}
 use Rattle.rules.specs.Table.{Entry}
 use Rattle.rules.specs.Use.{Use as Meaning, items-of, items}
 use Rattle.rules.proofs.Steps.{done-inj}
@@ -20,15 +20,8 @@ use Rattle.uses.proofs.Ahead.{uses-all}
 use Rattle.reading.specs.Runs.{Fills}
 use Rattle.reading.specs.declared.Next.{Next}
 use Rattle.reading.specs.declared.Next.the-variants as next
+use Rattle.reading.proofs.Scanning.{no-items, first-items}
 use Rattle.reading.proofs.Running.{Running, run-start, run-on, run-off, run-end}
-
-no-items : items [] ≡ []
-unfolding items join
-no-items = refl
-
-first-items : (u : Meaning) (us : List Meaning) → items (u ∷ us) ≡ items-of u ++ items us
-unfolding items join
-first-items u us = refl
 
 -- All the items of a format fill the buffer.
 abbrev pub All-fill : List Entry → Bytes → List ℕ → Bytes → ℕ → Bool → Bytes → Bytes → Next → Type 0

@@ -1,12 +1,11 @@
 -- A loop over items for whatever record the bytes hold: its start, a turn that takes some items off the front, a stop and its end.
-use mathlib.Core.Path.{_≡_, sym, _∙_, ap, subst}
+use mathlib.Core.Path.{_≡_, sym, _∙_, subst}
 use mathlib.Core.Bool.{Bool}
 use mathlib.Core.List.{List, [], _∷_, _++_, append-nil}
 use Prim.Native.Nat.{ℕ, _+_, _-_, _≤_}
 use native.Mathlib.Omega.{arith}
 use lib.Dec.{leb}
 use lib.ListN.{length}
-use Rattle.rules.specs.Outcome.{done}
 use Rattle.rules.specs.Lists.{Bytes}
 use Rattle.rules.specs.Table.{Part, Entry, parts}
 use Rattle.rules.specs.Record.{Record}
@@ -49,7 +48,7 @@ module _ {es : List Entry} {b : Bytes} {places : List ℕ} {end : ℕ} {whole re
           let t = turn (parts es) r end xs ys (parted r p) (f r p) (g .fits) (g .room) at′ q in
           record {
             holds = g .holds;
-            fits = turn-within (parts es) r end xs ys (parted r p) (f r p) (g .fits) (g .room) at′ q .1;
+            fits = turn-within (parts es) r end xs ys (parted r p) (f r p) (g .fits) (g .room) at′ q;
             room = omega (arith, t .same, g .going r p .same, g .room);
             going = λ r p. turn (parts es) r end xs ys (parted r p) (f r p) (g .fits) (g .room) at′ q;
           }
