@@ -1,6 +1,7 @@
 pub mod Elements
 pub mod Formats
 pub mod Going
+pub mod Rooms
 pub mod Running
 pub mod Scanning
 pub mod Singles
