@@ -6,7 +6,7 @@ use Prim.Native.Nat.{ℕ, _≤_}
 use native.Mathlib.Omega.{arith}
 use lib.ListN.{length, replicate}
 use Rattle.rules.specs.Outcome.{done, is-done}
-use Rattle.rules.specs.Lists.{Bytes, join}
+use Rattle.rules.specs.Lists.{Bytes}
 use Rattle.rules.specs.Table.{Entry}
 use Rattle.rules.specs.Use.{Use as Meaning, items-of, items}
 use Rattle.rules.proofs.Steps.{done-inj}
@@ -17,18 +17,11 @@ use Rattle.uses.specs.declared.Use.{Use}
 use Rattle.uses.specs.declared.Next.the-variants.{More, Last, Refused}
 use Rattle.uses.proofs.Testing.{from-is-done}
 use Rattle.uses.proofs.Ahead.{uses-all}
-use Rattle.reading.specs.Runs.{Fills, Sound}
+use Rattle.reading.specs.Runs.{Fills}
 use Rattle.reading.specs.declared.Next.{Next}
 use Rattle.reading.specs.declared.Next.the-variants as next
-use Rattle.reading.proofs.Running.{Running, run-start, run-sound, run-on, run-off, run-end}
-
-no-items : items [] ≡ []
-unfolding items join
-no-items = refl
-
-first-items : (u : Meaning) (us : List Meaning) → items (u ∷ us) ≡ items-of u ++ items us
-unfolding items join
-first-items u us = refl
+use Rattle.reading.proofs.Scanning.{no-items, first-items}
+use Rattle.reading.proofs.Running.{Running, run-start, run-on, run-off, run-end}
 
 -- All the items of a format fill the buffer.
 abbrev pub All-fill : List Entry → Bytes → List ℕ → Bytes → ℕ → Bool → Bytes → Bytes → Next → Type 0
@@ -43,15 +36,13 @@ pub record Reading (es : List Entry) (b : Bytes) (places : List ℕ) (f : Bytes)
   pub running : Running es b places end (items all) (items left) 0 p write out₀ out
 
 module _ {es : List Entry} {b : Bytes} {places : List ℕ} {f : Bytes} {end : ℕ} {write : Bool} {out₀ : Bytes} where
-  pub reading-start : Holds es b places → is-done (uses-of es f) ≡ true → end ≤ length out₀
-      → ((us : List Meaning) → uses-of es f ≡ done us → Sound es b places (items us) 0 end write)
-      → Reading es b places f end write out₀ (replicate 64 0) 0 0 out₀
-  reading-start h d l s = from-is-done (uses-of es f) d λ us e. record {
+  pub reading-start : Holds es b places → is-done (uses-of es f) ≡ true → end ≤ length out₀ → Reading es b places f end write out₀ (replicate 64 0) 0 0 out₀
+  reading-start h d l = from-is-done (uses-of es f) d λ us e. record {
     all = us;
     left = us;
     meant = e;
     ahead = uses-all e;
-    running = run-start es b places end (items us) 0 write out₀ h (omega arith) l (s us e);
+    running = run-start es b places end (items us) 0 write out₀ h (omega arith) l;
   }
 
   module _ {last : List ℕ} {at p : ℕ} {out : Bytes} (w : Reading es b places f end write out₀ last at p out) where
@@ -66,9 +57,6 @@ module _ {es : List Entry} {b : Bytes} {places : List ℕ} {f : Bytes} {end : �
       front : items (w .left) ≡ items-of (use-meant es f u) ++ items us
       front = ap items e ∙ first-items (use-meant es f u) us
 
-      first-sound : Sound es b places (items-of (use-meant es f u)) p end write
-      first-sound = run-sound (w .running) (items-of (use-meant es f u)) (items us) front
-
       first-off : {out′ : Bytes} {n : Next} → Fills es b places (items-of (use-meant es f u)) p end write out out′ n
           → (k : ℕ) → n ≡ next.Refused k → All-fill es b places f end write out₀ out′ (next.Refused k)
       first-off h k q = all-fill (run-off (w .running) (items-of (use-meant es f u)) (items us) front h k q)
@@ -79,9 +67,6 @@ module _ {es : List Entry} {b : Bytes} {places : List ℕ} {f : Bytes} {end : �
 
       behind : w .left ≡ use-meant es f u ∷ rest
       behind = n .answer (w .left) (w .ahead) .1
-
-      pub more-sound : Sound es b places (items-of (use-meant es f u)) p end write
-      more-sound = first-sound u rest behind
 
       module _ {out′ : Bytes} {m : Next} (h : Fills es b places (items-of (use-meant es f u)) p end write out out′ m) where
         pub more-off : (k : ℕ) → m ≡ next.Refused k → All-fill es b places f end write out₀ out′ (next.Refused k)
@@ -99,9 +84,6 @@ module _ {es : List Entry} {b : Bytes} {places : List ℕ} {f : Bytes} {end : �
     module _ {after : List ℕ} {u : Use} (n : Nexts es f at last after (Last u)) where
       alone : w .left ≡ use-meant es f u ∷ []
       alone = n .answer (w .left) (w .ahead)
-
-      pub last-sound : Sound es b places (items-of (use-meant es f u)) p end write
-      last-sound = first-sound u [] alone
 
       pub last-fills : {out′ : Bytes} (m : Next) → Fills es b places (items-of (use-meant es f u)) p end write out out′ m → All-fill es b places f end write out₀ out′ m
       last-fills (next.At p′) h = all-fill (run-end (run-on (w .running) (items-of (use-meant es f u)) (items []) (front u [] alone) h p′ refl) no-items)

@@ -6,7 +6,7 @@ use lib.ListN.{length}
 use Rattle.tables.specs.Entries.{entries-of}
 use Rattle.uses.proofs.Ahead.{nexts-as}
 use Rattle.reading.proofs.Running.{run-same}
-use Rattle.reading.proofs.Formats.{Reading, reading-start, reading-refused, more-sound, more-on, more-off, last-sound, last-fills}
+use Rattle.reading.proofs.Formats.{Reading, reading-start, reading-refused, more-on, more-off, last-fills}
 use borrow.Author.Needs.{needs}
 use Rattle.reading.proofs.fill.Statement.{statement}
 use Rattle.reading.proofs.fill.Tie as tie
@@ -21,7 +21,7 @@ abbrev μ-loop : tie.MeasureT-loop
 loop-holds : tie.Need-loop-holds Inv-loop μ-loop
 loop-holds c =
     let s = c .before .before .before .before in
-    (omega arith, refl, reading-start (s .pre .1) (s .pre .2) (s .pre .3) (s .pre .4))
+    (omega arith, refl, reading-start (s .pre .1) (s .pre .2) (s .pre .3))
 
 next-use-requires : tie.Need-next-use-requires Inv-loop μ-loop
 next-use-requires c κs = search needs
@@ -34,7 +34,7 @@ put-use-requires c κs =
     let s = c .before .before .before .before .before .before .before .before .before .before .before in
     let l = c .before .before .before .before .before .before .loop in
     let n = nexts-as (c .before .before .u .given .1) (c .before .before .before .before .next-use .ensures) in
-    (s .pre .0, n .known .2, s .pre .1, l .inv .2 .running .fits, l .inv .2 .running .room, more-sound (l .inv .2) n)
+    (s .pre .0, n .known .2, s .pre .1, l .inv .2 .running .fits, l .inv .2 .running .room)
 
 enum-known-next : tie.Need-enum-known-next Inv-loop μ-loop
 enum-known-next c = search needs
@@ -69,7 +69,7 @@ put-use-requires-2 c κs =
     let s = c .before .before .before .before .before .before .before .before .before .before .before in
     let l = c .before .before .before .before .before .before .loop in
     let n = nexts-as (c .before .before .u2 .given .1) (c .before .before .before .before .next-use .ensures) in
-    (s .pre .0, n .known, s .pre .1, l .inv .2 .running .fits, l .inv .2 .running .room, last-sound (l .inv .2) n)
+    (s .pre .0, n .known, s .pre .1, l .inv .2 .running .fits, l .inv .2 .running .room)
 
 same-length-2 : tie.Need-same-length-2 Inv-loop μ-loop
 same-length-2 c = let g = run-same (c .before .before .before .before .before .before .before .before .before .loop .inv .2 .running) in omega arith
