@@ -20,7 +20,7 @@ use Rattle.buffer.proofs.Cases.{by-order}
 use Rattle.tables.specs.Entries.{blank, format-at, format-number, size-of, is-multiple, is-periodic}
 use Rattle.tables.specs.Groups.{run-below, group-end}
 use Rattle.tables.proofs.Nesting.{run-short}
-use Rattle.records.specs.Walk.{rest-of, behind, has-count}
+use Rattle.records.specs.Walk.{rest-of, behind, has-count, rows-of}
 use Rattle.records.specs.Where.{field-of, fields-of}
 use Rattle.records.proofs.Walks.{each-turn, each-stop, count-missing, count-over, count-good, not-counted}
 use Rattle.records.proofs.Entries.{never}
@@ -122,6 +122,20 @@ module _ (es : List Entry) (g : ℕ) where
   pub group-within : g < length es → (g + 1 ≤ group-end es g) × (group-end es g ≤ length es)
   unfolding group-end
   group-within l = (omega arith, omega (arith, run-short (getD es g blank .level) (drop (suc g) es), length-drop (suc g) es))
+
+-- How many occurrences an entry has.
+module _ (w : What) where
+  pub rows-some : (n : ℕ) → is-periodic w ≡ true → rows-of w n ≡ n
+  unfolding rows-of
+  rows-some n h = rw h refl
+
+  pub rows-none : (n : ℕ) → is-periodic w ≡ false → rows-of w n ≡ 0
+  unfolding rows-of
+  rows-none n h = rw h refl
+
+  pub rows-zero : rows-of w 0 ≡ 0
+  unfolding rows-of
+  rows-zero = by-test (is-periodic w) (λ t. rw t refl) (λ t. rw t refl)
 
 -- What stands behind a periodic group, by its count and its end.
 module _ (inside : Bool) (es : List Entry) (g : ℕ) (b : Bytes) (at : ℕ) (p : is-periodic (getD es g blank .what) ≡ true) where
