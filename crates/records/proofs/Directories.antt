@@ -47,6 +47,9 @@ rowing es b places h = record {
   rows = λ g l. absurd (not-suc-le-zero l);
 }
 
+pub long-set : (l : List ℕ) (i v j w : ℕ) → length (set (set l i v) j w) ≡ length l
+long-set l i v j w = length-set (set l i v) j w ∙ length-set l i v
+
 -- Entry i adds its place, the number of its first occurrence, and the places of its occurrences.
 module _ {es : List Entry} {b : Bytes} {places : List ℕ} {i kept : ℕ} (l : Rowing es b places i kept) (small : i < 64) (p : ℕ) {after : List ℕ}
     (k : Kept (occurrence es i) b (p + 1) (rows-of (getD es i blank .what) (getD b p 0)) kept (set (set places i p) (64 + i) kept) after) where
@@ -74,7 +77,7 @@ module _ {es : List Entry} {b : Bytes} {places : List ℕ} {i kept : ℕ} (l : R
 
   pub rowed : {next : ℕ} → next ≡ kept + rows-of (getD es i blank .what) (getD b p 0) → next ≤ kept + 255 → Rowing es b after (i + 1) next
   rowed q h = record {
-    long = k .long ∙ length-set (set places i p) (64 + i) kept ∙ length-set places i p ∙ l .long;
+    long = k .long ∙ long-set places i p (64 + i) kept ∙ l .long;
     least = omega (arith, l .least, q);
     most = omega (arith, l .most);
     low = λ g m. by-order g i (λ o. rw (old-first g o) (l .low g o)) (λ o. let z : g ≡ i = omega arith in rw (z, new-first) (l .least));

@@ -77,6 +77,10 @@ home-deeper es i g home k p q =
     let l = run-levels 1 (drop (suc g) es) (k - suc g) (omega (arith, home .within)) in
     rw (getD-drop (suc g) es (k - suc g) blank, z) at l
 
+-- A field in a periodic group stands behind it.
+pub home-before : (es : List Entry) (i g : ℕ) → is-group (getD es i blank .what) ≡ false → Home es i g → g < i
+home-before es i g what home = by-order g i (λ l. l) (λ l. let z : g ≡ i = omega (arith, home .upto) in absurd (never (rw (← z) at what) (ap is-group (home .periodic))))
+
 -- Bytes that hold a record by a table's entries, of which each is the first with its name.
 module _ {es : List Entry} {b : Bytes} {places : List ℕ} {r : Record} (held : Held es b places r) (named : differ (names es) ≡ true) where
   own-name : (i : ℕ) → i < length es → First (getD es i blank .name) es i
@@ -120,8 +124,8 @@ module _ {es : List Entry} {b : Bytes} {places : List ℕ} {r : Record} (held : 
 
   -- Entry i, a field in the periodic group that entry g is, in occurrence o.
   module _ (i g o : ℕ) (less : i < length es) (what : is-group (getD es i blank .what) ≡ false) (some : 1 ≤ o) (home : Home es i g) where
-    pub group-before : g < i
-    group-before = by-order g i (λ l. l) (λ l. let z : g ≡ i = omega (arith, home .upto) in absurd (never (rw (← z) at what) (ap is-group (home .periodic))))
+    group-before : g < i
+    group-before = home-before es i g what home
 
     pub cell-missing : group-count-at (parts es) r (getD es g blank .name) < o → values-at (parts es) r (getD es i blank .name) o ≡ []
     unfolding parts

@@ -16,14 +16,15 @@ use Rattle.rules.specs.Table.{Field}
 use Rattle.rules.specs.Use.{plain}
 use Rattle.rules.specs.Record.{Reader, times, each, counted, stored-value, stored-cell}
 use Rattle.rules.proofs.Steps.{done-inj, not-done, by-test, by-outcome}
-use Rattle.records.specs.Walk.{rest-of, Walked, Ends}
+use Rattle.records.specs.Walk.{rest-of, Walked, Ends, has-count}
 use Rattle.records.specs.Paths.{lengths}
 use Rattle.records.specs.declared.Step.the-variants.{At}
 use Rattle.records.proofs.Entries.{never}
 use Rattle.records.proofs.Walks.{walked-as, times-turn, times-stop, each-turn, each-stop, not-counted}
+use Rattle.records.proofs.Ends.{count-some, count-there, count-none}
 use Rattle.records.proofs.Cells.{byte-there, value-first, value-length}
 
-from-rest : {X C : Type 0} (o : Outcome (X × Bytes)) {rest : Bytes} → rest-of o ≡ done rest → ((x : X) → o ≡ done (x, rest) → C) → C
+pub from-rest : {X C : Type 0} (o : Outcome (X × Bytes)) {rest : Bytes} → rest-of o ≡ done rest → ((x : X) → o ≡ done (x, rest) → C) → C
 from-rest (done x) q k = k (x .0) (ap (λ (r : Bytes). done (x .0, r)) (done-inj q))
 from-rest (refused n) q k = absurd (not-done q)
 
@@ -33,6 +34,18 @@ times-ends one n bs e = by-outcome (rest-of (one bs)) (λ cs h. (cs, h)) (λ k h
 
 each-ends : {X Y : Type 0} (one : Y → Reader X) (y : Y) (ys : List Y) (bs : Bytes) → Ends (rest-of (each one (y ∷ ys) bs)) → Ends (rest-of (one y bs))
 each-ends one y ys bs e = by-outcome (rest-of (one y bs)) (λ cs h. (cs, h)) (λ k h. absurd (not-done (sym (each-stop one y ys bs h) ∙ e .1)))
+
+-- What is counted stands behind its count; what is not counted stands there once.
+module _ {X : Type 0} (one : Reader X) where
+  pub counted-ends : (b : Bytes) (at : ℕ) → Ends (rest-of (counted true one (drop at b)))
+      → (at < length b) × (rest-of (counted true one (drop at b)) ≡ rest-of (times (getD b at 0) one (drop (at + 1) b)))
+  counted-ends b at e = by-test (has-count b at)
+      (λ t. (count-some b at t .0, count-there one b at t))
+      (λ t. absurd (not-done (sym (count-none one b at t) ∙ e .1)))
+
+  pub counted-one : (bs : Bytes) → counted false one bs ≡ times 1 one bs
+  unfolding counted
+  counted-one bs = refl
 
 -- A value of so many bytes.
 value-walked : (f : Format) (size : ℕ) (b : Bytes) (p w : ℕ) → p ≤ length b → Ends (rest-of (stored-value f size (drop p b)))
