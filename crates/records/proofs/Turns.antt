@@ -41,7 +41,7 @@ module _ {X : Type 0} {one : Reader X} {b : Bytes} {whole : Outcome Bytes} {n i 
   pub repeated : n ≤ i → Walked b whole (At p)
   repeated h = record { answer = turns-over one b n i p h (l .rest); place = l .place }
 
--- A reader that comes to an end n times does so the next time.
+  -- A reader that comes to an end n times does so the next time.
   pub repeat-there : i < n → Ends whole → Ends (rest-of (one (drop p b)))
   repeat-there less e = by-outcome (rest-of (one (drop p b)))
       (λ cs h. (cs, h))

@@ -64,7 +64,14 @@ pub fn behind_members(t: &[u8], b: &[u8], at: usize, first: usize, end: usize) -
 }
 
 // The same n times.
-pub fn behind_occurrences(t: &[u8], b: &[u8], at: usize, n: usize, first: usize, end: usize) -> usize
+pub fn behind_occurrences(
+    t: &[u8],
+    b: &[u8],
+    at: usize,
+    n: usize,
+    first: usize,
+    end: usize,
+) -> usize
     requires { ⌜ Valid (now t) × (first ≤ end) × (end ≤ length (entries-of (now t))) × (at ≤ length (now b)) × Ends (rest-of (times n (each stored-cell (fields-of (slice first end (entries-of (now t))))) (drop at (now b)))) ⌝ }
     ensures { λ r. ⌜ Behind (now (b .entry)) (rest-of (times n (each stored-cell (fields-of (slice first end (entries-of (now (t .entry)))))) (drop at (now (b .entry))))) r ⌝ }
 {

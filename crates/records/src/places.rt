@@ -35,7 +35,7 @@ pub enum Content {
 
 // A place as it is kept, as a number.
 fn wide(place: u16) -> usize
-    ensures { λ r. ⌜ r ≡ place ⌝ }
+    ensures { λ r. ⌜ (r ≡ place) × (r ≤ 65535) ⌝ }
 {
     place as usize
 }
@@ -43,7 +43,7 @@ fn wide(place: u16) -> usize
 // The place of entry i's part.
 fn place_of(places: &[u16; DIRECTORY], i: usize) -> usize
     requires { ⌜ i < directory ⌝ }
-    ensures { λ r. ⌜ r ≡ getD (now (places .entry)) i 0 ⌝ }
+    ensures { λ r. ⌜ (r ≡ getD (now (places .entry)) i 0) × (r ≤ 65535) ⌝ }
 {
     wide(places[i])
 }
