@@ -171,7 +171,7 @@ fn content_of(b: &[u8], cell: Cell, own: usize, size: usize, multiple: bool, k: 
 fn put_values(
     t: &[u8],
     b: &[u8],
-    places: &[u16; 64],
+    places: &[u16; records::DIRECTORY],
     i: usize,
     o: usize,
     first: usize,
@@ -220,7 +220,7 @@ fn put_values(
 fn put_field(
     t: &[u8],
     b: &[u8],
-    places: &[u16; 64],
+    places: &[u16; records::DIRECTORY],
     j: usize,
     o: usize,
     low: usize,
@@ -258,7 +258,7 @@ fn put_field(
 fn put_fields(
     t: &[u8],
     b: &[u8],
-    places: &[u16; 64],
+    places: &[u16; records::DIRECTORY],
     first: usize,
     stop: usize,
     o: usize,
@@ -293,7 +293,7 @@ fn put_fields(
 fn put_row(
     t: &[u8],
     b: &[u8],
-    places: &[u16; 64],
+    places: &[u16; records::DIRECTORY],
     s: Span,
     o: usize,
     out: &mut [u8],
@@ -341,7 +341,7 @@ fn put_row(
 fn put_span(
     t: &[u8],
     b: &[u8],
-    places: &[u16; 64],
+    places: &[u16; records::DIRECTORY],
     s: Span,
     out: &mut [u8],
     at: usize,
@@ -372,7 +372,7 @@ fn put_span(
 fn put_use(
     t: &[u8],
     b: &[u8],
-    places: &[u16; 64],
+    places: &[u16; records::DIRECTORY],
     f: &[u8],
     u: Use,
     out: &mut [u8],
