@@ -1,5 +1,4 @@
 pub mod Elements
-pub mod Formats
 pub mod Going
 pub mod Rooms
 pub mod Running

@@ -25,11 +25,11 @@ use Rattle.reading.specs.declared.Next.the-variants.{At, Refused}
 use Rattle.reading.specs.declared.Turn.the-variants as turn
 use Rattle.reading.proofs.Going.{before, Going, going-start, going-on, going-off, going-end, items-on, items-off, items-unwritten, append-on, append-off, room-left}
 
-pub no-items : items [] ≡ []
+no-items : items [] ≡ []
 unfolding items join
 no-items = refl
 
-pub first-items : (u : Meaning) (us : List Meaning) → items (u ∷ us) ≡ items-of u ++ items us
+first-items : (u : Meaning) (us : List Meaning) → items (u ∷ us) ≡ items-of u ++ items us
 unfolding items join
 first-items u us = refl
 

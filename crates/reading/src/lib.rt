@@ -4,19 +4,18 @@ ghost use mathlib.Core.List.{_∷_, [], List};
 ghost use mathlib.Core.Bool.{true, false};
 ghost use Prim.Native.Nat.{_+_, _-_, _≤_, _<_};
 ghost use lib.ListN.{length, replicate, drop};
-ghost use Rattle.rules.specs.Outcome.{done, is-done};
+ghost use Rattle.rules.specs.Outcome.{done};
 ghost use Rattle.rules.specs.Characters.{space};
 ghost use Rattle.rules.specs.Values.{allowed, null, carried};
 ghost use Rattle.rules.specs.Limits.{highest-index};
 ghost use Rattle.rules.specs.Lists.{Bytes};
-ghost use Rattle.rules.specs.Use as rules;
-ghost use Rattle.rules.specs.Use.{value-items, just, items-of, items};
+ghost use Rattle.rules.specs.Use.{value-items, just, items-of};
 ghost use Rattle.kinds.specs.Formats.{format-at};
 ghost use Rattle.tables.specs.Entries.{Valid, entries-of};
 ghost use Rattle.tables.specs.Places.{inside-at};
 ghost use Rattle.formats.specs.Elements.{range};
 ghost use Rattle.formats.specs.Syntax.{parsed};
-ghost use Rattle.uses.specs.Meant.{Span-held, Use-held, use-meant, uses-of};
+ghost use Rattle.uses.specs.Meant.{Span-held, Use-held, use-meant};
 ghost use Rattle.records.specs.Places.{Holds, Value-of};
 ghost use Rattle.reading.specs.Filling.{Filling, within};
 ghost use Rattle.reading.specs.Runs.{Fills, carried-from, Lies, Cell-holds, asked-at, Askable, Only, field-items, row-items, span-items};
@@ -25,7 +24,6 @@ use formats::syntax::Step;
 use records::places::Cell;
 use records::places::Content;
 use uses::Meant;
-use uses::Next as Ahead;
 use uses::Span;
 use uses::Use;
 use values::Fit;
@@ -395,47 +393,6 @@ fn put_use(
             put_count(count, out, at, end, write)
         }
         Use::Values(s) => put_span(t, b, places, s, out, at, end, write),
-    }
-}
-
-// The items of a good format whose elements keep the use rules, from the front of out on; out has room up to end.
-pub fn fill(
-    t: &[u8],
-    b: &[u8],
-    places: &[u16; 64],
-    f: &[u8],
-    out: &mut [u8],
-    end: usize,
-    write: bool,
-) -> Next
-    requires { ⌜ Valid (now t) × Holds (entries-of (now t)) (now b) (now places) × (is-done (uses-of (entries-of (now t)) (now f)) ≡ true) × (end ≤ length (now out)) ⌝ }
-    ensures { λ r. ⌜ ((us : List rules.Use) → uses-of (entries-of (now (t .entry))) (now (f .entry)) ≡ done us → Fills (entries-of (now (t .entry))) (now (b .entry)) (now (places .entry)) (items us) 0 end write (now (out .entry)) (now (out .exit)) r) ⌝ }
-{
-    let mut last = [0u8; 64];
-    let mut at = 0;
-    let mut p = 0;
-    loop {
-        match uses::next_use(t, f, at, &mut last) {
-            Ahead::More(u, place) => {
-                let next = put_use(t, b, places, f, u, out, p, end, write);
-                match next {
-                    Next::Refused(n) => {
-                        return Next::Refused(n);
-                    }
-                    Next::At(q) => {
-                        p = q;
-                    }
-                }
-                at = place;
-            }
-            Ahead::Last(u) => {
-                return put_use(t, b, places, f, u, out, p, end, write);
-            }
-            // The use rules are kept, so that this does not happen.
-            Ahead::Refused => {
-                return Next::Refused(5);
-            }
-        }
     }
 }
 
