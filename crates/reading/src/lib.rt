@@ -464,7 +464,7 @@ fn uses_behind(t: &[u8], f: &[u8], from: usize, last: &mut [u8; 64], n: u8) -> u
 pub fn scan(
     t: &[u8],
     b: &[u8],
-    places: &[u16; 64],
+    places: &[u16; records::DIRECTORY],
     f: &[u8],
     out: &mut [u8],
     end: usize,
