@@ -1,8 +1,10 @@
 pub mod Elements
-pub mod Formats
 pub mod Going
+pub mod Rooms
 pub mod Running
+pub mod Scanning
 pub mod Singles
 pub mod Spans
+pub mod Turns
 pub mod Unbare
 pub mod Values

@@ -1,30 +1,23 @@
 -- A loop over items for whatever record the bytes hold: its start, a turn that takes some items off the front, a stop and its end.
-use mathlib.Core.Path.{_≡_, sym, _∙_, ap, subst}
-use mathlib.Core.Bool.{Bool, true}
+use mathlib.Core.Path.{_≡_, sym, _∙_, subst}
+use mathlib.Core.Bool.{Bool}
 use mathlib.Core.List.{List, [], _∷_, _++_, append-nil}
 use Prim.Native.Nat.{ℕ, _+_, _-_, _≤_}
 use native.Mathlib.Omega.{arith}
 use lib.Dec.{leb}
 use lib.ListN.{length}
-use Rattle.rules.specs.Outcome.{done, is-done}
 use Rattle.rules.specs.Lists.{Bytes}
 use Rattle.rules.specs.Table.{Part, Entry, parts}
 use Rattle.rules.specs.Record.{Record}
 use Rattle.rules.specs.Use.{Item}
 use Rattle.rules.specs.Services.{item-bytes, filled}
-use Rattle.rules.proofs.Steps.{by-test, by-outcome, not-both}
+use Rattle.rules.proofs.Steps.{by-test, by-outcome}
 use Rattle.records.specs.Places.{Held, Holds}
 use Rattle.reading.specs.Filling.{within}
-use Rattle.reading.specs.Runs.{Fills, Sound}
+use Rattle.reading.specs.Runs.{Fills}
 use Rattle.reading.specs.declared.Next.{Next}
 use Rattle.reading.specs.declared.Next.the-variants.{At, Refused}
-use Rattle.reading.proofs.Going.{Going, going-start, going-end, turn, turn-within, stop, append-off}
-
--- Items that are all done are done at their front.
-done-front : (ps : List Part) (r : Record) (room : ℕ) (xs ys : List Item) → is-done (filled ps r room (xs ++ ys)) ≡ true → is-done (filled ps r room xs) ≡ true
-done-front ps r room xs ys d = by-outcome (filled ps r room xs)
-    (λ a h. ap is-done h)
-    (λ k h. absurd (not-both (sym (ap is-done (append-off ps r room xs ys k h)) ∙ d)))
+use Rattle.reading.proofs.Going.{Going, going-start, going-end, turn, turn-within, stop}
 
 pub record Running (es : List Entry) (b : Bytes) (places : List ℕ) (end : ℕ) (whole rest : List Item) (start at : ℕ) (write : Bool) (out₀ out : Bytes) : Type 0 where
   pub holds : Holds es b places
@@ -33,12 +26,12 @@ pub record Running (es : List Entry) (b : Bytes) (places : List ℕ) (end : ℕ)
   pub going : (r : Record) → Held es b places r → Going (filled (parts es) r (end - start) whole) (filled (parts es) r (end - at) rest) start at write out₀ out
 
 pub run-start : (es : List Entry) (b : Bytes) (places : List ℕ) (end : ℕ) (xs : List Item) (at : ℕ) (write : Bool) (out : Bytes)
-    → Holds es b places → at ≤ end → end ≤ length out → Sound es b places xs at end write → Running es b places end xs xs at at write out out
-run-start es b places end xs at write out k h l s = record {
+    → Holds es b places → at ≤ end → end ≤ length out → Running es b places end xs xs at at write out out
+run-start es b places end xs at write out k h l = record {
   holds = k;
   fits = h;
   room = l;
-  going = λ r p. going-start (filled (parts es) r (end - at) xs) at write out (λ w. s w r p);
+  going = λ r p. going-start (filled (parts es) r (end - at) xs) at write out;
 }
 
 module _ {es : List Entry} {b : Bytes} {places : List ℕ} {end : ℕ} {whole rest : List Item} {start at : ℕ} {write : Bool} {out₀ out : Bytes}
@@ -46,9 +39,6 @@ module _ {es : List Entry} {b : Bytes} {places : List ℕ} {end : ℕ} {whole re
   module _ (xs ys : List Item) (e : rest ≡ xs ++ ys) where
     parted : (r : Record) → Held es b places r → Going (filled (parts es) r (end - start) whole) (filled (parts es) r (end - at) (xs ++ ys)) start at write out₀ out
     parted r p = subst (λ zs. Going (filled (parts es) r (end - start) whole) (filled (parts es) r (end - at) zs) start at write out₀ out) e (g .going r p)
-
-    pub run-sound : Sound es b places xs at end write
-    run-sound w r p = done-front (parts es) r (end - at) xs ys (parted r p .sound w)
 
     module _ {out′ : Bytes} {n : Next} (f : Fills es b places xs at end write out out′ n) where
       pub run-on : (at′ : ℕ) → n ≡ At at′ → Running es b places end whole ys start at′ write out₀ out′
@@ -58,7 +48,7 @@ module _ {es : List Entry} {b : Bytes} {places : List ℕ} {end : ℕ} {whole re
           let t = turn (parts es) r end xs ys (parted r p) (f r p) (g .fits) (g .room) at′ q in
           record {
             holds = g .holds;
-            fits = turn-within (parts es) r end xs ys (parted r p) (f r p) (g .fits) (g .room) at′ q .1;
+            fits = turn-within (parts es) r end xs ys (parted r p) (f r p) (g .fits) (g .room) at′ q;
             room = omega (arith, t .same, g .going r p .same, g .room);
             going = λ r p. turn (parts es) r end xs ys (parted r p) (f r p) (g .fits) (g .room) at′ q;
           }
@@ -82,12 +72,9 @@ run-same g = g .going (g .holds .0) (g .holds .1) .same
 
 -- The same items, said otherwise.
 module _ (es : List Entry) (b : Bytes) (places : List ℕ) {xs ys : List Item} (e : xs ≡ ys) (at end : ℕ) (write : Bool) where
-  pub sound-as : Sound es b places xs at end write → Sound es b places ys at end write
-  sound-as = subst (λ (zs : List Item). Sound es b places zs at end write) e
-
   pub fills-as : {out out′ : Bytes} {n : Next} → Fills es b places ys at end write out out′ n → Fills es b places xs at end write out out′ n
   fills-as {out} {out′} {n} = subst (λ (zs : List Item). Fills es b places zs at end write out out′ n) (sym e)
 
   -- No item: nothing changes.
-  pub fills-none : {out : Bytes} → ys ≡ [] → Holds es b places → at ≤ end → end ≤ length out → Sound es b places xs at end write → Fills es b places xs at end write out out (At at)
-  fills-none {out} none k h l s = run-end (run-start es b places end xs at write out k h l s) (e ∙ none)
+  pub fills-none : {out : Bytes} → ys ≡ [] → Holds es b places → at ≤ end → end ≤ length out → Fills es b places xs at end write out out (At at)
+  fills-none {out} none k h l = run-end (run-start es b places end xs at write out k h l) (e ∙ none)

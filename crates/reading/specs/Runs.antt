@@ -4,7 +4,7 @@ use mathlib.Core.Bool.{Bool, true, false}
 use mathlib.Core.List.{List, [], map}
 use Prim.Native.Nat.{ℕ, _-_, _≤_, _<_}
 use lib.ListN.{length, take, drop, getD}
-use Rattle.rules.specs.Outcome.{Outcome, done, is-done}
+use Rattle.rules.specs.Outcome.{Outcome, done}
 use Rattle.rules.specs.Lists.{Bytes}
 use Rattle.rules.specs.Values.{Format, allowed, converts, carried, null}
 use Rattle.rules.specs.Table.{Entry, parts}
@@ -30,11 +30,6 @@ use Rattle.reading.specs.declared.Next.{Next}
 abbrev pub Fills : List Entry → Bytes → List ℕ → List Item → ℕ → ℕ → Bool → Bytes → Bytes → Next → Type 0
 Fills es b places xs at end write entry exit n =
     (r : Record) → Held es b places r → Filling (filled (parts es) r (end - at) xs) at write entry exit n
-
--- They are written only where all of them are done.
-abbrev pub Sound : List Entry → Bytes → List ℕ → List Item → ℕ → ℕ → Bool → Type 0
-Sound es b places xs at end write =
-    write ≡ true → (r : Record) → Held es b places r → is-done (filled (parts es) r (end - at) xs) ≡ true
 
 -- A value by its content, carried to the format and length in effect; null where there is none.
 abbrev pub carried-from : Bytes → Format → Format → ℕ → Content → Outcome Bytes

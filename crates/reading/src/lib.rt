@@ -1,27 +1,29 @@
-// The service read, behind its tests of table, record and format: the items are tested one after the other, and then written.
+// The service read, behind its tests of table and record: one pass over a format tests its elements and items, and writes where it is asked to.
 ghost use mathlib.Core.Path.{_≡_};
 ghost use mathlib.Core.List.{_∷_, [], List};
 ghost use mathlib.Core.Bool.{true, false};
 ghost use Prim.Native.Nat.{_+_, _-_, _≤_, _<_};
-ghost use lib.ListN.{length, replicate};
-ghost use Rattle.rules.specs.Outcome.{done, is-done};
+ghost use lib.ListN.{length, replicate, drop};
+ghost use Rattle.rules.specs.Outcome.{done};
 ghost use Rattle.rules.specs.Characters.{space};
 ghost use Rattle.rules.specs.Values.{allowed, null, carried};
 ghost use Rattle.rules.specs.Limits.{highest-index};
 ghost use Rattle.rules.specs.Lists.{Bytes};
-ghost use Rattle.rules.specs.Use as rules;
-ghost use Rattle.rules.specs.Use.{value-items, just, items-of, items};
+ghost use Rattle.rules.specs.Use.{value-items, just, items-of};
 ghost use Rattle.kinds.specs.Formats.{format-at};
 ghost use Rattle.tables.specs.Entries.{Valid, entries-of};
 ghost use Rattle.tables.specs.Places.{inside-at};
 ghost use Rattle.formats.specs.Elements.{range};
-ghost use Rattle.uses.specs.Meant.{Span-held, Use-held, use-meant, uses-of};
+ghost use Rattle.formats.specs.Syntax.{parsed};
+ghost use Rattle.uses.specs.Meant.{Span-held, Use-held, use-meant};
 ghost use Rattle.records.specs.Places.{Holds, Value-of};
 ghost use Rattle.reading.specs.Filling.{Filling, within};
-ghost use Rattle.reading.specs.Runs.{Fills, Sound, carried-from, Lies, Cell-holds, asked-at, Askable, Only, field-items, row-items, span-items};
+ghost use Rattle.reading.specs.Runs.{Fills, carried-from, Lies, Cell-holds, asked-at, Askable, Only, field-items, row-items, span-items};
+ghost use Rattle.reading.specs.Turns.{Turned, Unless-used, unless, Scans};
+use formats::syntax::Step;
 use records::places::Cell;
 use records::places::Content;
-use uses::Next as Ahead;
+use uses::Meant;
 use uses::Span;
 use uses::Use;
 use values::Fit;
@@ -29,6 +31,13 @@ use values::Fit;
 // Where a run of items ends in the record buffer, or the number of its refusal.
 pub enum Next {
     At(usize),
+    Refused(u8),
+}
+
+// The use of an element and the place where the next element begins, the use of the last element, or the number of a refusal.
+enum Turn {
+    More(Use, usize),
+    Last(Use),
     Refused(u8),
 }
 
@@ -160,7 +169,7 @@ fn content_of(b: &[u8], cell: Cell, own: usize, size: usize, multiple: bool, k: 
 fn put_values(
     t: &[u8],
     b: &[u8],
-    places: &[u16; 64],
+    places: &[u16; records::DIRECTORY],
     i: usize,
     o: usize,
     first: usize,
@@ -172,7 +181,7 @@ fn put_values(
     end: usize,
     write: bool,
 ) -> Next
-    requires { ⌜ Valid (now t) × Askable (entries-of (now t)) i o format size × (1 ≤ first) × (last ≤ highest-index) × Holds (entries-of (now t)) (now b) (now places) × (at ≤ end) × (end ≤ length (now out)) × Sound (entries-of (now t)) (now b) (now places) (value-items (asked-at (entries-of (now t)) i format size ∷ []) (just o) (range first last) false) at end write ⌝ }
+    requires { ⌜ Valid (now t) × Askable (entries-of (now t)) i o format size × (1 ≤ first) × (last ≤ highest-index) × Holds (entries-of (now t)) (now b) (now places) × (at ≤ end) × (end ≤ length (now out)) ⌝ }
     ensures { λ r. ⌜ Fills (entries-of (now (t .entry))) (now (b .entry)) (now (places .entry)) (value-items (asked-at (entries-of (now (t .entry))) i format size ∷ []) (just o) (range first last) false) at end write (now (out .entry)) (now (out .exit)) r ⌝ }
 {
     let e = tables::entry_at(t, i);
@@ -209,7 +218,7 @@ fn put_values(
 fn put_field(
     t: &[u8],
     b: &[u8],
-    places: &[u16; 64],
+    places: &[u16; records::DIRECTORY],
     j: usize,
     o: usize,
     low: usize,
@@ -219,7 +228,7 @@ fn put_field(
     end: usize,
     write: bool,
 ) -> Next
-    requires { ⌜ Valid (now t) × (j < length (entries-of (now t))) × (1 ≤ o) × (inside-at (entries-of (now t)) j ≡ false → o ≡ 1) × (1 ≤ low) × (high ≤ highest-index) × Holds (entries-of (now t)) (now b) (now places) × (at ≤ end) × (end ≤ length (now out)) × Sound (entries-of (now t)) (now b) (now places) (field-items (entries-of (now t)) j (j + 1) o low high) at end write ⌝ }
+    requires { ⌜ Valid (now t) × (j < length (entries-of (now t))) × (1 ≤ o) × (inside-at (entries-of (now t)) j ≡ false → o ≡ 1) × (1 ≤ low) × (high ≤ highest-index) × Holds (entries-of (now t)) (now b) (now places) × (at ≤ end) × (end ≤ length (now out)) ⌝ }
     ensures { λ r. ⌜ Fills (entries-of (now (t .entry))) (now (b .entry)) (now (places .entry)) (field-items (entries-of (now (t .entry))) j (j + 1) o low high) at end write (now (out .entry)) (now (out .exit)) r ⌝ }
 {
     let e = tables::entry_at(t, j);
@@ -247,7 +256,7 @@ fn put_field(
 fn put_fields(
     t: &[u8],
     b: &[u8],
-    places: &[u16; 64],
+    places: &[u16; records::DIRECTORY],
     first: usize,
     stop: usize,
     o: usize,
@@ -258,7 +267,7 @@ fn put_fields(
     end: usize,
     write: bool,
 ) -> Next
-    requires { ⌜ Valid (now t) × (first ≤ stop) × (stop ≤ length (entries-of (now t))) × (1 ≤ o) × Only (entries-of (now t)) first stop o × (1 ≤ low) × (high ≤ highest-index) × Holds (entries-of (now t)) (now b) (now places) × (at ≤ end) × (end ≤ length (now out)) × Sound (entries-of (now t)) (now b) (now places) (field-items (entries-of (now t)) first stop o low high) at end write ⌝ }
+    requires { ⌜ Valid (now t) × (first ≤ stop) × (stop ≤ length (entries-of (now t))) × (1 ≤ o) × Only (entries-of (now t)) first stop o × (1 ≤ low) × (high ≤ highest-index) × Holds (entries-of (now t)) (now b) (now places) × (at ≤ end) × (end ≤ length (now out)) ⌝ }
     ensures { λ r. ⌜ Fills (entries-of (now (t .entry))) (now (b .entry)) (now (places .entry)) (field-items (entries-of (now (t .entry))) first stop o low high) at end write (now (out .entry)) (now (out .exit)) r ⌝ }
 {
     let mut p = at;
@@ -282,7 +291,7 @@ fn put_fields(
 fn put_row(
     t: &[u8],
     b: &[u8],
-    places: &[u16; 64],
+    places: &[u16; records::DIRECTORY],
     s: Span,
     o: usize,
     out: &mut [u8],
@@ -290,7 +299,7 @@ fn put_row(
     end: usize,
     write: bool,
 ) -> Next
-    requires { ⌜ Valid (now t) × Span-held (entries-of (now t)) s × (1 ≤ o) × Only (entries-of (now t)) (s .first) (s .end) o × Holds (entries-of (now t)) (now b) (now places) × (at ≤ end) × (end ≤ length (now out)) × Sound (entries-of (now t)) (now b) (now places) (row-items (entries-of (now t)) s o) at end write ⌝ }
+    requires { ⌜ Valid (now t) × Span-held (entries-of (now t)) s × (1 ≤ o) × Only (entries-of (now t)) (s .first) (s .end) o × Holds (entries-of (now t)) (now b) (now places) × (at ≤ end) × (end ≤ length (now out)) ⌝ }
     ensures { λ r. ⌜ Fills (entries-of (now (t .entry))) (now (b .entry)) (now (places .entry)) (row-items (entries-of (now (t .entry))) s o) at end write (now (out .entry)) (now (out .exit)) r ⌝ }
 {
     if s.standard {
@@ -330,14 +339,14 @@ fn put_row(
 fn put_span(
     t: &[u8],
     b: &[u8],
-    places: &[u16; 64],
+    places: &[u16; records::DIRECTORY],
     s: Span,
     out: &mut [u8],
     at: usize,
     end: usize,
     write: bool,
 ) -> Next
-    requires { ⌜ Valid (now t) × Span-held (entries-of (now t)) s × Holds (entries-of (now t)) (now b) (now places) × (at ≤ end) × (end ≤ length (now out)) × Sound (entries-of (now t)) (now b) (now places) (span-items (entries-of (now t)) s (s .from)) at end write ⌝ }
+    requires { ⌜ Valid (now t) × Span-held (entries-of (now t)) s × Holds (entries-of (now t)) (now b) (now places) × (at ≤ end) × (end ≤ length (now out)) ⌝ }
     ensures { λ r. ⌜ Fills (entries-of (now (t .entry))) (now (b .entry)) (now (places .entry)) (span-items (entries-of (now (t .entry))) s (s .from)) at end write (now (out .entry)) (now (out .exit)) r ⌝ }
 {
     let mut p = at;
@@ -361,7 +370,7 @@ fn put_span(
 fn put_use(
     t: &[u8],
     b: &[u8],
-    places: &[u16; 64],
+    places: &[u16; records::DIRECTORY],
     f: &[u8],
     u: Use,
     out: &mut [u8],
@@ -369,7 +378,7 @@ fn put_use(
     end: usize,
     write: bool,
 ) -> Next
-    requires { ⌜ Valid (now t) × Use-held (entries-of (now t)) (now f) u × Holds (entries-of (now t)) (now b) (now places) × (at ≤ end) × (end ≤ length (now out)) × Sound (entries-of (now t)) (now b) (now places) (items-of (use-meant (entries-of (now t)) (now f) u)) at end write ⌝ }
+    requires { ⌜ Valid (now t) × Use-held (entries-of (now t)) (now f) u × Holds (entries-of (now t)) (now b) (now places) × (at ≤ end) × (end ≤ length (now out)) ⌝ }
     ensures { λ r. ⌜ Fills (entries-of (now (t .entry))) (now (b .entry)) (now (places .entry)) (items-of (use-meant (entries-of (now (t .entry))) (now (f .entry)) u)) at end write (now (out .entry)) (now (out .exit)) r ⌝ }
 {
     match u {
@@ -387,29 +396,96 @@ fn put_use(
     }
 }
 
-// The items of a good format whose elements keep the use rules, from the front of out on; out has room up to end.
-pub fn fill(
+// A refusal n stands, unless the syntax of the elements from a place on is bad, which is 3.
+fn syntax_behind(f: &[u8], from: usize, n: u8) -> u8
+    requires { ⌜ from ≤ length (now f) ⌝ }
+    ensures { λ r. ⌜ r ≡ unless (parsed (drop from (now (f .entry)))) n ⌝ }
+{
+    let mut at = from;
+    loop {
+        match formats::syntax::next(f, at) {
+            Step::More(_, place) => {
+                at = place;
+            }
+            Step::Last(_) => {
+                return n;
+            }
+            Step::Bad => {
+                return 3;
+            }
+        }
+    }
+}
+
+// The use of the element at a place, or the number that the elements from there on are refused with.
+fn use_at(t: &[u8], f: &[u8], at: usize, last: &mut [u8; 64]) -> Turn
+    requires { ⌜ Valid (now t) × (at ≤ length (now f)) × (length (now last) ≡ 64) ⌝ }
+    ensures { λ r. ⌜ Turned (entries-of (now (t .entry))) (now (f .entry)) at (now (last .entry)) (now (last .exit)) r ⌝ }
+{
+    match formats::syntax::next(f, at) {
+        Step::More(e, place) => match uses::use_of(t, last, e) {
+            Meant::As(u) => {
+                uses::remember(t, last, u);
+                Turn::More(u, place)
+            }
+            Meant::Refused(n) => Turn::Refused(syntax_behind(f, place, n)),
+        },
+        Step::Last(e) => match uses::use_of(t, last, e) {
+            Meant::As(u) => Turn::Last(u),
+            Meant::Refused(n) => Turn::Refused(n),
+        },
+        Step::Bad => Turn::Refused(3),
+    }
+}
+
+// A refusal n of an item stands, unless the elements from a place on are refused.
+fn uses_behind(t: &[u8], f: &[u8], from: usize, last: &mut [u8; 64], n: u8) -> u8
+    requires { ⌜ Valid (now t) × (from ≤ length (now f)) × (length (now last) ≡ 64) ⌝ }
+    ensures { λ r. ⌜ Unless-used (entries-of (now (t .entry))) (now (f .entry)) (now (last .entry)) from n r ⌝ }
+{
+    let mut at = from;
+    loop {
+        match use_at(t, f, at, last) {
+            Turn::More(_, place) => {
+                at = place;
+            }
+            Turn::Last(_) => {
+                return n;
+            }
+            Turn::Refused(k) => {
+                return k;
+            }
+        }
+    }
+}
+
+// The items of a format from the front of out on, which has room up to end: where they end, or the number of the first refusal, 3 for
+// the whole format, then 4 and 5 for its elements, then 9 and 7 for its items.
+pub fn scan(
     t: &[u8],
     b: &[u8],
-    places: &[u16; 64],
+    places: &[u16; records::DIRECTORY],
     f: &[u8],
     out: &mut [u8],
     end: usize,
     write: bool,
 ) -> Next
-    requires { ⌜ Valid (now t) × Holds (entries-of (now t)) (now b) (now places) × (is-done (uses-of (entries-of (now t)) (now f)) ≡ true) × (end ≤ length (now out)) × ((us : List rules.Use) → uses-of (entries-of (now t)) (now f) ≡ done us → Sound (entries-of (now t)) (now b) (now places) (items us) 0 end write) ⌝ }
-    ensures { λ r. ⌜ ((us : List rules.Use) → uses-of (entries-of (now (t .entry))) (now (f .entry)) ≡ done us → Fills (entries-of (now (t .entry))) (now (b .entry)) (now (places .entry)) (items us) 0 end write (now (out .entry)) (now (out .exit)) r) ⌝ }
+    requires { ⌜ Valid (now t) × Holds (entries-of (now t)) (now b) (now places) × (end ≤ length (now out)) ⌝ }
+    ensures { λ r. ⌜ Scans (entries-of (now (t .entry))) (now (b .entry)) (now (places .entry)) (now (f .entry)) end write (now (out .entry)) (now (out .exit)) r ⌝ }
 {
+    if rules::LONGEST_FORMAT < f.len() {
+        return Next::Refused(3);
+    }
     let mut last = [0u8; 64];
     let mut at = 0;
     let mut p = 0;
     loop {
-        match uses::next_use(t, f, at, &mut last) {
-            Ahead::More(u, place) => {
+        match use_at(t, f, at, &mut last) {
+            Turn::More(u, place) => {
                 let next = put_use(t, b, places, f, u, out, p, end, write);
                 match next {
                     Next::Refused(n) => {
-                        return Next::Refused(n);
+                        return Next::Refused(uses_behind(t, f, place, &mut last, n));
                     }
                     Next::At(q) => {
                         p = q;
@@ -417,12 +493,11 @@ pub fn fill(
                 }
                 at = place;
             }
-            Ahead::Last(u) => {
+            Turn::Last(u) => {
                 return put_use(t, b, places, f, u, out, p, end, write);
             }
-            // The use rules are kept, so that this does not happen.
-            Ahead::Refused => {
-                return Next::Refused(5);
+            Turn::Refused(n) => {
+                return Next::Refused(n);
             }
         }
     }

@@ -34,7 +34,7 @@ returns-2 c =
     let a = c .before .before .before .before .before .before .before .before .args in
     let bs = null (format-at (a .format)) (a .size) in
     item-written (a .end - a .at) (a .at) bs (a .out .now) (a .write) _ (c .before .before .before .before .if2 .taken)
-    (omega (arith, c .before .before .before .before .before .before .null-length .ensures)) (omega (arith, c .before .before .before .before .before .before .null-length .ensures)) (c .before .before .write-null .ensures)
+    (omega (arith, c .before .before .before .before .before .before .null-length .ensures)) (omega (arith, c .before .before .before .before .before .before .null-length .ensures)) (omega (arith, c .before .before .before .before .before .before .null-length .ensures)) (c .before .before .write-null .ensures)
 
 add-t8 : tie.Need-add-t8
 add-t8 c = search needs

@@ -7,7 +7,7 @@ use Rattle.tables.specs.Entries.{entries-of}
 use Rattle.formats.specs.Elements.{range}
 use Rattle.uses.specs.Meant.{asked-of}
 use Rattle.reading.specs.Runs.{row-items, span-items}
-use Rattle.reading.proofs.Running.{Running, run-start, run-sound, run-on, run-off, run-end, run-same}
+use Rattle.reading.proofs.Running.{Running, run-start, run-on, run-off, run-end, run-same}
 use Rattle.reading.proofs.Spans.{bounds}
 use borrow.Author.Needs.{needs}
 use Rattle.reading.proofs.put_span.Statement.{statement}
@@ -25,7 +25,7 @@ loop-holds : tie.Need-loop-holds Inv-loop μ-loop
 loop-holds c =
     let s = c .before .before .before in
     let a = s .args in
-    (run-start (entries-of (a .t .now)) (a .b .now) (a .places .now) (a .end) _ (a .at) (a .write) (a .out .now) (s .pre .2) (s .pre .3) (s .pre .4) (s .pre .5), bounds (a .s .from) (a .s .upto) (s .pre .1 .occurrences) .0)
+    (run-start (entries-of (a .t .now)) (a .b .now) (a .places .now) (a .end) _ (a .at) (a .write) (a .out .now) (s .pre .2) (s .pre .3) (s .pre .4), bounds (a .s .from) (a .s .upto) (s .pre .1 .occurrences) .0)
 
 put-row-requires : tie.Need-put-row-requires Inv-loop μ-loop
 put-row-requires c κs =
@@ -40,8 +40,6 @@ put-row-requires c κs =
       s .pre .2,
       l .inv .0 .fits,
       l .inv .0 .room,
-      run-sound (l .inv .0) (row-items (entries-of (a .t .now)) (a .s) (l .o)) (span-items (entries-of (a .t .now)) (a .s) (l .o + 1))
-          (first-occurrence (asked-of (entries-of (a .t .now)) (a .s)) (range (a .s .«value_from») (a .s .«value_upto»)) false (l .o) (a .s .upto) (c .before .if1 .taken)),
     )
 
 enum-known-next : tie.Need-enum-known-next Inv-loop μ-loop

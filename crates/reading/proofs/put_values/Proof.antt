@@ -37,7 +37,7 @@ loop-holds : tie.Need-loop-holds Inv-loop μ-loop
 loop-holds c =
     let s = c .before .before .before .before .before in
     let a = s .args in
-    (run-start (entries-of (a .t .now)) (a .b .now) (a .places .now) (a .end) _ (a .at) (a .write) (a .out .now) (s .pre .4) (s .pre .5) (s .pre .6) (s .pre .7), s .pre .2)
+    (run-start (entries-of (a .t .now)) (a .b .now) (a .places .now) (a .end) _ (a .at) (a .write) (a .out .now) (s .pre .4) (s .pre .5) (s .pre .6), s .pre .2)
 
 cast-content-of : tie.Need-cast-content-of Inv-loop μ-loop
 cast-content-of c = search needs
