@@ -1,8 +1,8 @@
--- A loop over items: what is left of them, from where it stands, ends and writes as the whole does from its start. A turn takes some
--- items off the front, a stop is their refusal, and the end is that none is left.
+-- A loop over outcomes: what is left of them, from where it stands, ends and writes as the whole does from its start. A turn takes some
+-- off the front, a stop is their refusal, and the end is that none is left.
 use mathlib.Core.Path.{_≡_, refl, sym, _∙_, ap}
 use mathlib.Core.Bool.{Bool, true, false}
-use mathlib.Core.List.{List, [], _∷_, _++_, append-assoc}
+use mathlib.Core.List.{List, [], _∷_, _++_, map, append-assoc}
 use Prim.Native.Nat.{ℕ, zero, suc, _+_, _-_, _≤_, _<_}
 use native.Mathlib.Nat.{sub-zero, add-zero}
 use native.Mathlib.Omega.{arith}
@@ -18,6 +18,7 @@ use Rattle.rules.proofs.Steps.{from-bind, from-need, need-true, done-inj, not-d
 use Rattle.buffer.specs.Splice.{splice}
 use Rattle.buffer.proofs.Laws.{splice-nil, splice-then}
 use Rattle.reading.specs.Filling.{placed, left-as, Counts, Filling}
+use Rattle.reading.specs.Runs.{together}
 use Rattle.reading.specs.declared.Next.{Next}
 use Rattle.reading.specs.declared.Next.the-variants.{At, Refused}
 
@@ -33,44 +34,47 @@ before-both : (a b : Bytes) (o : Outcome Bytes) → before a (before b o) ≡ be
 before-both a b (done c) = ap done (sym (append-assoc a b c))
 before-both a b (refused k) = refl
 
--- Items in two runs.
-module _ (ps : List Part) (r : Record) where
-  pub filled-length : (room : ℕ) (xs : List Item) (bs : Bytes) → filled ps r room xs ≡ done bs → length bs ≤ room
-  unfolding filled
-  filled-length room [] bs p = let e = done-inj p in rw (← e) (omega arith)
-  filled-length room (x ∷ xs) bs p =
-      from-bind (item-bytes ps r x) _ p λ b h k.
-      from-need (leb (length b) room) 7 _ k λ t k₂.
-      from-bind (filled ps r (room - length b) xs) _ k₂ λ cs h₃ k₃.
-      let l = filled-length (room - length b) xs cs h₃ in
-      let m = leb→le (length b) room t in
-      let e = done-inj k₃ in
-      rw (← e, length-append) (omega arith)
+-- Outcomes in two runs.
+pub together-length : (room : ℕ) (os : List (Outcome Bytes)) (bs : Bytes) → together room os ≡ done bs → length bs ≤ room
+unfolding together
+together-length room [] bs p = let e = done-inj p in rw (← e) (omega arith)
+together-length room (done b ∷ os) bs p =
+    from-need (leb (length b) room) 7 _ p λ t k.
+    from-bind (together (room - length b) os) _ k λ cs h k₂.
+    let l = together-length (room - length b) os cs h in
+    let m = leb→le (length b) room t in
+    let e = done-inj k₂ in
+    rw (← e, length-append) (omega arith)
+together-length room (refused n ∷ os) bs p = absurd (not-done p)
 
-  append-on : (room : ℕ) (xs ys : List Item) (a : Bytes) → filled ps r room xs ≡ done a
-      → filled ps r room (xs ++ ys) ≡ before a (filled ps r (room - length a) ys)
-  unfolding filled
-  append-on room [] ys a p = rw (← done-inj p, sub-zero) (sym (before-none (filled ps r room ys)))
-  append-on room (x ∷ xs) ys a p =
-      from-bind (item-bytes ps r x) _ p λ b h k.
-      from-need (leb (length b) room) 7 _ k λ t k₂.
-      from-bind (filled ps r (room - length b) xs) _ k₂ λ cs h₃ k₃.
-      let e = done-inj k₃ in
-      let m : room - length (b ++ cs) ≡ room - length b - length cs = rw length-append (omega arith) in
-      rw (h, need-true (leb (length b) room) 7 t, append-on (room - length b) xs ys cs h₃, ← e, m) (before-both b cs (filled ps r (room - length b - length cs) ys))
+append-on : (room : ℕ) (xs ys : List (Outcome Bytes)) (a : Bytes) → together room xs ≡ done a → together room (xs ++ ys) ≡ before a (together (room - length a) ys)
+unfolding together
+append-on room [] ys a p = rw (← done-inj p, sub-zero) (sym (before-none (together room ys)))
+append-on room (done b ∷ xs) ys a p =
+    from-need (leb (length b) room) 7 _ p λ t k.
+    from-bind (together (room - length b) xs) _ k λ cs h k₂.
+    let e = done-inj k₂ in
+    let m : room - length (b ++ cs) ≡ room - length b - length cs = rw length-append (omega arith) in
+    rw (need-true (leb (length b) room) 7 t, append-on (room - length b) xs ys cs h, ← e, m) (before-both b cs (together (room - length b - length cs) ys))
+append-on room (refused n ∷ xs) ys a p = absurd (not-done p)
 
-  pub append-off : (room : ℕ) (xs ys : List Item) (k : ℕ) → filled ps r room xs ≡ refused k → filled ps r room (xs ++ ys) ≡ refused k
-  unfolding filled
-  append-off room [] ys k p = absurd (not-done (sym p))
-  append-off room (x ∷ xs) ys k p = by-outcome (item-bytes ps r x)
-      (λ b h. by-test (leb (length b) room)
-      (λ t. by-outcome (filled ps r (room - length b) xs)
-      (λ cs h₃. absurd (not-done (sym (rw (h, t, h₃) at p))))
-      (λ n h₃. rw (h, t, append-off (room - length b) xs ys n h₃) (rw (h, t, h₃) at p)))
-      (λ t. rw (h, t) (rw (h, t) at p)))
-      (λ n h. rw h (rw h at p))
+append-off : (room : ℕ) (xs ys : List (Outcome Bytes)) (k : ℕ) → together room xs ≡ refused k → together room (xs ++ ys) ≡ refused k
+unfolding together
+append-off room [] ys k p = absurd (not-done (sym p))
+append-off room (done b ∷ xs) ys k p = by-test (leb (length b) room)
+    (λ t. by-outcome (together (room - length b) xs)
+    (λ cs h. absurd (not-done (sym (rw (t, h) at p))))
+    (λ n h. rw (t, append-off (room - length b) xs ys n h) (rw (t, h) at p)))
+    (λ t. rw t (rw t at p))
+append-off room (refused n ∷ xs) ys k p = p
 
--- A loop over items: it began at `start` and stands at `at`, with `rest` still to come of the `whole`.
+-- Items are filled as their bytes are put together.
+pub filled-together : (ps : List Part) (r : Record) (xs : List Item) (room : ℕ) → filled ps r room xs ≡ together room (map (item-bytes ps r) xs)
+unfolding filled together
+filled-together ps r [] room = refl
+filled-together ps r (x ∷ xs) room = simp (filled-together ps r xs)
+
+-- A loop over outcomes: it began at `start` and stands at `at`, with `rest` still to come of the `whole`.
 pub record Going (whole rest : Outcome Bytes) (start at : ℕ) (write : Bool) (out₀ out : Bytes) : Type 0 where
   pub answer : placed at rest ≡ placed start whole
   pub alike : is-done rest ≡ is-done whole
@@ -101,41 +105,41 @@ at-inj p = cc
 no-at : {m k : ℕ} → _≡_ {A = Next} (At m) (Refused k) → ⊥
 no-at p = let z : _≡_ {A = ℕ} 0 1 = cc in omega arith
 
--- A turn that takes the items xs, of which a callee says where they end and what it left in the buffer.
-module _ (ps : List Part) (r : Record) (end : ℕ) (xs ys : List Item) {whole : Outcome Bytes} {start at : ℕ} {write : Bool} {out₀ out out′ : Bytes} {n : Next}
-    (g : Going whole (filled ps r (end - at) (xs ++ ys)) start at write out₀ out) (f : Filling (filled ps r (end - at) xs) at write out out′ n) (fits : at ≤ end) (room : end ≤ length out) where
+-- A turn that takes the outcomes xs, of which a callee says where they end and what it left in the buffer.
+module _ (end : ℕ) (xs ys : List (Outcome Bytes)) {whole : Outcome Bytes} {start at : ℕ} {write : Bool} {out₀ out out′ : Bytes} {n : Next}
+    (g : Going whole (together (end - at) (xs ++ ys)) start at write out₀ out) (f : Filling (together (end - at) xs) at write out out′ n) (fits : at ≤ end) (room : end ≤ length out) where
   pub turn-within : (at′ : ℕ) → n ≡ At at′ → (at ≤ at′) × (at′ ≤ end)
-  turn-within at′ q = by-outcome (filled ps r (end - at) xs)
-      (λ a h. let l = filled-length ps r (end - at) xs a h in let e : at + length a ≡ at′ = at-inj (sym (f .answer ∙ ap (placed at) h) ∙ q) in omega arith)
+  turn-within at′ q = by-outcome (together (end - at) xs)
+      (λ a h. let l = together-length (end - at) xs a h in let e : at + length a ≡ at′ = at-inj (sym (f .answer ∙ ap (placed at) h) ∙ q) in omega arith)
       (λ k h. absurd (no-at (sym q ∙ f .answer ∙ ap (placed at) h)))
 
-  pub turn : (at′ : ℕ) → n ≡ At at′ → Going whole (filled ps r (end - at′) ys) start at′ write out₀ out′
-  turn at′ q = by-outcome (filled ps r (end - at) xs)
-      (λ a h. on a h (filled-length ps r (end - at) xs a h) (at-inj (sym (f .answer ∙ ap (placed at) h) ∙ q)))
+  pub turn : (at′ : ℕ) → n ≡ At at′ → Going whole (together (end - at′) ys) start at′ write out₀ out′
+  turn at′ q = by-outcome (together (end - at) xs)
+      (λ a h. on a h (together-length (end - at) xs a h) (at-inj (sym (f .answer ∙ ap (placed at) h) ∙ q)))
       (λ k h. absurd (no-at (sym q ∙ f .answer ∙ ap (placed at) h)))
     where
-      on : (a : Bytes) → filled ps r (end - at) xs ≡ done a → length a ≤ end - at → at + length a ≡ at′ → Going whole (filled ps r (end - at′) ys) start at′ write out₀ out′
+      on : (a : Bytes) → together (end - at) xs ≡ done a → length a ≤ end - at → at + length a ≡ at′ → Going whole (together (end - at′) ys) start at′ write out₀ out′
       on a h l e =
           let m : end - at - length a ≡ end - at′ = omega arith in
-          let o : filled ps r (end - at) (xs ++ ys) ≡ before a (filled ps r (end - at′) ys) = append-on ps r (end - at) xs ys a h ∙ rw m refl in
-          let d : is-done (filled ps r (end - at) (xs ++ ys)) ≡ is-done (filled ps r (end - at′) ys) = ap is-done o ∙ done-before a (filled ps r (end - at′) ys) in
+          let o : together (end - at) (xs ++ ys) ≡ before a (together (end - at′) ys) = append-on (end - at) xs ys a h ∙ rw m refl in
+          let d : is-done (together (end - at) (xs ++ ys)) ≡ is-done (together (end - at′) ys) = ap is-done o ∙ done-before a (together (end - at′) ys) in
           let b : out′ ≡ left-as write at (done a) out = f .bytes (λ w. ap is-done h) ∙ ap (λ x. left-as write at x out) h in
           record {
-            answer = rw (← e) (sym (placed-before at a (filled ps r (end - (at + length a)) ys))) ∙ rw (o, ← e) at (g .answer);
+            answer = rw (← e) (sym (placed-before at a (together (end - (at + length a)) ys))) ∙ rw (o, ← e) at (g .answer);
             alike = sym d ∙ g .alike;
             same = f .same ∙ g .same;
             bytes = λ k.
-                rw (b, ← e) (left-before write at a (filled ps r (end - (at + length a)) ys) out (omega arith) (rw (← e) at k))
+                rw (b, ← e) (left-before write at a (together (end - (at + length a)) ys) out (omega arith) (rw (← e) at k))
                 ∙ rw (o, ← e) at (g .bytes (λ w. d ∙ k w));
           }
 
-  -- A stop: the items xs are refused, and so is the whole; its bytes count only where nothing was written.
+  -- A stop: the outcomes xs are refused, and so is the whole; its bytes count only where nothing was written.
   pub stop : (k : ℕ) → n ≡ Refused k → Filling whole start write out₀ out′ (Refused k)
-  stop k q = by-outcome (filled ps r (end - at) xs)
+  stop k q = by-outcome (together (end - at) xs)
       (λ a h. absurd (no-at (sym (f .answer ∙ ap (placed at) h) ∙ q)))
-      (λ j h. off j h (append-off ps r (end - at) xs ys j h) (sym (f .answer ∙ ap (placed at) h) ∙ q))
+      (λ j h. off j h (append-off (end - at) xs ys j h) (sym (f .answer ∙ ap (placed at) h) ∙ q))
     where
-      off : (j : ℕ) → filled ps r (end - at) xs ≡ refused j → filled ps r (end - at) (xs ++ ys) ≡ refused j → Refused j ≡ Refused k → Filling whole start write out₀ out′ (Refused k)
+      off : (j : ℕ) → together (end - at) xs ≡ refused j → together (end - at) (xs ++ ys) ≡ refused j → Refused j ≡ Refused k → Filling whole start write out₀ out′ (Refused k)
       off j h o e = record {
         answer = sym e ∙ rw o at (g .answer);
         same = f .same ∙ g .same;
@@ -143,16 +147,16 @@ module _ (ps : List Part) (r : Record) (end : ℕ) (xs ys : List Item) {whole : 
       }
         where
           unwritten : (w : Bool) → is-done whole ≡ false
-              → (Counts w (filled ps r (end - at) (xs ++ ys)) → left-as w at (filled ps r (end - at) (xs ++ ys)) out ≡ left-as w start whole out₀)
-              → (Counts w (filled ps r (end - at) xs) → out′ ≡ left-as w at (filled ps r (end - at) xs) out) → Counts w whole → out′ ≡ left-as w start whole out₀
+              → (Counts w (together (end - at) (xs ++ ys)) → left-as w at (together (end - at) (xs ++ ys)) out ≡ left-as w start whole out₀)
+              → (Counts w (together (end - at) xs) → out′ ≡ left-as w at (together (end - at) xs) out) → Counts w whole → out′ ≡ left-as w start whole out₀
           unwritten false d b c s = c (λ w. absurd (not-both w)) ∙ b (λ w. absurd (not-both w))
           unwritten true d b c s = absurd (not-both (sym d ∙ s refl))
 
--- The end: no item is left.
-pub going-end : (ps : List Part) (r : Record) (room : ℕ) {whole : Outcome Bytes} {start at : ℕ} {write : Bool} {out₀ out : Bytes}
-    → Going whole (filled ps r room []) start at write out₀ out → Filling whole start write out₀ out (At at)
-unfolding filled bytes-of
-going-end ps r room {whole} {start} {at} {write} {out₀} {out} g = record {
+-- The end: nothing is left.
+pub going-end : (room : ℕ) {whole : Outcome Bytes} {start at : ℕ} {write : Bool} {out₀ out : Bytes}
+    → Going whole (together room []) start at write out₀ out → Filling whole start write out₀ out (At at)
+unfolding together bytes-of
+going-end room {whole} {start} {at} {write} {out₀} {out} g = record {
   answer = ap At (sym (add-zero at)) ∙ g .answer;
   same = g .same;
   bytes = λ s. sym (nothing-written write) ∙ g .bytes (λ w. refl);

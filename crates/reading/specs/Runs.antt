@@ -1,10 +1,11 @@
 -- A run of items filled into a record buffer, for whatever record the bytes hold.
 use mathlib.Core.Path.{_≡_}
 use mathlib.Core.Bool.{Bool, true, false}
-use mathlib.Core.List.{List, [], map}
+use mathlib.Core.List.{List, [], _∷_, _++_, map}
 use Prim.Native.Nat.{ℕ, _-_, _≤_, _<_}
+use lib.Dec.{leb}
 use lib.ListN.{length, take, drop, getD}
-use Rattle.rules.specs.Outcome.{Outcome, done}
+use Rattle.rules.specs.Outcome.{Outcome, done, _>>=_, need}
 use Rattle.rules.specs.Lists.{Bytes}
 use Rattle.rules.specs.Values.{Format, allowed, converts, carried, null}
 use Rattle.rules.specs.Table.{Entry, parts}
@@ -30,6 +31,15 @@ use Rattle.reading.specs.declared.Next.{Next}
 abbrev pub Fills : List Entry → Bytes → List ℕ → List Item → ℕ → ℕ → Bool → Bytes → Bytes → Next → Type 0
 Fills es b places xs at end write entry exit n =
     (r : Record) → Held es b places r → Filling (filled (parts es) r (end - at) xs) at write entry exit n
+
+-- Outcomes one behind the other in so much room, as items are filled.
+unfoldable pub together : ℕ → List (Outcome Bytes) → Outcome Bytes
+together room [] = done []
+together room (o ∷ os) = do
+  b ← o
+  _ ← need (leb (length b) room) 7
+  bs ← together (room - length b) os
+  done (b ++ bs)
 
 -- A value by its content, carried to the format and length in effect; null where there is none.
 abbrev pub carried-from : Bytes → Format → Format → ℕ → Content → Outcome Bytes
