@@ -165,3 +165,12 @@ going-end room {whole} {start} {at} {write} {out₀} {out} g = record {
     nothing-written : (w : Bool) → left-as w at (done []) out ≡ out
     nothing-written false = refl
     nothing-written true = splice-nil at out
+
+-- The end by a callee that takes all that is left.
+pub going-last : {whole rest : Outcome Bytes} {start at : ℕ} {write : Bool} {out₀ out out′ : Bytes} {n : Next}
+    → Going whole rest start at write out₀ out → Filling rest at write out out′ n → Filling whole start write out₀ out′ n
+going-last g f = record {
+  answer = f .answer ∙ g .answer;
+  same = f .same ∙ g .same;
+  bytes = λ s. f .bytes (λ w. g .alike ∙ s w) ∙ g .bytes (λ w. g .alike ∙ s w);
+}

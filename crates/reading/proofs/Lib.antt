@@ -1,8 +1,12 @@
+pub mod Carrying
+pub mod Cells
 pub mod Elements
+pub mod Existing
 pub mod Formats
 pub mod Going
 pub mod Running
 pub mod Singles
 pub mod Spans
+pub mod Together
 pub mod Unbare
 pub mod Values

@@ -1,24 +1,23 @@
 -- A loop over items for whatever record the bytes hold: its start, a turn that takes some items off the front, a stop and its end.
 use mathlib.Core.Path.{_≡_, sym, _∙_, ap, subst}
 use mathlib.Core.Bool.{Bool}
-use mathlib.Core.List.{List, [], _∷_, _++_, map, map-append, append-nil}
+use mathlib.Core.List.{List, [], _∷_, _++_, map, map-append}
 use Prim.Native.Nat.{ℕ, _+_, _-_, _≤_}
 use native.Mathlib.Omega.{arith}
-use lib.Dec.{leb}
 use lib.ListN.{length}
-use Rattle.rules.specs.Outcome.{Outcome, done}
+use Rattle.rules.specs.Outcome.{Outcome}
 use Rattle.rules.specs.Lists.{Bytes}
 use Rattle.rules.specs.Table.{Part, Entry, parts}
 use Rattle.rules.specs.Record.{Record}
 use Rattle.rules.specs.Use.{Item}
 use Rattle.rules.specs.Services.{item-bytes, filled}
-use Rattle.rules.proofs.Steps.{by-test, by-outcome}
 use Rattle.records.specs.Places.{Held, Holds}
 use Rattle.reading.specs.Filling.{Filling, within}
 use Rattle.reading.specs.Runs.{Fills, together}
 use Rattle.reading.specs.declared.Next.{Next}
 use Rattle.reading.specs.declared.Next.the-variants.{At, Refused}
 use Rattle.reading.proofs.Going.{Going, going-start, going-end, turn, turn-within, stop, filled-together}
+use Rattle.reading.proofs.Together.{together-one}
 
 pub record Running (es : List Entry) (b : Bytes) (places : List ℕ) (end : ℕ) (whole rest : List Item) (start at : ℕ) (write : Bool) (out₀ out : Bytes) : Type 0 where
   pub holds : Holds es b places
@@ -77,10 +76,7 @@ module _ {es : List Entry} {b : Bytes} {places : List ℕ} {end : ℕ} {whole re
 
 -- One item in its room, and no item.
 pub filled-one : (ps : List Part) (r : Record) (room : ℕ) (x : Item) → filled ps r room (x ∷ []) ≡ within room (item-bytes ps r x)
-unfolding filled within
-filled-one ps r room x = by-outcome (item-bytes ps r x)
-    (λ b h. by-test (leb (length b) room) (λ t. rw (h, t, append-nil)) (λ t. rw (h, t)))
-    (λ k h. rw h)
+filled-one ps r room x = filled-together ps r (x ∷ []) room ∙ together-one room (item-bytes ps r x)
 
 pub run-same : {es : List Entry} {b : Bytes} {places : List ℕ} {end : ℕ} {whole rest : List Item} {start at : ℕ} {write : Bool} {out₀ out : Bytes}
     → Running es b places end whole rest start at write out₀ out → length out ≡ length out₀
