@@ -1,10 +1,14 @@
+pub mod Carrying
+pub mod Cells
 pub mod Elements
+pub mod Existing
 pub mod Going
 pub mod Rooms
 pub mod Running
 pub mod Scanning
 pub mod Singles
 pub mod Spans
+pub mod Together
 pub mod Turns
 pub mod Unbare
 pub mod Values

@@ -1,23 +1,23 @@
 -- A loop over items for whatever record the bytes hold: its start, a turn that takes some items off the front, a stop and its end.
-use mathlib.Core.Path.{_≡_, sym, _∙_, subst}
+use mathlib.Core.Path.{_≡_, sym, _∙_, ap, subst}
 use mathlib.Core.Bool.{Bool}
-use mathlib.Core.List.{List, [], _∷_, _++_, append-nil}
+use mathlib.Core.List.{List, [], _∷_, _++_, map, map-append}
 use Prim.Native.Nat.{ℕ, _+_, _-_, _≤_}
 use native.Mathlib.Omega.{arith}
-use lib.Dec.{leb}
 use lib.ListN.{length}
+use Rattle.rules.specs.Outcome.{Outcome}
 use Rattle.rules.specs.Lists.{Bytes}
 use Rattle.rules.specs.Table.{Part, Entry, parts}
 use Rattle.rules.specs.Record.{Record}
 use Rattle.rules.specs.Use.{Item}
 use Rattle.rules.specs.Services.{item-bytes, filled}
-use Rattle.rules.proofs.Steps.{by-test, by-outcome}
 use Rattle.records.specs.Places.{Held, Holds}
-use Rattle.reading.specs.Filling.{within}
-use Rattle.reading.specs.Runs.{Fills}
+use Rattle.reading.specs.Filling.{Filling, within}
+use Rattle.reading.specs.Runs.{Fills, together}
 use Rattle.reading.specs.declared.Next.{Next}
 use Rattle.reading.specs.declared.Next.the-variants.{At, Refused}
-use Rattle.reading.proofs.Going.{Going, going-start, going-end, turn, turn-within, stop}
+use Rattle.reading.proofs.Going.{Going, going-start, going-end, turn, turn-within, stop, filled-together}
+use Rattle.reading.proofs.Together.{together-one}
 
 pub record Running (es : List Entry) (b : Bytes) (places : List ℕ) (end : ℕ) (whole rest : List Item) (start at : ℕ) (write : Bool) (out₀ out : Bytes) : Type 0 where
   pub holds : Holds es b places
@@ -34,37 +34,49 @@ run-start es b places end xs at write out k h l = record {
   going = λ r p. going-start (filled (parts es) r (end - at) xs) at write out;
 }
 
+-- Items one behind the other, by their bytes.
+filled-both : (es : List Entry) (r : Record) (room : ℕ) (xs ys : List Item)
+    → filled (parts es) r room (xs ++ ys) ≡ together room (map (item-bytes (parts es) r) xs ++ map (item-bytes (parts es) r) ys)
+filled-both es r room xs ys = filled-together (parts es) r (xs ++ ys) room ∙ ap (together room) (map-append (item-bytes (parts es) r) xs ys)
+
 module _ {es : List Entry} {b : Bytes} {places : List ℕ} {end : ℕ} {whole rest : List Item} {start at : ℕ} {write : Bool} {out₀ out : Bytes}
     (g : Running es b places end whole rest start at write out₀ out) where
+  abbrev Left : Record → Outcome Bytes → Type 0
+  Left r o = Going (filled (parts es) r (end - start) whole) o start at write out₀ out
+
   module _ (xs ys : List Item) (e : rest ≡ xs ++ ys) where
-    parted : (r : Record) → Held es b places r → Going (filled (parts es) r (end - start) whole) (filled (parts es) r (end - at) (xs ++ ys)) start at write out₀ out
-    parted r p = subst (λ zs. Going (filled (parts es) r (end - start) whole) (filled (parts es) r (end - at) zs) start at write out₀ out) e (g .going r p)
+    abbrev Parted : Record → Type 0
+    Parted r = Left r (together (end - at) (map (item-bytes (parts es) r) xs ++ map (item-bytes (parts es) r) ys))
+
+    parted : (r : Record) → Held es b places r → Parted r
+    parted r p = subst (Left r) (ap (filled (parts es) r (end - at)) e ∙ filled-both es r (end - at) xs ys) (g .going r p)
 
     module _ {out′ : Bytes} {n : Next} (f : Fills es b places xs at end write out out′ n) where
+      put : (r : Record) → Held es b places r → Filling (together (end - at) (map (item-bytes (parts es) r) xs)) at write out out′ n
+      put r p = subst (λ (o : Outcome Bytes). Filling o at write out out′ n) (filled-together (parts es) r xs (end - at)) (f r p)
+
       pub run-on : (at′ : ℕ) → n ≡ At at′ → Running es b places end whole ys start at′ write out₀ out′
       run-on at′ q =
           let r = g .holds .0 in
           let p = g .holds .1 in
-          let t = turn (parts es) r end xs ys (parted r p) (f r p) (g .fits) (g .room) at′ q in
+          let t = turn end _ _ (parted r p) (put r p) (g .fits) (g .room) at′ q in
           record {
             holds = g .holds;
-            fits = turn-within (parts es) r end xs ys (parted r p) (f r p) (g .fits) (g .room) at′ q;
+            fits = turn-within end _ _ (parted r p) (put r p) (g .fits) (g .room) at′ q .1;
             room = omega (arith, t .same, g .going r p .same, g .room);
-            going = λ r p. turn (parts es) r end xs ys (parted r p) (f r p) (g .fits) (g .room) at′ q;
+            going = λ r p. subst (λ (o : Outcome Bytes). Going (filled (parts es) r (end - start) whole) o start at′ write out₀ out′)
+                (sym (filled-together (parts es) r ys (end - at′))) (turn end _ _ (parted r p) (put r p) (g .fits) (g .room) at′ q);
           }
 
       pub run-off : (k : ℕ) → n ≡ Refused k → Fills es b places whole start end write out₀ out′ (Refused k)
-      run-off k q r p = stop (parts es) r end xs ys (parted r p) (f r p) (g .fits) (g .room) k q
+      run-off k q r p = stop end _ _ (parted r p) (put r p) (g .fits) (g .room) k q
 
   pub run-end : rest ≡ [] → Fills es b places whole start end write out₀ out (At at)
-  run-end e r p = going-end (parts es) r (end - at) (subst (λ zs. Going (filled (parts es) r (end - start) whole) (filled (parts es) r (end - at) zs) start at write out₀ out) e (g .going r p))
+  run-end e r p = going-end (end - at) (subst (Left r) (ap (filled (parts es) r (end - at)) e ∙ filled-together (parts es) r [] (end - at)) (g .going r p))
 
 -- One item in its room, and no item.
 pub filled-one : (ps : List Part) (r : Record) (room : ℕ) (x : Item) → filled ps r room (x ∷ []) ≡ within room (item-bytes ps r x)
-unfolding filled within
-filled-one ps r room x = by-outcome (item-bytes ps r x)
-    (λ b h. by-test (leb (length b) room) (λ t. rw (h, t, append-nil)) (λ t. rw (h, t)))
-    (λ k h. rw h)
+filled-one ps r room x = filled-together ps r (x ∷ []) room ∙ together-one room (item-bytes ps r x)
 
 pub run-same : {es : List Entry} {b : Bytes} {places : List ℕ} {end : ℕ} {whole rest : List Item} {start at : ℕ} {write : Bool} {out₀ out : Bytes}
     → Running es b places end whole rest start at write out₀ out → length out ≡ length out₀

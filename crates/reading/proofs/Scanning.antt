@@ -23,7 +23,7 @@ use Rattle.reading.specs.Turns.{uses-from, unless, Unless-used, Turned, 
 use Rattle.reading.specs.declared.Next.{Next}
 use Rattle.reading.specs.declared.Next.the-variants.{At, Refused}
 use Rattle.reading.specs.declared.Turn.the-variants as turn
-use Rattle.reading.proofs.Going.{before, Going, going-start, going-on, going-off, going-end, items-on, items-off, items-unwritten, append-on, append-off, room-left}
+use Rattle.reading.proofs.Going.{before, Going, going-start, going-on, going-off, going-end, items-on, put-off, put-unwritten, filled-on, filled-off, filled-together, room-left}
 
 no-items : items [] ≡ []
 unfolding items join
@@ -40,11 +40,11 @@ used ps r room o = o >>= λ us. filled ps r room (items us)
 -- A use before some more.
 module _ (ps : List Part) (r : Record) (room : ℕ) (u : Meaning) where
   used-on : (o : Outcome (List Meaning)) (a : Bytes) → filled ps r room (items-of u) ≡ done a → used ps r room (o >>= λ us. done (u ∷ us)) ≡ before a (used ps r (room - length a) o)
-  used-on (done us) a h = ap (filled ps r room) (first-items u us) ∙ append-on ps r room (items-of u) (items us) a h
+  used-on (done us) a h = ap (filled ps r room) (first-items u us) ∙ filled-on ps r room (items-of u) (items us) a h
   used-on (refused k) a h = refl
 
   used-off : (o : Outcome (List Meaning)) (k : ℕ) → filled ps r room (items-of u) ≡ refused k → used ps r room (o >>= λ us. done (u ∷ us)) ≡ refused (unless o k)
-  used-off (done us) k h = ap (filled ps r room) (first-items u us) ∙ append-off ps r room (items-of u) (items us) k h
+  used-off (done us) k h = ap (filled ps r room) (first-items u us) ∙ filled-off ps r room (items-of u) (items us) k h
   used-off (refused j) k h = refl
 
 -- All the uses of a format, which is not too long.
@@ -102,8 +102,8 @@ module _ {es : List Entry} {b : Bytes} {places : List ℕ} {f : Bytes} {end : �
 
       first-off : (k : ℕ) → m ≡ Refused k → Scans es b places f end write out₀ out′ (Refused (unless more k))
       first-off k q r h =
-          let o = ap (used (parts es) r (end - p)) e ∙ used-off (parts es) r (end - p) u more k (items-off (parts es) r end (items-of u) (g r h) k q) in
-          going-off (w .going r h) (g r h .same) (unless more k) o (items-unwritten (parts es) r end (items-of u) (g r h))
+          let o = ap (used (parts es) r (end - p)) e ∙ used-off (parts es) r (end - p) u more k (put-off (g r h) k q) in
+          going-off (w .going r h) (g r h .same) (unless more k) o (put-unwritten (g r h))
 
     module _ {after : List ℕ} {u : Use} {place : ℕ} (t : Turned es f at last after (turn.More u place)) where
       abbrev behind : Indexes
@@ -130,7 +130,8 @@ module _ {es : List Entry} {b : Bytes} {places : List ℕ} {f : Bytes} {end : �
 
     pub last-fills : {after : List ℕ} {u : Use} → Turned es f at last after (turn.Last u) → {out′ : Bytes} (m : Next)
         → Fills es b places (items-of (use-meant es f u)) p end write out out′ m → Scans es b places f end write out₀ out′ m
-    last-fills {u = u} t {out′} (At p′) g r h = going-end (parts es) r (end - p′)
-        (subst (λ (xs : List Item). Going (used (parts es) r end (uses-of es f)) (filled (parts es) r (end - p′) xs) 0 p′ write out₀ out′) no-items
+    last-fills {u = u} t {out′} (At p′) g r h = going-end (end - p′)
+        (subst (λ (o : Outcome Bytes). Going (used (parts es) r end (uses-of es f)) o 0 p′ write out₀ out′)
+        (ap (filled (parts es) r (end - p′)) no-items ∙ filled-together (parts es) r [] (end - p′))
         (first-on (use-meant es f u) (done []) (t .answer (w .indexes) (w .remembers)) g p′ refl r h))
     last-fills {u = u} t (Refused k) g r h = first-off (use-meant es f u) (done []) (t .answer (w .indexes) (w .remembers)) g k refl r h

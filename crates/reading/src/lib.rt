@@ -1,6 +1,6 @@
 // The service read, behind its tests of table and record: one pass over a format tests its elements and items, and writes where it is asked to.
 ghost use mathlib.Core.Path.{_≡_};
-ghost use mathlib.Core.List.{_∷_, [], List};
+ghost use mathlib.Core.List.{_∷_, [], List, map};
 ghost use mathlib.Core.Bool.{true, false};
 ghost use Prim.Native.Nat.{_+_, _-_, _≤_, _<_};
 ghost use lib.ListN.{length, replicate, drop};
@@ -8,7 +8,7 @@ ghost use Rattle.rules.specs.Outcome.{done};
 ghost use Rattle.rules.specs.Characters.{space};
 ghost use Rattle.rules.specs.Values.{allowed, null, carried};
 ghost use Rattle.rules.specs.Limits.{highest-index};
-ghost use Rattle.rules.specs.Lists.{Bytes};
+ghost use Rattle.rules.specs.Lists.{Bytes, join};
 ghost use Rattle.rules.specs.Use.{value-items, just, items-of};
 ghost use Rattle.kinds.specs.Formats.{format-at};
 ghost use Rattle.tables.specs.Entries.{Valid, entries-of};
@@ -18,14 +18,16 @@ ghost use Rattle.formats.specs.Syntax.{parsed};
 ghost use Rattle.uses.specs.Meant.{Span-held, Use-held, use-meant};
 ghost use Rattle.records.specs.Places.{Holds, Value-of};
 ghost use Rattle.reading.specs.Filling.{Filling, within};
-ghost use Rattle.reading.specs.Runs.{Fills, carried-from, Lies, Cell-holds, asked-at, Askable, Only, field-items, row-items, span-items};
+ghost use Rattle.reading.specs.Runs.{Fills, together, Wants, carried-to, wanted, Stand, Exist, carried-from, Lies, Cell-holds, asked-at, Askable, Only, field-items, row-items, span-items};
 ghost use Rattle.reading.specs.Turns.{Turned, Unless-used, unless, Scans};
+ghost use Rattle.records.specs.declared.places.Cell.the-variants.{At};
 use formats::syntax::Step;
 use records::places::Cell;
 use records::places::Content;
 use uses::Meant;
 use uses::Span;
 use uses::Use;
+use values::First;
 use values::Fit;
 
 // Where a run of items ends in the record buffer, or the number of its refusal.
@@ -39,6 +41,24 @@ enum Turn {
     More(Use, usize),
     Last(Use),
     Refused(u8),
+}
+
+// What is wanted of a field: its values from first to last, which are stored at its own format and standard length, at a format and a
+// length in effect.
+struct Wanted {
+    own: usize,
+    standard: usize,
+    multiple: bool,
+    first: usize,
+    last: usize,
+    format: usize,
+    size: usize,
+}
+
+// Values that stand one behind the other from a place on.
+struct Run {
+    at: usize,
+    count: usize,
 }
 
 // A run of n blanks.
@@ -129,6 +149,164 @@ fn put_null(format: usize, size: usize, out: &mut [u8], at: usize, end: usize, w
         return Next::At(at + n);
     }
     Next::At(at + n)
+}
+
+// n nulls, for values that don't exist.
+fn put_nulls(
+    n: usize,
+    format: usize,
+    size: usize,
+    out: &mut [u8],
+    at: usize,
+    end: usize,
+    write: bool,
+) -> Next
+    requires { ⌜ (n ≤ highest-index) × (format < 5) × (allowed (format-at format) size ≡ true) × (at ≤ end) × (end ≤ length (now out)) ⌝ }
+    ensures { λ r. ⌜ Filling (within (end - at) (done (join (replicate n (null (format-at format) size))))) at write (now (out .entry)) (now (out .exit)) r ⌝ }
+{
+    let all = n * values::null_length(format, size);
+    if end - at < all {
+        return Next::Refused(7);
+    }
+    if write {
+        values::write_nulls(n, format, size, out, at);
+        return Next::At(at + all);
+    }
+    Next::At(at + all)
+}
+
+// n values that stand from a place on, carried to the format and length in effect.
+fn put_carried(
+    b: &[u8],
+    from: usize,
+    n: usize,
+    w: Wanted,
+    out: &mut [u8],
+    at: usize,
+    end: usize,
+    write: bool,
+) -> Next
+    requires { ⌜ Wants w × (from ≤ length (now b)) × ((us : List Bytes) × Stand w (now b) from n us) × (at ≤ end) × (end ≤ length (now out)) ⌝ }
+    ensures { λ r. ⌜ ((us : List Bytes) → Stand w (now (b .entry)) from n us → Filling (together (end - at) (map (carried-to w) us)) at write (now (out .entry)) (now (out .exit)) r) ⌝ }
+{
+    let mut p = at;
+    let mut q = from;
+    let mut i = 0;
+    while i < n {
+        let first = values::first_value(b, q, w.standard);
+        match first {
+            // The values are known to stand there, so that this does not happen.
+            First::Refused(k) => {
+                return Next::Refused(k);
+            }
+            First::Value(start, next) => {
+                let put = put_value(&b[start..next], w.own, w.format, w.size, out, p, end, write);
+                match put {
+                    Next::Refused(k) => {
+                        return Next::Refused(k);
+                    }
+                    Next::At(place) => {
+                        p = place;
+                    }
+                }
+                q = next;
+            }
+        }
+        i += 1;
+    }
+    Next::At(p)
+}
+
+// The values of a run, at the format and length in effect: at their own they are copied as they are stored.
+fn put_run(
+    b: &[u8],
+    run: Run,
+    w: Wanted,
+    out: &mut [u8],
+    at: usize,
+    end: usize,
+    write: bool,
+) -> Next
+    requires { ⌜ Wants w × (run .at ≤ length (now b)) × ((us : List Bytes) × Stand w (now b) (run .at) (run .count) us) × (at ≤ end) × (end ≤ length (now out)) ⌝ }
+    ensures { λ r. ⌜ ((us : List Bytes) → Stand w (now (b .entry)) (run .at) (run .count) us → Filling (together (end - at) (map (carried-to w) us)) at write (now (out .entry)) (now (out .exit)) r) ⌝ }
+{
+    if w.own == w.format {
+        if w.standard == w.size {
+            let from = run.at;
+            let upto = records::behind::skip(b, from, run.count, w.standard);
+            return put_text(&b[from..upto], out, at, end, write);
+        }
+    }
+    put_carried(b, run.at, run.count, w, out, at, end, write)
+}
+
+// Those of the values wanted that exist, in the cell of an MU field.
+fn run_among(b: &[u8], cell: usize, w: Wanted) -> Run
+    requires { ⌜ Wants w × ((vs : List Bytes) × Cell-holds (now b) (format-at (w .own)) (w .standard) true vs (At cell)) ⌝ }
+    ensures { λ r. ⌜ ((vs : List Bytes) → Cell-holds (now (b .entry)) (format-at (w .own)) (w .standard) true vs (At cell) → Exist w (now (b .entry)) vs r) ⌝ }
+{
+    let n = b[cell] as usize;
+    if n < w.first {
+        return Run { at: 0, count: 0 };
+    }
+    let at = records::behind::skip(b, cell + 1, w.first - 1, w.standard);
+    if n < w.last {
+        return Run {
+            at,
+            count: n + 1 - w.first,
+        };
+    }
+    Run {
+        at,
+        count: w.last + 1 - w.first,
+    }
+}
+
+// The same in a cell that stands at a place.
+fn run_at(b: &[u8], cell: usize, w: Wanted) -> Run
+    requires { ⌜ Wants w × ((vs : List Bytes) × Cell-holds (now b) (format-at (w .own)) (w .standard) (w .multiple) vs (At cell)) ⌝ }
+    ensures { λ r. ⌜ ((vs : List Bytes) → Cell-holds (now (b .entry)) (format-at (w .own)) (w .standard) (w .multiple) vs (At cell) → Exist w (now (b .entry)) vs r) ⌝ }
+{
+    if w.multiple {
+        return run_among(b, cell, w);
+    }
+    if 1 < w.first {
+        return Run { at: 0, count: 0 };
+    }
+    Run { at: cell, count: 1 }
+}
+
+// The same in a cell, if there is one.
+fn run_of(b: &[u8], cell: Cell, w: Wanted) -> Run
+    requires { ⌜ Wants w × ((vs : List Bytes) × Cell-holds (now b) (format-at (w .own)) (w .standard) (w .multiple) vs cell) ⌝ }
+    ensures { λ r. ⌜ ((vs : List Bytes) → Cell-holds (now (b .entry)) (format-at (w .own)) (w .standard) (w .multiple) vs cell → Exist w (now (b .entry)) vs r) ⌝ }
+{
+    match cell {
+        Cell::At(p) => run_at(b, p, w),
+        Cell::Nothing => Run { at: 0, count: 0 },
+    }
+}
+
+// What is wanted of a cell: the values that exist, and nulls for the others.
+fn put_cell(
+    b: &[u8],
+    cell: Cell,
+    w: Wanted,
+    out: &mut [u8],
+    at: usize,
+    end: usize,
+    write: bool,
+) -> Next
+    requires { ⌜ Wants w × ((vs : List Bytes) × Cell-holds (now b) (format-at (w .own)) (w .standard) (w .multiple) vs cell) × (at ≤ end) × (end ≤ length (now out)) ⌝ }
+    ensures { λ r. ⌜ ((vs : List Bytes) → Cell-holds (now (b .entry)) (format-at (w .own)) (w .standard) (w .multiple) vs cell → Filling (together (end - at) (wanted w vs)) at write (now (out .entry)) (now (out .exit)) r) ⌝ }
+{
+    let run = run_of(b, cell, w);
+    let missing = w.last + 1 - w.first - run.count;
+    let next = put_run(b, run, w, out, at, end, write);
+    match next {
+        Next::Refused(k) => Next::Refused(k),
+        Next::At(p) => put_nulls(missing, w.format, w.size, out, p, end, write),
+    }
 }
 
 // A value by its content, or null where there is none.
