@@ -20,7 +20,7 @@ use Rattle.rules.proofs.Steps.{by-outcome, by-test, not-both, not-done}
 use Rattle.buffer.specs.Splice.{splice}
 use Rattle.buffer.proofs.Laws.{take-splice}
 use Rattle.tables.specs.Entries.{Valid, entries-of}
-use Rattle.records.specs.Places.{Held, Holds}
+use Rattle.records.specs.Places.{Holds}
 use Rattle.uses.specs.Meant.{uses-of}
 use Rattle.reading.specs.Filling.{placed, Filling}
 use Rattle.reading.specs.Turns.{Scans}
@@ -53,7 +53,7 @@ read-stored t b f room v = by-outcome (table t)
 pub read-no-record : (t b f : Bytes) (room : ℕ) → Valid t → is-done (stored (parts (entries-of t)) b) ≡ false → read t b f room ≡ refused 2
 read-no-record t b f room v h = read-stored t b f room v ∙ rw (no-record (parts (entries-of t)) b h) refl
 
--- They are refused with 3 for the format, 4 or 5 for its elements, 7 to 9 for its items.
+-- The items are refused with 3 for the format, 4 or 5 for its elements, 7 to 9 for its items.
 wider : {A : Type 0} (a b : ℕ) (o : Outcome A) → 3 ≤ a → b ≤ 9 → Only (Between a b) o → Only (Between 3 9) o
 wider a b (done x) l m k = tt
 wider a b (refused n) l m k = (omega (arith, k .0), omega (arith, k .1))
@@ -92,7 +92,7 @@ placed-at : (o : Outcome Bytes) (n : ℕ) → next.At n ≡ placed 0 o → (bs :
 placed-at (done bs) n e = (bs, refl, omega (arith, at-inj e))
 placed-at (refused k) n e = absurd (no-at e)
 
--- The items may be made in room up to the end of the buffer, or to the limit.
+-- The items are to be made in room up to the end of the buffer, or to the limit.
 pub record Ready (t b : Bytes) (places : List ℕ) (f out : Bytes) (end : ℕ) : Type 0 where
   pub valid : Valid t
   pub holds : Holds (entries-of t) b places
@@ -103,7 +103,7 @@ module _ {t b : Bytes} {places : List ℕ} {f out : Bytes} {end : ℕ} (s : Read
   abbrev given : ℕ → Outcome Bytes
   given room = made (entries-of t) f room (s .holds .0)
 
-  pub read-given : read t b f (length out) ≡ given end
+  read-given : read t b f (length out) ≡ given end
   read-given = read-stored t b f (length out) (s .valid) ∙ rw (s .holds .1 .stands, s .room) refl
 
   -- A pass in so much room.
@@ -139,7 +139,7 @@ module _ {t b : Bytes} {places : List ℕ} {f out : Bytes} {end : ℕ} (s : Read
           settled-done _ (o .0) out _ n (read-given ∙ made-more (entries-of t) f (s .holds .0) room end (o .0) l (o .1)) (o .2) w
 
   -- A test writes nothing, and else what is done is written.
-  pub unwritten : (room : ℕ) {area area′ : Bytes} {m : Next} → Scans (entries-of t) b places f room false area area′ m → area′ ≡ area
+  unwritten : (room : ℕ) {area area′ : Bytes} {m : Next} → Scans (entries-of t) b places f room false area area′ m → area′ ≡ area
   unwritten room g = filling room g .bytes (λ w. absurd (not-both w))
 
   pub tested-refused : {out′ : Bytes} {m : Next} → Scans (entries-of t) b places f end false out out′ m → {n : ℕ} → m ≡ next.Refused n

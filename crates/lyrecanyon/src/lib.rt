@@ -144,9 +144,9 @@ fn read_short(
             }
             Answer::Refused(Refusal::BeyondBuffer)
         }
-        Next::At(used) => {
-            buffer::put(&area[..used], buffer, 0);
-            Answer::Done(used)
+        Next::At(made) => {
+            buffer::put(&area[..made], buffer, 0);
+            Answer::Done(made)
         }
     }
 }

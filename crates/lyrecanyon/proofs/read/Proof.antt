@@ -1,5 +1,5 @@
 -- `lyrecanyon::read` meets its contract: table and record are refused as the outcome is, and what passes both tests is left to its items. Assumes nothing.
-use mathlib.Core.Path.{_≡_, refl, sym, _∙_}
+use mathlib.Core.Path.{sym, _∙_}
 use borrow.Author.Tests.{not-true, not-false}
 use lib.ListN.{length}
 use Rattle.tables.specs.Entries.{Valid}

@@ -1,6 +1,6 @@
 -- `lyrecanyon::read_long` meets its contract: one pass tests the items, and one more writes what has passed. Assumes nothing.
 use native.Mathlib.Omega.{arith}
-use Rattle.lyrecanyon.proofs.Readings.{Ready, unwritten, refused-between, tested-refused, long-read}
+use Rattle.lyrecanyon.proofs.Readings.{Ready, refused-between, tested-refused, long-read}
 use borrow.Author.Needs.{needs}
 use Rattle.lyrecanyon.proofs.read_long.Statement.{statement}
 use Rattle.lyrecanyon.proofs.read_long.Tie as tie
