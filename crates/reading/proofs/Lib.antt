@@ -1,5 +1,6 @@
 pub mod Carrying
 pub mod Cells
+pub mod Columns
 pub mod Elements
 pub mod Existing
 pub mod Going

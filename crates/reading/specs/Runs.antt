@@ -14,7 +14,7 @@ use Rattle.rules.specs.Record.{Record, times, counted, stored-value}
 use Rattle.rules.specs.Use.{Item, Asked, as-stored, value-items, just, over}
 use Rattle.rules.specs.Services.{filled}
 use Rattle.kinds.specs.Formats.{format-at}
-use Rattle.tables.specs.Entries.{blank, is-group}
+use Rattle.tables.specs.Entries.{blank, is-group, is-multiple, format-number, size-of}
 use Rattle.tables.specs.Places.{inside-at}
 use Rattle.tables.specs.Groups.{field-at}
 use Rattle.formats.specs.Elements.{range}
@@ -23,8 +23,6 @@ use Rattle.uses.specs.declared.Span.{Span}
 use Rattle.records.specs.Places.{Held}
 use Rattle.records.specs.declared.places.Cell.{Cell}
 use Rattle.records.specs.declared.places.Cell.the-variants as cell
-use Rattle.records.specs.declared.places.Content.{Content}
-use Rattle.records.specs.declared.places.Content.the-variants as content
 use Rattle.reading.specs.Filling.{Filling}
 use Rattle.reading.specs.declared.Next.{Next}
 use Rattle.reading.specs.declared.Run.{Run}
@@ -44,16 +42,6 @@ together room (o ∷ os) = do
   bs ← together (room - length b) os
   done (b ++ bs)
 
--- A value by its content, carried to the format and length in effect; null where there is none.
-abbrev pub carried-from : Bytes → Format → Format → ℕ → Content → Outcome Bytes
-carried-from b f g n (content.At from upto) = carried f g n (take (upto - from) (drop from b))
-carried-from b f g n content.Nothing = done (null g n)
-
--- The content lies in the bytes, and is so long as its format allows.
-abbrev pub Lies : Bytes → Format → Content → Type 0
-Lies b f (content.At from upto) = (from ≤ upto) × (upto ≤ length b) × (allowed f (upto - from) ≡ true)
-Lies b f content.Nothing = Unit {0}
-
 -- The values of a cell that stands at a place, or there is no cell.
 abbrev pub Cell-holds : Bytes → Format → ℕ → Bool → List Bytes → Cell → Type 0
 Cell-holds b f n mu vs (cell.At q) = (q ≤ length b) × (rest : Bytes) × (counted mu (stored-value f n) (drop q b) ≡ done (vs, rest))
@@ -69,6 +57,12 @@ pub record Wants (w : Wanted) : Type 0 where
   pub first : 1 ≤ w .first
   pub ordered : w .first ≤ w .last
   pub last : w .last ≤ highest-index
+
+-- What is wanted of entry i.
+abbrev pub wanted-at : List Entry → ℕ → ℕ → ℕ → ℕ → ℕ → Wanted
+wanted-at es i first last format size =
+    let what = getD es i blank .what in
+    record { own = format-number what; standard = size-of what; multiple = is-multiple what; first = first; last = last; format = format; size = size }
 
 -- A stored value at the format and length in effect; and those wanted of a cell's values, of which one that doesn't exist is null.
 abbrev pub carried-to : Wanted → Bytes → Outcome Bytes

@@ -16,14 +16,13 @@ ghost use Rattle.tables.specs.Places.{inside-at};
 ghost use Rattle.formats.specs.Elements.{range};
 ghost use Rattle.formats.specs.Syntax.{parsed};
 ghost use Rattle.uses.specs.Meant.{Span-held, Use-held, use-meant};
-ghost use Rattle.records.specs.Places.{Holds, Value-of};
+ghost use Rattle.records.specs.Places.{Holds};
 ghost use Rattle.reading.specs.Filling.{Filling, within};
-ghost use Rattle.reading.specs.Runs.{Fills, together, Wants, carried-to, wanted, Stand, Exist, carried-from, Lies, Cell-holds, asked-at, Askable, Only, field-items, row-items, span-items};
+ghost use Rattle.reading.specs.Runs.{Fills, together, Wants, carried-to, wanted, Stand, Exist, wanted-at, Cell-holds, asked-at, Askable, Only, field-items, span-items};
 ghost use Rattle.reading.specs.Turns.{Turned, Unless-used, unless, Scans};
 ghost use Rattle.records.specs.declared.places.Cell.the-variants.{At};
 use formats::syntax::Step;
 use records::places::Cell;
-use records::places::Content;
 use uses::Meant;
 use uses::Span;
 use uses::Use;
@@ -133,22 +132,6 @@ fn put_value(
             Next::At(at + n)
         }
     }
-}
-
-// Null, for a value that doesn't exist.
-fn put_null(format: usize, size: usize, out: &mut [u8], at: usize, end: usize, write: bool) -> Next
-    requires { ⌜ (format < 5) × (allowed (format-at format) size ≡ true) × (at ≤ end) × (end ≤ length (now out)) ⌝ }
-    ensures { λ r. ⌜ Filling (within (end - at) (done (null (format-at format) size))) at write (now (out .entry)) (now (out .exit)) r ⌝ }
-{
-    let n = values::null_length(format, size);
-    if end - at < n {
-        return Next::Refused(7);
-    }
-    if write {
-        values::write_null(format, size, out, at);
-        return Next::At(at + n);
-    }
-    Next::At(at + n)
 }
 
 // n nulls, for values that don't exist.
@@ -309,37 +292,20 @@ fn put_cell(
     }
 }
 
-// A value by its content, or null where there is none.
-fn put_item(
-    b: &[u8],
-    content: Content,
-    own: usize,
-    format: usize,
-    size: usize,
-    out: &mut [u8],
-    at: usize,
-    end: usize,
-    write: bool,
-) -> Next
-    requires { ⌜ (own < 5) × (format < 5) × Lies (now b) (format-at own) content × (allowed (format-at format) size ≡ true) × (at ≤ end) × (end ≤ length (now out)) ⌝ }
-    ensures { λ r. ⌜ Filling (within (end - at) (carried-from (now (b .entry)) (format-at own) (format-at format) size content)) at write (now (out .entry)) (now (out .exit)) r ⌝ }
+// What is wanted of entry i, a field.
+fn wanted_of(t: &[u8], i: usize, first: usize, last: usize, format: usize, size: usize) -> Wanted
+    requires { ⌜ Valid (now t) × (i < length (entries-of (now t))) ⌝ }
+    ensures { λ w. ⌜ w ≡ wanted-at (entries-of (now (t .entry))) i first last format size ⌝ }
 {
-    match content {
-        Content::At(from, upto) => {
-            put_value(&b[from..upto], own, format, size, out, at, end, write)
-        }
-        Content::Nothing => put_null(format, size, out, at, end, write),
-    }
-}
-
-// Value k of a cell.
-fn content_of(b: &[u8], cell: Cell, own: usize, size: usize, multiple: bool, k: usize) -> Content
-    requires { ⌜ (own < 5) × (allowed (format-at own) size ≡ true) × (1 ≤ k) × ((vs : List Bytes) × Cell-holds (now b) (format-at own) size multiple vs cell) ⌝ }
-    ensures { λ c. ⌜ ((vs : List Bytes) → Cell-holds (now (b .entry)) (format-at own) size multiple vs cell → Value-of (format-at own) size (now (b .entry)) vs k c) ⌝ }
-{
-    match cell {
-        Cell::At(q) => records::places::value_at(b, q, own, size, multiple, k),
-        Cell::Nothing => Content::Nothing,
+    let e = tables::entry_at(t, i);
+    Wanted {
+        own: e.format as usize,
+        standard: e.size as usize,
+        multiple: e.multiple,
+        first,
+        last,
+        format,
+        size,
     }
 }
 
@@ -359,37 +325,12 @@ fn put_values(
     end: usize,
     write: bool,
 ) -> Next
-    requires { ⌜ Valid (now t) × Askable (entries-of (now t)) i o format size × (1 ≤ first) × (last ≤ highest-index) × Holds (entries-of (now t)) (now b) (now places) × (at ≤ end) × (end ≤ length (now out)) ⌝ }
+    requires { ⌜ Valid (now t) × Askable (entries-of (now t)) i o format size × (1 ≤ first) × (first ≤ last) × (last ≤ highest-index) × Holds (entries-of (now t)) (now b) (now places) × (at ≤ end) × (end ≤ length (now out)) ⌝ }
     ensures { λ r. ⌜ Fills (entries-of (now (t .entry))) (now (b .entry)) (now (places .entry)) (value-items (asked-at (entries-of (now (t .entry))) i format size ∷ []) (just o) (range first last) false) at end write (now (out .entry)) (now (out .exit)) r ⌝ }
 {
-    let e = tables::entry_at(t, i);
+    let w = wanted_of(t, i, first, last, format, size);
     let cell = records::places::cell_at(t, b, places, i, o);
-    let mut p = at;
-    let mut k = first;
-    while k <= last {
-        let content = content_of(b, cell, e.format as usize, e.size as usize, e.multiple, k);
-        let next = put_item(
-            b,
-            content,
-            e.format as usize,
-            format,
-            size,
-            out,
-            p,
-            end,
-            write,
-        );
-        match next {
-            Next::Refused(n) => {
-                return Next::Refused(n);
-            }
-            Next::At(place) => {
-                p = place;
-            }
-        }
-        k += 1;
-    }
-    Next::At(p)
+    put_cell(b, cell, w, out, at, end, write)
 }
 
 // The values from low to high of entry j in occurrence o, where it is a field, at its own format and length; a group adds nothing.
@@ -406,7 +347,7 @@ fn put_field(
     end: usize,
     write: bool,
 ) -> Next
-    requires { ⌜ Valid (now t) × (j < length (entries-of (now t))) × (1 ≤ o) × (inside-at (entries-of (now t)) j ≡ false → o ≡ 1) × (1 ≤ low) × (high ≤ highest-index) × Holds (entries-of (now t)) (now b) (now places) × (at ≤ end) × (end ≤ length (now out)) ⌝ }
+    requires { ⌜ Valid (now t) × (j < length (entries-of (now t))) × (1 ≤ o) × (inside-at (entries-of (now t)) j ≡ false → o ≡ 1) × (1 ≤ low) × (low ≤ high) × (high ≤ highest-index) × Holds (entries-of (now t)) (now b) (now places) × (at ≤ end) × (end ≤ length (now out)) ⌝ }
     ensures { λ r. ⌜ Fills (entries-of (now (t .entry))) (now (b .entry)) (now (places .entry)) (field-items (entries-of (now (t .entry))) j (j + 1) o low high) at end write (now (out .entry)) (now (out .exit)) r ⌝ }
 {
     let e = tables::entry_at(t, j);
@@ -445,7 +386,7 @@ fn put_fields(
     end: usize,
     write: bool,
 ) -> Next
-    requires { ⌜ Valid (now t) × (first ≤ stop) × (stop ≤ length (entries-of (now t))) × (1 ≤ o) × Only (entries-of (now t)) first stop o × (1 ≤ low) × (high ≤ highest-index) × Holds (entries-of (now t)) (now b) (now places) × (at ≤ end) × (end ≤ length (now out)) ⌝ }
+    requires { ⌜ Valid (now t) × (first ≤ stop) × (stop ≤ length (entries-of (now t))) × (1 ≤ o) × Only (entries-of (now t)) first stop o × (1 ≤ low) × (low ≤ high) × (high ≤ highest-index) × Holds (entries-of (now t)) (now b) (now places) × (at ≤ end) × (end ≤ length (now out)) ⌝ }
     ensures { λ r. ⌜ Fills (entries-of (now (t .entry))) (now (b .entry)) (now (places .entry)) (field-items (entries-of (now (t .entry))) first stop o low high) at end write (now (out .entry)) (now (out .exit)) r ⌝ }
 {
     let mut p = at;
@@ -465,23 +406,24 @@ fn put_fields(
     Next::At(p)
 }
 
-// A span in occurrence o.
-fn put_row(
+// A span of fields as they are stored, occurrence by occurrence.
+fn put_rows(
     t: &[u8],
     b: &[u8],
     places: &[u16; records::DIRECTORY],
     s: Span,
-    o: usize,
     out: &mut [u8],
     at: usize,
     end: usize,
     write: bool,
 ) -> Next
-    requires { ⌜ Valid (now t) × Span-held (entries-of (now t)) s × (1 ≤ o) × Only (entries-of (now t)) (s .first) (s .end) o × Holds (entries-of (now t)) (now b) (now places) × (at ≤ end) × (end ≤ length (now out)) ⌝ }
-    ensures { λ r. ⌜ Fills (entries-of (now (t .entry))) (now (b .entry)) (now (places .entry)) (row-items (entries-of (now (t .entry))) s o) at end write (now (out .entry)) (now (out .exit)) r ⌝ }
+    requires { ⌜ Valid (now t) × Span-held (entries-of (now t)) s × (s .standard ≡ true) × Holds (entries-of (now t)) (now b) (now places) × (at ≤ end) × (end ≤ length (now out)) ⌝ }
+    ensures { λ r. ⌜ Fills (entries-of (now (t .entry))) (now (b .entry)) (now (places .entry)) (span-items (entries-of (now (t .entry))) s (s .from)) at end write (now (out .entry)) (now (out .exit)) r ⌝ }
 {
-    if s.standard {
-        return put_fields(
+    let mut p = at;
+    let mut o = s.from;
+    while o <= s.upto {
+        let next = put_fields(
             t,
             b,
             places,
@@ -491,26 +433,55 @@ fn put_row(
             s.value_from,
             s.value_upto,
             out,
-            at,
+            p,
             end,
             write,
         );
+        match next {
+            Next::Refused(n) => {
+                return Next::Refused(n);
+            }
+            Next::At(place) => {
+                p = place;
+            }
+        }
+        o += 1;
     }
-    put_values(
-        t,
-        b,
-        places,
-        s.first,
-        o,
-        s.value_from,
-        s.value_upto,
-        s.format,
-        s.size,
-        out,
-        at,
-        end,
-        write,
-    )
+    Next::At(p)
+}
+
+// A span of one field at a format and a length, occurrence by occurrence; the way to it is found once.
+fn put_column(
+    t: &[u8],
+    b: &[u8],
+    places: &[u16; records::DIRECTORY],
+    s: Span,
+    out: &mut [u8],
+    at: usize,
+    end: usize,
+    write: bool,
+) -> Next
+    requires { ⌜ Valid (now t) × Span-held (entries-of (now t)) s × (s .standard ≡ false) × Holds (entries-of (now t)) (now b) (now places) × (at ≤ end) × (end ≤ length (now out)) ⌝ }
+    ensures { λ r. ⌜ Fills (entries-of (now (t .entry))) (now (b .entry)) (now (places .entry)) (span-items (entries-of (now (t .entry))) s (s .from)) at end write (now (out .entry)) (now (out .exit)) r ⌝ }
+{
+    let w = wanted_of(t, s.first, s.value_from, s.value_upto, s.format, s.size);
+    let path = records::paths::path_to(t, s.first);
+    let mut p = at;
+    let mut o = s.from;
+    while o <= s.upto {
+        let cell = records::places::cell_by(t, b, places, path, o);
+        let next = put_cell(b, cell, w, out, p, end, write);
+        match next {
+            Next::Refused(n) => {
+                return Next::Refused(n);
+            }
+            Next::At(place) => {
+                p = place;
+            }
+        }
+        o += 1;
+    }
+    Next::At(p)
 }
 
 // A span.
@@ -527,21 +498,10 @@ fn put_span(
     requires { ⌜ Valid (now t) × Span-held (entries-of (now t)) s × Holds (entries-of (now t)) (now b) (now places) × (at ≤ end) × (end ≤ length (now out)) ⌝ }
     ensures { λ r. ⌜ Fills (entries-of (now (t .entry))) (now (b .entry)) (now (places .entry)) (span-items (entries-of (now (t .entry))) s (s .from)) at end write (now (out .entry)) (now (out .exit)) r ⌝ }
 {
-    let mut p = at;
-    let mut o = s.from;
-    while o <= s.upto {
-        let next = put_row(t, b, places, s, o, out, p, end, write);
-        match next {
-            Next::Refused(n) => {
-                return Next::Refused(n);
-            }
-            Next::At(place) => {
-                p = place;
-            }
-        }
-        o += 1;
+    if s.standard {
+        return put_rows(t, b, places, s, out, at, end, write);
     }
-    Next::At(p)
+    put_column(t, b, places, s, out, at, end, write)
 }
 
 // What an element means.

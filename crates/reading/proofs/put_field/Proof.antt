@@ -18,7 +18,7 @@ returns c =
     let a = s .args in
     let e = c .before .before .entry-at in
     let g = group-known (entries-of (a .t .now)) (a .j) (e .result) (e .ensures) (c .if1 .taken) in
-    fills-none (entries-of (a .t .now)) (a .b .now) (a .places .now) refl (a .at) (a .end) (a .write) (one-group (entries-of (a .t .now)) (a .o) (a .low) (a .high) (a .j) (s .pre .1) g) (s .pre .6) (s .pre .7) (s .pre .8)
+    fills-none (entries-of (a .t .now)) (a .b .now) (a .places .now) refl (a .at) (a .end) (a .write) (one-group (entries-of (a .t .now)) (a .o) (a .low) (a .high) (a .j) (s .pre .1) g) (s .pre .7) (s .pre .8) (s .pre .9)
 
 cast-put-values : tie.Need-cast-put-values
 cast-put-values c = search needs
@@ -39,6 +39,7 @@ put-values-requires c κs =
       s .pre .6,
       s .pre .7,
       s .pre .8,
+      s .pre .9,
     )
 
 same-length : tie.Need-same-length

@@ -21,7 +21,7 @@ loop-holds : tie.Need-loop-holds Inv-loop μ-loop
 loop-holds c =
     let s = c .before .before .before in
     let a = s .args in
-    (run-start (entries-of (a .t .now)) (a .b .now) (a .places .now) (a .end) _ (a .at) (a .write) (a .out .now) (s .pre .7) (s .pre .8) (s .pre .9), omega arith)
+    (run-start (entries-of (a .t .now)) (a .b .now) (a .places .now) (a .end) _ (a .at) (a .write) (a .out .now) (s .pre .8) (s .pre .9) (s .pre .10), omega arith)
 
 put-field-requires : tie.Need-put-field-requires Inv-loop μ-loop
 put-field-requires c κs =
@@ -34,6 +34,7 @@ put-field-requires c κs =
       s .pre .5,
       s .pre .6,
       s .pre .7,
+      s .pre .8,
       l .inv .0 .fits,
       l .inv .0 .room,
     )
