@@ -125,3 +125,7 @@ pub nulls-few : (n k size : ℕ) → n ≤ highest-index → k < 5 → allowed (
 nulls-few n k size h l a = mul-le-mul {n₁ = n} {m₁ = length (null (format-at k) size)} {n₂ = highest-index} {m₂ = 253} h (by-test (eqb size 0)
     (λ z. omega (arith, ap length (null-0 k size l (eqb-true size 0 z) a)))
     (λ z. omega (arith, null-size k size l (eqb-false size 0 z), size-253 k size l a)))
+
+pub no-nulls : (n : ℕ) (x : Bytes) → n ≡ 0 → join (replicate n x) ≡ []
+unfolding join
+no-nulls n x e = rw e refl

@@ -1,7 +1,7 @@
 -- Those of the values wanted that exist, where a cell stands: behind the values before them, so many as the cell has or as are wanted.
 use mathlib.Core.Path.{_≡_, refl, sym, _∙_, ap}
 use mathlib.Core.Bool.{true, false}
-use mathlib.Core.List.{List, [], _∷_}
+use mathlib.Core.List.{List, []}
 use Prim.Native.Nat.{ℕ, zero, suc, _+_, _-_, _≤_, _<_}
 use native.Mathlib.Nat.{sub-zero, suc-sub-suc, not-suc-le-zero, le-of-suc-le-suc}
 use native.Mathlib.Numerals.{add-one}
@@ -18,7 +18,7 @@ use Rattle.records.specs.Walk.{rest-of, Walked, Ends}
 use Rattle.records.specs.declared.Step.the-variants.{At}
 use Rattle.records.specs.declared.places.Cell.the-variants.{At as Stands}
 use Rattle.records.proofs.Cells.{times-first, times-length, counted-many, byte-there}
-use Rattle.reading.specs.Runs.{Wants, Cell-holds, existing, Stand, Exist}
+use Rattle.reading.specs.Runs.{Wants, Cell-holds, existing, Exist}
 use Rattle.reading.specs.declared.Wanted.{Wanted}
 
 -- The first k of n, and those behind them.

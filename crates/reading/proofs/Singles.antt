@@ -3,6 +3,7 @@ use mathlib.Core.Path.{_≡_, refl, sym, _∙_, ap, subst}
 use mathlib.Core.Bool.{Bool, true, false}
 use mathlib.Core.List.{List, [], _∷_}
 use Prim.Native.Nat.{ℕ, _+_, _≤_, _<_}
+use native.Mathlib.Nat.{add-zero}
 use native.Mathlib.Omega.{arith}
 use borrow.Author.Tests.{le-leb, lt-leb}
 use lib.Dec.{leb}
@@ -39,6 +40,15 @@ module _ (room at : ℕ) (bs out : Bytes) (write : Bool) where
   pub item-written : (n : ℕ) {out′ : Bytes} → write ≡ true → length bs ≤ room → at + length bs ≤ length out → n ≡ at + length bs → out′ ≡ splice at bs out → Filling (within room (done bs)) at write out out′ (At n)
   unfolding bytes-of
   item-written n w h l e q = rw (within-fits room bs h, e, w) (record { answer = refl; same = ap length q ∙ length-splice at bs out l; bytes = λ k. q })
+
+-- No bytes: nothing changes.
+pub nothing-put : (room at : ℕ) (out : Bytes) (write : Bool) (bs : Bytes) → bs ≡ [] → Filling (within room (done bs)) at write out out (At at)
+unfolding bytes-of
+nothing-put room at out write bs e = rw (e, within-fits room [] (omega arith)) (record { answer = ap At (sym (add-zero at)); same = refl; bytes = λ k. unchanged write })
+  where
+    unchanged : (w : Bool) → out ≡ left-as w at (done []) out
+    unchanged true = sym (splice-nil at out)
+    unchanged false = refl
 
 -- The same of an outcome, by what a test of it said: its refusal, or how long its bytes are.
 module _ (o : Outcome Bytes) where

@@ -147,6 +147,9 @@ fn put_nulls(
     requires { ⌜ (n ≤ highest-index) × (format < 5) × (allowed (format-at format) size ≡ true) × (at ≤ end) × (end ≤ length (now out)) ⌝ }
     ensures { λ r. ⌜ Filling (within (end - at) (done (join (replicate n (null (format-at format) size))))) at write (now (out .entry)) (now (out .exit)) r ⌝ }
 {
+    if n == 0 {
+        return Next::At(at);
+    }
     let all = n * values::null_length(format, size);
     if end - at < all {
         return Next::Refused(7);

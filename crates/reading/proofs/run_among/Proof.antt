@@ -1,5 +1,5 @@
 -- `reading::run_among` meets its contract: the values wanted stand behind those before them, as far as the cell has them. Assumes nothing.
-use mathlib.Core.Path.{refl, ap, _∙_}
+use mathlib.Core.Path.{refl, ap}
 use Prim.Native.Nat.{ℕ, _+_, _-_, _≤_}
 use native.Mathlib.Omega.{arith}
 use lib.ListN.{length}

@@ -4,7 +4,7 @@ use Prim.Native.Nat.{ℕ, _+_, _*_, _≤_}
 use native.Mathlib.Omega.{arith}
 use lib.ListN.{length, replicate}
 use Rattle.rules.specs.Lists.{Bytes, join}
-use Rattle.rules.specs.Values.{Format, packed, null}
+use Rattle.rules.specs.Values.{Format, null}
 use Rattle.buffer.specs.Splice.{splice}
 use Rattle.values.specs.Formats.{format-at}
 use Rattle.values.proofs.Numbered.{some-size}
