@@ -26,12 +26,11 @@ fn inside_next(t: &[u8], i: usize, before: bool) -> bool
     requires { ⌜ Valid (now t) × (i < length (entries-of (now t))) ⌝ }
     ensures { λ r. ⌜ r ≡ is-inside before (getD (entries-of (now (t .entry))) i blank) ⌝ }
 {
-    let e = tables::entry_at(t, i);
-    if e.periodic {
+    if tables::periodic_at(t, i) {
         return true;
     }
     if before {
-        return 1 < e.level;
+        return 1 < tables::level_at(t, i);
     }
     false
 }

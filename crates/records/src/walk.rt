@@ -167,8 +167,7 @@ fn entry_end(
     requires { ⌜ Valid (now t) × (i < length (entries-of (now t))) × (at ≤ length (now b)) × (length (now b) ≤ longest-record) × (length (now places) ≡ directory) × (kept ≤ 65280) ⌝ }
     ensures { λ r. ⌜ Walked (now (b .entry)) (behind inside (getD (entries-of (now (t .entry))) i blank) (drop (suc i) (entries-of (now (t .entry)))) (drop at (now (b .entry)))) r × Keeps (occurrence (entries-of (now (t .entry))) i) (now (b .entry)) (at + 1) (rows-of (getD (entries-of (now (t .entry))) i blank .what) (getD (now (b .entry)) at 0)) kept (now (places .entry)) (now (places .exit)) r ⌝ }
 {
-    let e = tables::entry_at(t, i);
-    if e.periodic {
+    if tables::periodic_at(t, i) {
         if has_count(b, at) {
             let end = tables::group_end(t, i);
             return occurrences_end(t, b, at + 1, b[at] as usize, i + 1, end, places, kept);
@@ -189,8 +188,7 @@ fn kept_behind(t: &[u8], b: &[u8], at: usize, i: usize, kept: usize) -> usize
     if b.len() <= at {
         return kept;
     }
-    let e = tables::entry_at(t, i);
-    if e.periodic {
+    if tables::periodic_at(t, i) {
         return kept + b[at] as usize;
     }
     kept

@@ -1,5 +1,5 @@
 -- `records::walk::entry_end` meets its contract: each branch is one kind of entry, and only a periodic group has occurrences to keep. Assumes nothing.
-use mathlib.Core.Path.{_≡_, sym, ap, _∙_}
+use mathlib.Core.Path.{_≡_, sym, _∙_}
 use mathlib.Core.Bool.{true, false}
 use Prim.Native.Nat.{suc}
 use native.Mathlib.Omega.{arith}
@@ -14,8 +14,8 @@ use borrow.Author.Needs.{needs}
 use Rattle.records.proofs.walk.entry_end.Statement.{statement}
 use Rattle.records.proofs.walk.entry_end.Tie as tie
 
-entry-at-requires : tie.Need-entry-at-requires
-entry-at-requires c κs = search needs
+periodic-at-requires : tie.Need-periodic-at-requires
+periodic-at-requires c κs = search needs
 
 has-count-requires : tie.Need-has-count-requires
 has-count-requires c κs = search needs
@@ -49,7 +49,7 @@ returns c =
     let a = s .args in
     let es = entries-of (a .t .now) in
     let e = getD es (a .i) blank in
-    let p : is-periodic (e .what) ≡ true = ap (λ r. r .periodic) (sym (c .before .before .before .before .before .before .before .entry-at .ensures)) ∙ c .before .before .before .before .before .before .if1 .taken in
+    let p : is-periodic (e .what) ≡ true = sym (c .before .before .before .before .before .before .before .periodic-at .ensures) ∙ c .before .before .before .before .before .before .if1 .taken in
     let l = periodic-level (a .t .now) (s .pre .0) (a .i) (s .pre .1) (periodic-what (e .what) p) in
     let o = c .occurrences-end .ensures in
     let g = c .before .before .before .group-end .ensures in (
@@ -61,7 +61,7 @@ returns-2 : tie.Need-returns-2
 returns-2 c =
     let a = c .before .before .before .before .before .before .args in
     let e = getD (entries-of (a .t .now)) (a .i) blank in
-    let p : is-periodic (e .what) ≡ true = ap (λ r. r .periodic) (sym (c .before .before .before .entry-at .ensures)) ∙ c .before .before .if1 .taken in
+    let p : is-periodic (e .what) ≡ true = sym (c .before .before .before .periodic-at .ensures) ∙ c .before .before .if1 .taken in
     (record { answer = sym (behind-countless (a .inside) (entries-of (a .t .now)) (a .i) (a .b .now) (a .at) p (sym (c .before .has-count .ensures) ∙ c .if2 .left)); place = tt }, λ x q. absurd (not-at q))
 
 returns-3 : tie.Need-returns-3
@@ -69,7 +69,7 @@ returns-3 c =
     let s = c .before .before .before .before .before in
     let a = s .args in
     let es = entries-of (a .t .now) in
-    let p : is-periodic (getD es (a .i) blank .what) ≡ false = ap (λ r. r .periodic) (sym (c .before .before .entry-at .ensures)) ∙ c .before .if1 .left in (
+    let p : is-periodic (getD es (a .i) blank .what) ≡ false = sym (c .before .before .periodic-at .ensures) ∙ c .before .if1 .left in (
       record { answer = sym (behind-inside (a .inside) (getD es (a .i) blank) (drop (suc (a .i)) es) (drop (a .at) (a .b .now)) p (c .if3 .taken)); place = s .pre .2 },
       λ x q. kept-none es (a .i) p (getD (a .b .now) (a .at) 0) (a .kept) (a .places .now),
     )
@@ -81,7 +81,7 @@ returns-4 : tie.Need-returns-4
 returns-4 c =
     let a = c .before .before .before .before .before .before .args in
     let es = entries-of (a .t .now) in
-    let p : is-periodic (getD es (a .i) blank .what) ≡ false = ap (λ r. r .periodic) (sym (c .before .before .before .entry-at .ensures)) ∙ c .before .before .if1 .left in (
+    let p : is-periodic (getD es (a .i) blank .what) ≡ false = sym (c .before .before .before .periodic-at .ensures) ∙ c .before .before .if1 .left in (
       walked-as (behind-outside (a .inside) (getD es (a .i) blank) (drop (suc (a .i)) es) (drop (a .at) (a .b .now)) p (c .before .if3 .left)) (c .member-end .ensures),
       λ x q. kept-none es (a .i) p (getD (a .b .now) (a .at) 0) (a .kept) (a .places .now),
     )
@@ -90,7 +90,7 @@ pub entry-end-spec : {M : Type 1} → statement M
 entry-end-spec =
     tie.close
     (tie.spec
-    entry-at-requires
+    periodic-at-requires
     has-count-requires
     group-end-requires
     add-occurrences-end
