@@ -9,8 +9,12 @@ ghost use Rattle.records.specs.Places.{Holds};
 ghost use Rattle.lyrecanyon.specs.Answers.{Settled, Exported, refusal-number, answer-number, answer-length};
 use reading::Next;
 
-// Answers up to so many bytes are made in a work area first, so that one pass over the format is enough.
+// Answers up to so many bytes are made in a work area first, so that one pass over the format is enough. A long format gets a larger area, whose clearing is little beside its reading.
 const SHORT: usize = 1024;
+
+const LARGE: usize = 4096;
+
+const SHORT_FORMAT: usize = 64;
 
 // Why a call is refused: the numbers 1 to 10 of document 01, in their order.
 pub enum Refusal {
@@ -126,14 +130,14 @@ fn read_short(
     places: &[u16; records::DIRECTORY],
     format: &[u8],
     buffer: &mut [u8],
+    area: &mut [u8],
 ) -> Answer
     requires { ⌜ Valid (now table) × Holds (entries-of (now table)) (now stored) (now places) ⌝ }
     ensures { λ r. ⌜ Settled (Rules.read (now (table .entry)) (now (stored .entry)) (now (format .entry)) (length (now (buffer .entry)))) (now (buffer .entry)) (now (buffer .exit)) r ⌝ }
 {
     let end = least(buffer.len(), rules::LONGEST_ITEMS);
-    let room = least(end, SHORT);
-    let mut area = [0u8; SHORT];
-    let next = reading::scan(table, stored, places, format, &mut area, room, true);
+    let room = least(end, area.len());
+    let next = reading::scan(table, stored, places, format, area, room, true);
     match next {
         Next::Refused(n) => {
             if n != 7 {
@@ -151,6 +155,25 @@ fn read_short(
     }
 }
 
+// The same, in a work area by the length of the format.
+fn read_items(
+    table: &[u8],
+    stored: &[u8],
+    places: &[u16; records::DIRECTORY],
+    format: &[u8],
+    buffer: &mut [u8],
+) -> Answer
+    requires { ⌜ Valid (now table) × Holds (entries-of (now table)) (now stored) (now places) ⌝ }
+    ensures { λ r. ⌜ Settled (Rules.read (now (table .entry)) (now (stored .entry)) (now (format .entry)) (length (now (buffer .entry)))) (now (buffer .entry)) (now (buffer .exit)) r ⌝ }
+{
+    if format.len() <= SHORT_FORMAT {
+        let mut area = [0u8; SHORT];
+        return read_short(table, stored, places, format, buffer, &mut area);
+    }
+    let mut area = [0u8; LARGE];
+    read_short(table, stored, places, format, buffer, &mut area)
+}
+
 // Fills the record buffer with the items of a format.
 pub fn read(table: &[u8], stored: &[u8], format: &[u8], buffer: &mut [u8]) -> Answer
     ensures { λ r. ⌜ Settled (Rules.read (now (table .entry)) (now (stored .entry)) (now (format .entry)) (length (now (buffer .entry)))) (now (buffer .entry)) (now (buffer .exit)) r ⌝ }
@@ -162,7 +185,7 @@ pub fn read(table: &[u8], stored: &[u8], format: &[u8], buffer: &mut [u8]) -> An
     if !records::walk::check(table, stored, &mut places) {
         return Answer::Refused(Refusal::NoRecord);
     }
-    read_short(table, stored, &places, format, buffer)
+    read_items(table, stored, &places, format, buffer)
 }
 
 // The same for C: the number is returned, and the length used is written.

@@ -33,8 +33,8 @@ returns-2 c =
     (read-no-record (a .table .now) (a .stored .now) (a .format .now) (length (a .buffer .now)) (is-table (c .before .before .before))
     (sym (c .before .check .ensures .answer) ∙ not-true (c .before .check .result) (c .if2 .taken)))
 
-read-short-requires : tie.Need-read-short-requires
-read-short-requires c κs =
+read-items-requires : tie.Need-read-items-requires
+read-items-requires c κs =
     let k = c .before .before .before .check in
     (is-table (c .before .before .before .before .before), holds _ _ _ (k .result) (k .ensures) (not-false (k .result) (c .before .before .if2 .left)))
 
@@ -52,6 +52,6 @@ read-spec =
     returns
     check-requires
     returns-2
-    read-short-requires
+    read-items-requires
     same-length
     returns-3)
