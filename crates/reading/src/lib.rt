@@ -158,7 +158,7 @@ fn content_of(b: &[u8], cell: Cell, own: usize, size: usize, multiple: bool, k: 
 fn put_values(
     t: &[u8],
     b: &[u8],
-    places: &[u16; 64],
+    places: &[u16; records::DIRECTORY],
     i: usize,
     o: usize,
     first: usize,
@@ -207,7 +207,7 @@ fn put_values(
 fn put_field(
     t: &[u8],
     b: &[u8],
-    places: &[u16; 64],
+    places: &[u16; records::DIRECTORY],
     j: usize,
     o: usize,
     low: usize,
@@ -245,7 +245,7 @@ fn put_field(
 fn put_fields(
     t: &[u8],
     b: &[u8],
-    places: &[u16; 64],
+    places: &[u16; records::DIRECTORY],
     first: usize,
     stop: usize,
     o: usize,
@@ -280,7 +280,7 @@ fn put_fields(
 fn put_row(
     t: &[u8],
     b: &[u8],
-    places: &[u16; 64],
+    places: &[u16; records::DIRECTORY],
     s: Span,
     o: usize,
     out: &mut [u8],
@@ -328,7 +328,7 @@ fn put_row(
 fn put_span(
     t: &[u8],
     b: &[u8],
-    places: &[u16; 64],
+    places: &[u16; records::DIRECTORY],
     s: Span,
     out: &mut [u8],
     at: usize,
@@ -359,7 +359,7 @@ fn put_span(
 fn put_use(
     t: &[u8],
     b: &[u8],
-    places: &[u16; 64],
+    places: &[u16; records::DIRECTORY],
     f: &[u8],
     u: Use,
     out: &mut [u8],

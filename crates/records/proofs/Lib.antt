@@ -16,3 +16,5 @@ pub mod Normals
 pub mod Directories
 pub mod Placed
 pub mod Contents
+pub mod Skips
+pub mod Widths

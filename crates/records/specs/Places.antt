@@ -11,18 +11,17 @@ use Rattle.rules.specs.Table.{Entry, parts}
 use Rattle.rules.specs.Record.{Record, stored-cell, stored, values-at}
 use Rattle.tables.specs.Entries.{blank}
 use Rattle.tables.specs.Groups.{field-at}
-use Rattle.records.specs.Walk.{start-of}
-use Rattle.records.specs.declared.Step.{Step}
-use Rattle.records.specs.declared.Step.the-variants as S
+use Rattle.records.specs.Walk.{Starts, Rows}
 use Rattle.records.specs.declared.places.Cell.{Cell}
 use Rattle.records.specs.declared.places.Cell.the-variants.{At, Nothing}
 use Rattle.records.specs.declared.places.Content.{Content}
 use Rattle.records.specs.declared.places.Content.the-variants.{At as Lies, Nothing as Absent}
 
--- The bytes hold the record r, and each entry's part stands from its place on.
+-- The bytes hold the record r, and places is their directory.
 pub record Held (es : List Entry) (b : Bytes) (places : List ℕ) (r : Record) : Type 0 where
   pub stands : stored (parts es) b ≡ done r
-  pub starts : (j : ℕ) → j < length es → (getD places j 0 ≤ length b) × (drop (getD places j 0) b ≡ start-of false es (drop 5 b) j)
+  pub starts : (j : ℕ) → j < length es → Starts es b places j
+  pub rows : (g : ℕ) → g < length es → Rows es b places g
 
 -- They hold some record.
 abbrev pub Holds : List Entry → Bytes → List ℕ → Type 0
@@ -32,11 +31,6 @@ Holds es b places = (r : Record) × Held es b places r
 abbrev pub Cell-of : List Entry → Bytes → ℕ → ℕ → Record → Cell → Type 0
 Cell-of es b i o r (At q) = (q ≤ length b) × (rest : Bytes) × (stored-cell (field-at es i) (drop q b) ≡ done (values-at (parts es) r (getD es i blank .name) o, rest))
 Cell-of es b i o r Nothing = values-at (parts es) r (getD es i blank .name) o ≡ []
-
--- The cell where a walk stands.
-abbrev pub cell-from : Step → Cell
-cell-from (S.At p) = At p
-cell-from S.Bad = Nothing
 
 -- The content of a value v, without its length byte: between two places, and so long as its format allows.
 pub record Content-of (f : Format) (size : ℕ) (b v : Bytes) (from upto : ℕ) : Type 0 where
