@@ -18,3 +18,4 @@ pub mod Placed
 pub mod Contents
 pub mod Skips
 pub mod Widths
+pub mod Pieces

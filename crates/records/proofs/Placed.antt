@@ -14,7 +14,7 @@ use Rattle.rules.specs.Lists.{Bytes, same, nothing}
 use Rattle.rules.specs.Values.{Format}
 use Rattle.rules.specs.Table.{What, field, group, Entry, Part, is-inside, fields-below, names, differ, parts}
 use Rattle.rules.specs.Record.{Record, Occurrence, record-head, times, counted, each, stored-value, stored-cell, stored-part, stored, group-count-at, values-at, value-count-at}
-use Rattle.rules.proofs.Steps.{from-bind, from-need, done-inj, true-T, by-outcome}
+use Rattle.rules.proofs.Steps.{from-bind, from-need, nothing-eq, done-inj, true-T, by-outcome}
 use Rattle.buffer.proofs.Cases.{by-order}
 use Rattle.tables.specs.Entries.{blank, is-group, is-multiple, is-periodic, size-of, format-at, format-number}
 use Rattle.tables.specs.Places.{inside-at, inside-before, Home}
@@ -39,21 +39,24 @@ holds es b places ok c t = by-outcome (stored (parts es) b)
     (λ n h. absurd (never (c .answer ∙ ap is-done h) t))
 
 -- The body of a record is what its parts read.
-body : {C : Type 0} (ps : List Part) (b : Bytes) (r : Record) → stored ps b ≡ done r → ((rest : Bytes) → each stored-part ps (drop 5 b) ≡ done (r, rest) → C) → C
+pub whole-body : {C : Type 0} (ps : List Part) (b : Bytes) (r : Record) → stored ps b ≡ done r → ((rest : Bytes) → each stored-part ps (drop 5 b) ≡ done (r, rest) → rest ≡ [] → C) → C
 unfolding stored
-body ps b r p k =
+whole-body ps b r p k =
     from-need (leb (length b) longest-record) 2 _ p λ t k₁.
     from-need (same (take 5 b) record-head) 2 _ k₁ λ t₂ k₂.
     from-bind (each stored-part ps (drop 5 b)) _ k₂ λ x h k₃.
     from-need (nothing (x .1)) 2 _ k₃ λ t₃ k₄.
-    k (x .1) (h ∙ rw (done-inj k₄) refl)
+    k (x .1) (h ∙ rw (done-inj k₄) refl) (nothing-eq (x .1) t₃)
+
+body : {C : Type 0} (ps : List Part) (b : Bytes) (r : Record) → stored ps b ≡ done r → ((rest : Bytes) → each stored-part ps (drop 5 b) ≡ done (r, rest) → C) → C
+body ps b r p k = whole-body ps b r p λ rest h z. k rest h
 
 -- An entry that is no group is a field.
 pub by-field : {C : Type 0} (w : What) → is-group w ≡ false → ((f : Format) (s : ℕ) (mu : Bool) → w ≡ field f s mu → C) → C
 by-field (field f s mu) h k = k f s mu refl
 by-field (group p) h k = absurd (never h refl)
 
-field-is : (es : List Entry) (i : ℕ) (f : Format) (s : ℕ) (mu : Bool) → getD es i blank .what ≡ field f s mu
+pub field-is : (es : List Entry) (i : ℕ) (f : Format) (s : ℕ) (mu : Bool) → getD es i blank .what ≡ field f s mu
     → field-at es i ≡ record { name = getD es i blank .name; format = f; size = s; multiple = mu }
 unfolding field-at field-by
 field-is es i f s mu w = ap (field-by (getD es i blank .name)) w
@@ -66,7 +69,7 @@ unfolding stored-cell
 cell-numbers es i bs h = by-field (getD es i blank .what) h λ f s mu w. rw (field-is es i f s mu w, w, number-back f) refl
 
 -- Both ways to say that an entry lies in a periodic group.
-inside-same : (es : List Entry) (i : ℕ) → i < length es → inside-from false es i ≡ inside-at es i
+pub inside-same : (es : List Entry) (i : ℕ) → i < length es → inside-from false es i ≡ inside-at es i
 unfolding inside-at inside-before
 inside-same es zero h = inside-first false es blank h
 inside-same es (suc i) h = inside-next false es blank i h ∙ ap (λ (p : Bool). is-inside p (getD es (suc i) blank)) (inside-same es i (omega arith))

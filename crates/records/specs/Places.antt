@@ -1,17 +1,20 @@
 -- Where the values of a stored record lie, by the place of each entry's part.
 use mathlib.Core.Path.{_≡_}
 use mathlib.Core.Bool.{true, false}
-use mathlib.Core.List.{List, []}
+use mathlib.Core.List.{List, [], _∷_, _++_}
 use Prim.Native.Nat.{ℕ, _-_, _≤_, _<_}
 use lib.ListN.{length, take, drop, getD}
+use lib.Seq.{slice}
 use Rattle.rules.specs.Outcome.{done}
-use Rattle.rules.specs.Lists.{Bytes}
+use Rattle.rules.specs.Lists.{Bytes, join}
 use Rattle.rules.specs.Values.{Format, content, allowed}
-use Rattle.rules.specs.Table.{Entry, parts}
+use Rattle.rules.specs.Table.{Entry, Field, parts}
 use Rattle.rules.specs.Record.{Record, stored-cell, stored, values-at}
-use Rattle.tables.specs.Entries.{blank}
+use Rattle.tables.specs.Entries.{blank, is-multiple}
 use Rattle.tables.specs.Groups.{field-at}
+use Rattle.tables.specs.Places.{inside-at}
 use Rattle.records.specs.Walk.{Starts, Rows}
+use Rattle.records.specs.Where.{fields-of}
 use Rattle.records.specs.declared.places.Cell.{Cell}
 use Rattle.records.specs.declared.places.Cell.the-variants.{At, Nothing}
 use Rattle.records.specs.declared.places.Content.{Content}
@@ -48,3 +51,17 @@ Contained f size b v Absent = ⊥
 abbrev pub Value-of : Format → ℕ → Bytes → List Bytes → ℕ → Content → Type 0
 Value-of f size b vs k (Lies from upto) = (k ≤ length vs) × Content-of f size b (getD vs (k - 1) []) from upto
 Value-of f size b vs k Absent = length vs < k
+
+-- The values of some fields in occurrence o, one behind the other.
+unfoldable pub values-of : List Entry → Record → ℕ → List Field → Bytes
+values-of es r o [] = []
+values-of es r o (f ∷ fs) = join (values-at (parts es) r (f .name) o) ++ values-of es r o fs
+
+-- The entries from first to end lie outside periodic groups, and none is MU.
+abbrev pub Outside : List Entry → ℕ → ℕ → Type 0
+Outside es first end = (j : ℕ) → first ≤ j → j < end → (inside-at es j ≡ false) × (is-multiple (getD es j blank .what) ≡ false)
+
+-- The piece of a record that the fields among the entries from first to end are, in occurrence o.
+abbrev pub Piece-of : List Entry → Bytes → ℕ → ℕ → ℕ → Record → Content → Type 0
+Piece-of es b first end o r (Lies from upto) = (from ≤ upto) × (upto ≤ length b) × (take (upto - from) (drop from b) ≡ values-of es r o (fields-of (slice first end es)))
+Piece-of es b first end o r Absent = values-of es r o (fields-of (slice first end es)) ≡ []

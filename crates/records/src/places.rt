@@ -11,8 +11,8 @@ ghost use Rattle.rules.specs.Table.{group, parts};
 ghost use Rattle.rules.specs.Record.{Record, times, counted, stored-value, group-count-at, value-count-at};
 ghost use Rattle.tables.specs.Entries.{Valid, entries-of, blank, is-group, is-multiple, format-at};
 ghost use Rattle.tables.specs.Places.{inside-at};
-ghost use Rattle.records.specs.Places.{Held, Holds, Cell-of, Contained, Value-of};
-ghost use Rattle.records.specs.Walk.{directory, rest-of, Walked, Ends, occurrence};
+ghost use Rattle.records.specs.Places.{Held, Holds, Cell-of, Contained, Value-of, Outside, Piece-of};
+ghost use Rattle.records.specs.Walk.{directory, rest-of, Walked, Ends, start-of, occurrence};
 ghost use Rattle.records.specs.Paths.{Leads};
 ghost use Rattle.records.specs.declared.Step.the-variants.{At};
 use crate::DIRECTORY;
@@ -158,4 +158,30 @@ pub fn value_at(
         return Content::Nothing;
     }
     content_at(b, cell, size)
+}
+
+// The place behind the parts of the entries before entry i.
+fn place_behind(t: &[u8], b: &[u8], places: &[u16; DIRECTORY], i: usize) -> usize
+    requires { ⌜ Valid (now t) × (i ≤ length (entries-of (now t))) × Holds (entries-of (now t)) (now b) (now places) ⌝ }
+    ensures { λ p. ⌜ (p ≤ length (now (b .entry))) × (drop p (now (b .entry)) ≡ start-of false (entries-of (now (t .entry))) (drop 5 (now (b .entry))) i) ⌝ }
+{
+    if i < tables::count(t) {
+        return place_of(places, i);
+    }
+    b.len()
+}
+
+// Where the fields among the entries from first to end stand, all outside periodic groups and none MU.
+pub fn piece_outside(
+    t: &[u8],
+    b: &[u8],
+    places: &[u16; DIRECTORY],
+    first: usize,
+    end: usize,
+) -> Content
+    requires { ⌜ Valid (now t) × (first ≤ end) × (end ≤ length (entries-of (now t))) × Outside (entries-of (now t)) first end × Holds (entries-of (now t)) (now b) (now places) ⌝ }
+    ensures { λ c. ⌜ ((r : Record) → Held (entries-of (now (t .entry))) (now (b .entry)) (now (places .entry)) r → Piece-of (entries-of (now (t .entry))) (now (b .entry)) first end 1 r c) ⌝ }
+{
+    let from = place_behind(t, b, places, first);
+    Content::At(from, place_behind(t, b, places, end))
 }
