@@ -160,7 +160,7 @@ fn content_of(b: &[u8], cell: Cell, own: usize, size: usize, multiple: bool, k: 
 fn put_values(
     t: &[u8],
     b: &[u8],
-    places: &[u16; 64],
+    places: &[u16; records::DIRECTORY],
     i: usize,
     o: usize,
     first: usize,
@@ -209,7 +209,7 @@ fn put_values(
 fn put_field(
     t: &[u8],
     b: &[u8],
-    places: &[u16; 64],
+    places: &[u16; records::DIRECTORY],
     j: usize,
     o: usize,
     low: usize,
@@ -247,7 +247,7 @@ fn put_field(
 fn put_fields(
     t: &[u8],
     b: &[u8],
-    places: &[u16; 64],
+    places: &[u16; records::DIRECTORY],
     first: usize,
     stop: usize,
     o: usize,
@@ -282,7 +282,7 @@ fn put_fields(
 fn put_row(
     t: &[u8],
     b: &[u8],
-    places: &[u16; 64],
+    places: &[u16; records::DIRECTORY],
     s: Span,
     o: usize,
     out: &mut [u8],
@@ -330,7 +330,7 @@ fn put_row(
 fn put_span(
     t: &[u8],
     b: &[u8],
-    places: &[u16; 64],
+    places: &[u16; records::DIRECTORY],
     s: Span,
     out: &mut [u8],
     at: usize,
@@ -361,7 +361,7 @@ fn put_span(
 fn put_use(
     t: &[u8],
     b: &[u8],
-    places: &[u16; 64],
+    places: &[u16; records::DIRECTORY],
     f: &[u8],
     u: Use,
     out: &mut [u8],

@@ -7,13 +7,13 @@ use native.Mathlib.Nat.{add-zero, add-suc, zero-add, not-suc-le-zero}
 use native.Mathlib.Numerals.{add-one}
 use native.Mathlib.Omega.{arith}
 use lib.Dec.{ltb}
-use lib.ListN.{length, drop, getD, set, length-set, drop-of-length-le}
-use lib.Seq.{drop-cons, getD-set-same, getD-set-other}
+use lib.ListN.{length, drop, getD, drop-of-length-le}
+use lib.Seq.{drop-cons}
 use Rattle.rules.specs.Outcome.{Outcome, done, refused, _>>=_}
 use Rattle.rules.specs.Lists.{Bytes}
 use Rattle.rules.specs.Table.{What, field, group, Entry, Part, is-inside, parts-from, part-of, parts}
 use Rattle.rules.specs.Record.{Reader, each, stored-part}
-use Rattle.records.specs.Walk.{rest-of, bytes-left, behind, start-of}
+use Rattle.records.specs.Walk.{rest-of, bytes-left, behind, start-of, Starts}
 use Rattle.rules.proofs.Steps.{done-inj, not-done, by-outcome}
 use Rattle.buffer.proofs.Cases.{by-order}
 use Rattle.records.proofs.Walks.{each-turn, each-stop}
@@ -75,7 +75,7 @@ pub record Checking (es : List Entry) (b : Bytes) (places : List ℕ) (before : 
   pub inside : p ≤ length b
   pub rest : left before (drop i es) (drop p b) ≡ left false es (drop 5 b)
   pub starts : (j : ℕ) → start-of before (drop i es) (drop p b) j ≡ start-of false es (drop 5 b) (i + j)
-  pub kept : (j : ℕ) → j < i → (getD places j 0 ≤ length b) × (drop (getD places j 0) b ≡ start-of false es (drop 5 b) j)
+  pub kept : (j : ℕ) → j < i → Starts es b places j
 
 pub start : (es : List Entry) (b : Bytes) (places : List ℕ) → 5 ≤ length b → Checking es b places false 0 5
 start es b places h = record {
@@ -91,20 +91,17 @@ module _ {es : List Entry} {b : Bytes} {places : List ℕ} {before : Bool} {i p 
   here : start-of false es (drop 5 b) i ≡ drop p b
   here = rw add-zero at (sym (c .starts 0)) ∙ rw (drop-cons es i d less) (start-here before (getD es i d) (drop (suc i) es) (drop p b))
 
-  pub turn : (q : ℕ) → i < length places → q ≤ length b → behind (is-inside before (getD es i d)) (getD es i d) (drop (suc i) es) (drop p b) ≡ done (drop q b)
-      → Checking es b (set places i p) (is-inside before (getD es i d)) (i + 1) q
-  turn q room h e = record {
+  pub turn : (q : ℕ) (after : List ℕ) → getD after i 0 ≡ p → ((j : ℕ) → j < i → getD after j 0 ≡ getD places j 0) → q ≤ length b
+      → behind (is-inside before (getD es i d)) (getD es i d) (drop (suc i) es) (drop p b) ≡ done (drop q b)
+      → Checking es b after (is-inside before (getD es i d)) (i + 1) q
+  turn q after new old h e = record {
     upto = omega arith;
     inside = h;
     rest = rw add-one (sym (entry-on before (getD es i d) (drop (suc i) es) (drop p b) (drop q b) e) ∙ rw (drop-cons es i d less) at (c .rest));
     starts = λ j. rw add-one (sym (start-on before (getD es i d) (drop (suc i) es) (drop p b) (drop q b) j e)
         ∙ rw (drop-cons es i d less) at (c .starts (suc j)) ∙ ap (start-of false es (drop 5 b)) (omega arith));
-    kept = λ j k. by-order j i (λ l. rw (getD-set-other places i j p 0 (λ z. ne l z)) (c .kept j l))
-        (λ l. let z : j ≡ i = omega arith in rw (z, getD-set-same places i p 0 room) (c .inside, sym here));
+    kept = λ j k. by-order j i (λ l. rw (old j l) (c .kept j l)) (λ l. let z : j ≡ i = omega arith in rw (z, new) (c .inside, sym here));
   }
-    where
-      ne : {j : ℕ} → j < i → j ≡ i → ⊥
-      ne l z = omega arith
 
   pub bad : behind (is-inside before (getD es i d)) (getD es i d) (drop (suc i) es) (drop p b) ≡ refused 2 → left false es (drop 5 b) ≡ refused 2
   bad e = sym (c .rest) ∙ rw (drop-cons es i d less) (entry-off before (getD es i d) (drop (suc i) es) (drop p b) 2 e)

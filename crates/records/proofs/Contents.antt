@@ -17,12 +17,12 @@ use Rattle.rules.proofs.Steps.{from-done, not-done}
 use Rattle.values.specs.Places.{Found}
 use Rattle.values.specs.declared.First.{First}
 use Rattle.values.specs.declared.First.the-variants.{Value, Refused}
-use Rattle.records.specs.Walk.{rest-of, has-count}
+use Rattle.records.specs.Walk.{rest-of, Ends}
 use Rattle.records.specs.Places.{Content-of, Contained, Value-of}
 use Rattle.records.specs.declared.places.Content.{Content}
 use Rattle.records.specs.declared.places.Content.the-variants.{At, Nothing}
 use Rattle.records.proofs.Entries.{never}
-use Rattle.records.proofs.Ends.{count-none}
+use Rattle.records.proofs.Skips.{from-rest}
 use Rattle.records.proofs.Cells.{counted-many, counted-once, times-at, byte-there, value-first}
 use Rattle.records.proofs.Normals.{first-at, first-none, value-length}
 
@@ -67,15 +67,17 @@ module _ (f : Format) (size : ℕ) (b : Bytes) (cell : ℕ) {vs : List Bytes} {r
   pub many-count : getD b cell 0 ≡ length vs
   many-count = counted-many (stored-value f size) (drop cell b) p λ tail h most t. byte-there b cell h .1
 
-  pub many-none : has-count b cell ≡ false → ⊥
-  many-none h = not-done (sym (count-none (stored-value f size) b cell h) ∙ ap rest-of p)
-
   pub many-there : {C : Type 0} (k : ℕ) → 1 ≤ k → k ≤ getD b cell 0
       → ((mid next : Bytes) → rest-of (times (k - 1) (stored-value f size) (drop (cell + 1) b)) ≡ done mid → stored-value f size mid ≡ done (getD vs (k - 1) [], next) → C) → C
   many-there k some l c = counted-many (stored-value f size) (drop cell b) p λ tail h most t.
       let x = byte-there b cell h in
       times-at (stored-value f size) [] (length vs) (k - 1) tail (omega (arith, x .1)) t λ mid next h₁ h₂.
       c mid next (rw (add-one cell, ← x .2) (ap rest-of h₁)) h₂
+
+pub many-ends : (f : Format) (size : ℕ) (b : Bytes) (cell : ℕ) → Ends (rest-of (counted true (stored-value f size) (drop cell b))) → (k : ℕ) → 1 ≤ k → k ≤ getD b cell 0
+    → Ends (rest-of (times (k - 1) (stored-value f size) (drop (cell + 1) b)))
+many-ends f size b cell e k some l = from-rest (counted true (stored-value f size) (drop cell b)) (e .1) λ vs p.
+    many-there f size b cell p k some l λ mid next h₁ h₂. (mid, h₁)
 
 -- The cell of another field has one value.
 module _ (f : Format) (size : ℕ) (bs : Bytes) {vs : List Bytes} {rest : Bytes} (p : counted false (stored-value f size) bs ≡ done (vs, rest)) where

@@ -3,7 +3,7 @@ use mathlib.Core.Path.{_≡_, refl, sym, _∙_, ap}
 use mathlib.Core.Bool.{Bool, true, false, _&&_}
 use mathlib.Core.List.{List, [], _∷_, _++_}
 use Prim.Native.Nat.{ℕ, zero, suc, _+_, _≤_, _<_}
-use native.Mathlib.Nat.{suc-add, zero-add}
+use native.Mathlib.Nat.{suc-add, zero-add, not-suc-le-zero}
 use native.Mathlib.Numerals.{add-one}
 use native.Mathlib.Omega.{arith}
 use borrow.Author.Tests.{lt-ltb, ltb-true, le-leb, leb-true}
@@ -20,7 +20,7 @@ use Rattle.buffer.proofs.Cases.{by-order}
 use Rattle.tables.specs.Entries.{blank, format-at, format-number, size-of, is-multiple, is-periodic}
 use Rattle.tables.specs.Groups.{run-below, group-end}
 use Rattle.tables.proofs.Nesting.{run-short}
-use Rattle.records.specs.Walk.{rest-of, behind, has-count}
+use Rattle.records.specs.Walk.{rest-of, behind, has-count, occurrence, rows-of, Kept}
 use Rattle.records.specs.Where.{field-of, fields-of}
 use Rattle.records.proofs.Walks.{each-turn, each-stop, count-missing, count-over, count-good, not-counted}
 use Rattle.records.proofs.Entries.{never}
@@ -50,7 +50,7 @@ module _ {X : Type 0} (one : Reader X) (b : Bytes) (at : ℕ) where
       (count-missing one b at)
 
 -- One reader alone.
-each-single : {X Y : Type 0} (one : Y → Reader X) (y : Y) (bs : Bytes) → rest-of (each one (y ∷ []) bs) ≡ rest-of (one y bs)
+pub each-single : {X Y : Type 0} (one : Y → Reader X) (y : Y) (bs : Bytes) → rest-of (each one (y ∷ []) bs) ≡ rest-of (one y bs)
 unfolding each
 each-single one y bs = by-outcome (rest-of (one y bs)) (λ cs h. each-turn one y [] bs h ∙ sym h) (λ k h. each-stop one y [] bs h ∙ sym h)
 
@@ -123,6 +123,20 @@ module _ (es : List Entry) (g : ℕ) where
   unfolding group-end
   group-within l = (omega arith, omega (arith, run-short (getD es g blank .level) (drop (suc g) es), length-drop (suc g) es))
 
+-- How many occurrences an entry has.
+module _ (w : What) where
+  pub rows-some : (n : ℕ) → is-periodic w ≡ true → rows-of w n ≡ n
+  unfolding rows-of
+  rows-some n h = rw h refl
+
+  pub rows-none : (n : ℕ) → is-periodic w ≡ false → rows-of w n ≡ 0
+  unfolding rows-of
+  rows-none n h = rw h refl
+
+  pub rows-zero : rows-of w 0 ≡ 0
+  unfolding rows-of
+  rows-zero = by-test (is-periodic w) (λ t. rw t refl) (λ t. rw t refl)
+
 -- What stands behind a periodic group, by its count and its end.
 module _ (inside : Bool) (es : List Entry) (g : ℕ) (b : Bytes) (at : ℕ) (p : is-periodic (getD es g blank .what) ≡ true) where
   pub behind-countless : has-count b at ≡ false → behind inside (getD es g blank) (drop (suc g) es) (drop at b) ≡ refused 2
@@ -134,3 +148,13 @@ module _ (inside : Bool) (es : List Entry) (g : ℕ) (b : Bytes) (at : ℕ) (p :
       behind-periodic inside (getD es g blank) (drop (suc g) es) (drop at b) p
       ∙ count-there (each stored-cell (fields-below 1 (drop (suc g) es))) b at h
       ∙ rw (group-fields es g l, q) refl
+
+-- What entry i keeps: a periodic group the beginnings of its occurrences, another entry nothing.
+module _ (es : List Entry) (i : ℕ) where
+  pub kept-rows : is-periodic (getD es i blank .what) ≡ true → {end : ℕ} → end ≡ group-end es i → {b : Bytes} {at n kept : ℕ} {before after : List ℕ}
+      → Kept (each stored-cell (fields-of (slice (i + 1) end es))) b at n kept before after → Kept (occurrence es i) b at (rows-of (getD es i blank .what) n) kept before after
+  unfolding occurrence
+  kept-rows p {end} q {b} {at} {n} k = rw (rows-some (getD es i blank .what) n p, ← q) k
+
+  pub kept-none : is-periodic (getD es i blank .what) ≡ false → (n : ℕ) {b : Bytes} {at : ℕ} (kept : ℕ) (places : List ℕ) → Kept (occurrence es i) b at (rows-of (getD es i blank .what) n) kept places places
+  kept-none p n {b} {at} kept places = rw (rows-none (getD es i blank .what) n p) (record { long = refl; others = λ j l. refl; rows = λ k l. absurd (not-suc-le-zero l) })

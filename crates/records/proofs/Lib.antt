@@ -16,3 +16,6 @@ pub mod Normals
 pub mod Directories
 pub mod Placed
 pub mod Contents
+pub mod Skips
+pub mod Widths
+pub mod Pieces

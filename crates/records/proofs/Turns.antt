@@ -1,21 +1,23 @@
 -- Loops over a record's bytes, for a reader n times and for the fields among entries: what is left ends where the whole does.
-use mathlib.Core.Path.{_≡_, refl, sym, _∙_}
-use mathlib.Core.List.{List}
-use Prim.Native.Nat.{ℕ, suc, _+_, _-_, _≤_, _<_}
-use native.Mathlib.Nat.{sub-zero}
+use mathlib.Core.Path.{_≡_, refl, sym, _∙_, ap, subst}
+use mathlib.Core.List.{List, [], _∷_}
+use Prim.Native.Nat.{ℕ, zero, suc, _+_, _-_, _≤_, _<_}
+use native.Mathlib.Nat.{sub-zero, not-suc-le-zero, le-of-suc-le-suc}
 use native.Mathlib.Numerals.{add-one}
 use native.Mathlib.Omega.{arith}
-use lib.ListN.{length, drop, getD}
-use lib.Seq.{slice, slice-cons}
-use Rattle.rules.specs.Outcome.{Outcome}
+use lib.ListN.{length, drop, getD, set, length-set}
+use lib.Seq.{slice, slice-cons, getD-set-same, getD-set-other}
+use Rattle.rules.specs.Outcome.{Outcome, done}
 use Rattle.rules.specs.Lists.{Bytes}
 use Rattle.rules.specs.Table.{Entry}
 use Rattle.rules.specs.Record.{Reader, times, each, stored-cell}
-use Rattle.records.specs.Walk.{rest-of, Walked}
+use Rattle.rules.proofs.Steps.{not-done, by-outcome}
+use Rattle.buffer.proofs.Cases.{by-order}
+use Rattle.records.specs.Walk.{rest-of, Walked, Ends, directory, Kept}
 use Rattle.records.specs.Where.{field-of, fields-of}
 use Rattle.records.specs.declared.Step.{Step}
 use Rattle.records.specs.declared.Step.the-variants.{At, Bad}
-use Rattle.records.proofs.Walks.{walked-at, walked-bad, turn-at, turn-bad, turns-over}
+use Rattle.records.proofs.Walks.{walked-at, walked-bad, times-stop, times-more, turn-at, turn-bad, turns-over}
 use Rattle.records.proofs.Checking.{each-on, each-off}
 use Rattle.records.proofs.Occurrences.{between-over}
 
@@ -38,6 +40,43 @@ module _ {X : Type 0} {one : Reader X} {b : Bytes} {whole : Outcome Bytes} {n i 
 
   pub repeated : n ≤ i → Walked b whole (At p)
   repeated h = record { answer = turns-over one b n i p h (l .rest); place = l .place }
+
+  -- A reader that comes to an end n times does so the next time.
+  pub repeat-there : i < n → Ends whole → Ends (rest-of (one (drop p b)))
+  repeat-there less e = by-outcome (rest-of (one (drop p b)))
+      (λ cs h. (cs, h))
+      (λ k h. let q : n - i ≡ suc (n - (i + 1)) = omega arith in absurd (not-done (sym (times-stop one (n - (i + 1)) (drop p b) h) ∙ rw q at (l .rest) ∙ e .1)))
+
+-- Beginnings that are kept on the way: i of n times are behind, at the place p.
+pub record Keeping {X : Type 0} (one : Reader X) (b : Bytes) (at kept : ℕ) (before after : List ℕ) (i p : ℕ) : Type 0 where
+  pub here : rest-of (times i one (drop at b)) ≡ done (drop p b)
+  pub far : Kept one b at i kept before after
+
+pub keeping : {X : Type 0} (one : Reader X) (b : Bytes) (at kept : ℕ) (places : List ℕ) → Keeping one b at kept places places 0 at
+unfolding times
+keeping one b at kept places = record { here = refl; far = record { long = refl; others = λ j l. refl; rows = λ k l. absurd (not-suc-le-zero l) } }
+
+pub keep-on : {X : Type 0} {one : Reader X} {b : Bytes} {at kept : ℕ} {before after : List ℕ} {i p : ℕ} → Keeping one b at kept before after i p → length before ≡ directory → p ≤ length b
+    → {r : Step} → Walked b (rest-of (one (drop p b))) r → {e : ℕ} → r ≡ At e → Keeping one b at kept before (set after (kept + i) p) (i + 1) e
+keep-on {X} {one} {b} {at} {kept} {before} {after} {i} {p} l room h w {e} q = record {
+  here = rw add-one (times-more one i (drop at b) (l .here) (walked-at w q .0));
+  far = record {
+    long = length-set after (kept + i) p ∙ l .far .long;
+    others = λ j k. getD-set-other after (kept + i) j p 0 (λ z. omega arith) ∙ l .far .others j k;
+    rows = λ k m s. by-order k i
+        (λ o. rw (getD-set-other after (kept + i) (kept + k) p 0 (λ z. omega arith)) (l .far .rows k o s))
+        (λ o. let z : k ≡ i = omega arith in rw (z, getD-set-same after (kept + i) p 0 (omega (arith, l .far .long))) (record { answer = sym (l .here); place = h }));
+  };
+}
+
+pub kept-all : {X : Type 0} {one : Reader X} {b : Bytes} {at kept : ℕ} {before after : List ℕ} {i p n : ℕ} → Keeping one b at kept before after i p → i ≡ n → Kept one b at n kept before after
+kept-all {X} {one} {b} {at} {kept} {before} {after} l e = subst (λ m. Kept one b at m kept before after) e (l .far)
+
+-- A number beyond the end keeps nothing.
+pub set-beyond : (l : List ℕ) (j v : ℕ) → length l ≤ j → set l j v ≡ l
+set-beyond [] j v h = refl
+set-beyond (x ∷ l) zero v h = absurd (not-suc-le-zero h)
+set-beyond (x ∷ l) (suc j) v h = ap (λ (r : List ℕ). x ∷ r) (set-beyond l j v (le-of-suc-le-suc h))
 
 -- The cells of the fields among the entries from i to j, at the place p.
 pub record Among (es : List Entry) (b : Bytes) (whole : Outcome Bytes) (j i p : ℕ) : Type 0 where
@@ -70,6 +109,13 @@ module _ {es : List Entry} {b : Bytes} {whole : Outcome Bytes} {j i p : ℕ} (l 
           ∙ rw (slice-cons i j es d less most) at (l .rest);
       place = tt;
     }
+
+  pub among-there : (d : Entry) → i < j → j ≤ length es → Ends whole → Ends (rest-of (each stored-cell (field-of (getD es i d .name) (getD es i d .what)) (drop p b)))
+  unfolding fields-of
+  among-there d less most e = by-outcome (rest-of (each stored-cell (field-of (getD es i d .name) (getD es i d .what)) (drop p b)))
+      (λ cs h. (cs, h))
+      (λ k h. absurd (not-done (sym (each-off stored-cell (fields-of (slice (suc i) j es)) (field-of (getD es i d .name) (getD es i d .what)) (drop p b) k h)
+      ∙ rw (slice-cons i j es d less most) at (l .rest) ∙ e .1)))
 
   pub among-all : j ≤ i → Walked b whole (At p)
   among-all h = let e : i ≡ j = omega (arith, l .upto) in record { answer = sym (between-over es j (drop p b)) ∙ rw e at (l .rest); place = l .place }

@@ -12,7 +12,7 @@ use Rattle.rules.specs.Outcome.{Outcome, done, refused, _>>=_, need}
 use Rattle.rules.specs.Limits.{highest-index}
 use Rattle.rules.specs.Lists.{Bytes}
 use Rattle.rules.specs.Record.{Reader, times, each, counted}
-use Rattle.rules.proofs.Steps.{done-inj, not-done}
+use Rattle.rules.proofs.Steps.{done-inj, not-done, by-outcome}
 use Rattle.records.specs.Walk.{rest-of, seen, within, Walked}
 use Rattle.records.specs.declared.Step.{Step}
 use Rattle.records.specs.declared.Step.the-variants.{At, Bad}
@@ -23,6 +23,9 @@ walked-at {b} {o} {r} {e} w q = (sym (w .answer) ∙ ap (seen b) q, rw q at (w .
 
 pub walked-bad : {b : Bytes} {o : Outcome Bytes} {r : Step} → Walked b o r → r ≡ Bad → o ≡ refused 2
 walked-bad {b} {o} {r} w q = sym (w .answer) ∙ ap (seen b) q
+
+pub not-at : {e : ℕ} → Bad ≡ At e → ⊥
+not-at {e} q = not-done (ap (seen []) q)
 
 -- The same step, of an outcome said otherwise.
 pub walked-as : {b : Bytes} {o o′ : Outcome Bytes} {r : Step} → o′ ≡ o → Walked b o r → Walked b o′ r
@@ -56,6 +59,17 @@ module _ {X : Type 0} (one : Reader X) (n : ℕ) (bs : Bytes) where
   pub times-stop : {k : ℕ} → rest-of (one bs) ≡ refused k → rest-of (times (suc n) one bs) ≡ refused k
   unfolding times
   times-stop q = then-stop (λ x xs. x ∷ xs) (one bs) (times n one) q
+
+-- One more behind n of them.
+pub times-more : {X : Type 0} (one : Reader X) (n : ℕ) (bs : Bytes) {cs : Bytes} {o : Outcome Bytes} → rest-of (times n one bs) ≡ done cs → rest-of (one cs) ≡ o
+    → rest-of (times (suc n) one bs) ≡ o
+unfolding times
+times-more one zero bs q h = by-outcome (rest-of (one bs))
+    (λ ds k. times-turn one 0 bs k ∙ sym k ∙ rw (done-inj q) h)
+    (λ m k. times-stop one 0 bs k ∙ sym k ∙ rw (done-inj q) h)
+times-more one (suc n) bs q h = by-outcome (rest-of (one bs))
+    (λ ds k. times-turn one (suc n) bs k ∙ times-more one n ds (sym (times-turn one n bs k) ∙ q) h)
+    (λ m k. absurd (not-done (sym (times-stop one n bs k) ∙ q)))
 
 module _ {X Y : Type 0} (one : Y → Reader X) (y : Y) (ys : List Y) (bs : Bytes) where
   pub each-turn : {cs : Bytes} → rest-of (one y bs) ≡ done cs → rest-of (each one (y ∷ ys) bs) ≡ rest-of (each one ys cs)

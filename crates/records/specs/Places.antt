@@ -1,28 +1,30 @@
 -- Where the values of a stored record lie, by the place of each entry's part.
 use mathlib.Core.Path.{_≡_}
 use mathlib.Core.Bool.{true, false}
-use mathlib.Core.List.{List, []}
+use mathlib.Core.List.{List, [], _∷_, _++_}
 use Prim.Native.Nat.{ℕ, _-_, _≤_, _<_}
 use lib.ListN.{length, take, drop, getD}
+use lib.Seq.{slice}
 use Rattle.rules.specs.Outcome.{done}
-use Rattle.rules.specs.Lists.{Bytes}
+use Rattle.rules.specs.Lists.{Bytes, join}
 use Rattle.rules.specs.Values.{Format, content, allowed}
-use Rattle.rules.specs.Table.{Entry, parts}
+use Rattle.rules.specs.Table.{Entry, Field, parts}
 use Rattle.rules.specs.Record.{Record, stored-cell, stored, values-at}
-use Rattle.tables.specs.Entries.{blank}
+use Rattle.tables.specs.Entries.{blank, is-multiple}
 use Rattle.tables.specs.Groups.{field-at}
-use Rattle.records.specs.Walk.{start-of}
-use Rattle.records.specs.declared.Step.{Step}
-use Rattle.records.specs.declared.Step.the-variants as S
+use Rattle.tables.specs.Places.{inside-at}
+use Rattle.records.specs.Walk.{Starts, Rows}
+use Rattle.records.specs.Where.{fields-of}
 use Rattle.records.specs.declared.places.Cell.{Cell}
 use Rattle.records.specs.declared.places.Cell.the-variants.{At, Nothing}
 use Rattle.records.specs.declared.places.Content.{Content}
 use Rattle.records.specs.declared.places.Content.the-variants.{At as Lies, Nothing as Absent}
 
--- The bytes hold the record r, and each entry's part stands from its place on.
+-- The bytes hold the record r, and places is their directory.
 pub record Held (es : List Entry) (b : Bytes) (places : List ℕ) (r : Record) : Type 0 where
   pub stands : stored (parts es) b ≡ done r
-  pub starts : (j : ℕ) → j < length es → (getD places j 0 ≤ length b) × (drop (getD places j 0) b ≡ start-of false es (drop 5 b) j)
+  pub starts : (j : ℕ) → j < length es → Starts es b places j
+  pub rows : (g : ℕ) → g < length es → Rows es b places g
 
 -- They hold some record.
 abbrev pub Holds : List Entry → Bytes → List ℕ → Type 0
@@ -32,11 +34,6 @@ Holds es b places = (r : Record) × Held es b places r
 abbrev pub Cell-of : List Entry → Bytes → ℕ → ℕ → Record → Cell → Type 0
 Cell-of es b i o r (At q) = (q ≤ length b) × (rest : Bytes) × (stored-cell (field-at es i) (drop q b) ≡ done (values-at (parts es) r (getD es i blank .name) o, rest))
 Cell-of es b i o r Nothing = values-at (parts es) r (getD es i blank .name) o ≡ []
-
--- The cell where a walk stands.
-abbrev pub cell-from : Step → Cell
-cell-from (S.At p) = At p
-cell-from S.Bad = Nothing
 
 -- The content of a value v, without its length byte: between two places, and so long as its format allows.
 pub record Content-of (f : Format) (size : ℕ) (b v : Bytes) (from upto : ℕ) : Type 0 where
@@ -54,3 +51,17 @@ Contained f size b v Absent = ⊥
 abbrev pub Value-of : Format → ℕ → Bytes → List Bytes → ℕ → Content → Type 0
 Value-of f size b vs k (Lies from upto) = (k ≤ length vs) × Content-of f size b (getD vs (k - 1) []) from upto
 Value-of f size b vs k Absent = length vs < k
+
+-- The values of some fields in occurrence o, one behind the other.
+unfoldable pub values-of : List Entry → Record → ℕ → List Field → Bytes
+values-of es r o [] = []
+values-of es r o (f ∷ fs) = join (values-at (parts es) r (f .name) o) ++ values-of es r o fs
+
+-- The entries from first to end lie outside periodic groups, and none is MU.
+abbrev pub Outside : List Entry → ℕ → ℕ → Type 0
+Outside es first end = (j : ℕ) → first ≤ j → j < end → (inside-at es j ≡ false) × (is-multiple (getD es j blank .what) ≡ false)
+
+-- The piece of a record that the fields among the entries from first to end are, in occurrence o.
+abbrev pub Piece-of : List Entry → Bytes → ℕ → ℕ → ℕ → Record → Content → Type 0
+Piece-of es b first end o r (Lies from upto) = (from ≤ upto) × (upto ≤ length b) × (take (upto - from) (drop from b) ≡ values-of es r o (fields-of (slice first end es)))
+Piece-of es b first end o r Absent = values-of es r o (fields-of (slice first end es)) ≡ []

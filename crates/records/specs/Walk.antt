@@ -1,18 +1,21 @@
 -- Where a walk over a record's bytes stands, in the words of the readers of `rules`.
 use mathlib.Core.Path.{_≡_}
-use mathlib.Core.Bool.{Bool, true, false, _&&_}
+use mathlib.Core.Bool.{Bool, true, false, cond, _&&_}
 use mathlib.Core.List.{List, [], _∷_}
-use Prim.Native.Nat.{ℕ, zero, suc, _≤_, _<_}
+use Prim.Native.Nat.{ℕ, zero, suc, _+_, _≤_, _<_}
 use lib.Dec.{leb, ltb}
 use lib.ListN.{length, take, drop, getD}
+use lib.Seq.{slice}
 use Rattle.rules.specs.Outcome.{Outcome, done, refused, is-done}
-use Rattle.rules.specs.Limits.{highest-index, longest-record}
+use Rattle.rules.specs.Limits.{most-entries, highest-index, longest-record}
 use Rattle.rules.specs.Lists.{Bytes, same}
-use Rattle.rules.specs.Table.{Entry, is-inside, part-of, parts}
-use Rattle.rules.specs.Record.{record-head, each, stored-part, stored}
+use Rattle.rules.specs.Table.{What, Entry, is-inside, part-of, parts}
+use Rattle.rules.specs.Record.{Occurrence, Reader, record-head, times, each, stored-cell, stored-part, stored}
+use Rattle.tables.specs.Entries.{blank, is-periodic}
+use Rattle.tables.specs.Groups.{group-end}
+use Rattle.records.specs.Where.{fields-of}
 use Rattle.records.specs.declared.Step.{Step}
 use Rattle.records.specs.declared.Step.the-variants.{At, Bad}
-use Rattle.records.specs.declared.walk.Directory.{Directory}
 
 -- The bytes from a place on; or refusal 2.
 abbrev pub seen : Bytes → Step → Outcome Bytes
@@ -32,6 +35,13 @@ rest-of (refused n) = refused n
 pub record Walked (b : Bytes) (o : Outcome Bytes) (r : Step) : Type 0 where
   pub answer : seen b r ≡ o
   pub place : within b r
+
+-- A reader comes to an end; and if it does, then at the place r.
+abbrev pub Ends : Outcome Bytes → Type 0
+Ends o = (rest : Bytes) × (o ≡ done rest)
+
+abbrev pub Behind : Bytes → Outcome Bytes → ℕ → Type 0
+Behind b o r = Ends o → Walked b o (At r)
 
 -- What stands behind the part that an entry begins, if it begins one.
 abbrev pub bytes-left : Outcome Bytes → Bytes
@@ -55,7 +65,38 @@ has-count b at = ltb at (length b) && leb (getD b at 0) highest-index
 unfoldable pub is-headed : Bytes → Bool
 is-headed b = leb (length b) longest-record && same (take 5 b) record-head
 
--- What is found of a slice: whether it is a record, and then, for each entry, the place from which its part stands.
-pub record Checked (es : List Entry) (b : Bytes) (r : Directory) : Type 0 where
-  pub answer : r .ok ≡ is-done (stored (parts es) b)
-  pub places : r .ok ≡ true → (j : ℕ) → j < length es → (getD (r .places) j 0 ≤ length b) × (drop (getD (r .places) j 0) b ≡ start-of false es (drop 5 b) j)
+-- So many numbers has the directory of a record.
+abbrev pub directory : ℕ
+directory = 640
+
+-- An occurrence of the periodic group that entry g is; and how many of them an entry has, by the byte at its place.
+unfoldable pub occurrence : List Entry → ℕ → Reader Occurrence
+occurrence es g = each stored-cell (fields-of (slice (g + 1) (group-end es g) es))
+
+unfoldable pub rows-of : What → ℕ → ℕ
+rows-of w n = cond (is-periodic w) n 0
+
+-- Of n times one reader, from a place on, each beginning is kept from the number `kept` on, where the directory has room; what is kept before that number stays.
+pub record Kept {X : Type 0} (one : Reader X) (b : Bytes) (at n kept : ℕ) (before after : List ℕ) : Type 0 where
+  pub long : length after ≡ length before
+  pub others : (j : ℕ) → j < kept → getD after j 0 ≡ getD before j 0
+  pub rows : (k : ℕ) → k < n → kept + k < directory → Walked b (rest-of (times k one (drop at b))) (At (getD after (kept + k) 0))
+
+-- The same of a walk that comes to its end.
+abbrev pub Keeps : {X : Type 0} → Reader X → Bytes → ℕ → ℕ → ℕ → List ℕ → List ℕ → Step → Type 0
+Keeps one b at n kept before after r = (e : ℕ) → r ≡ At e → Kept one b at n kept before after
+
+-- Entry j's part stands from its place on; and each of its occurrences from where it is kept on.
+abbrev pub Starts : List Entry → Bytes → List ℕ → ℕ → Type 0
+Starts es b places j = (getD places j 0 ≤ length b) × (drop (getD places j 0) b ≡ start-of false es (drop 5 b) j)
+
+abbrev pub Rows : List Entry → Bytes → List ℕ → ℕ → Type 0
+Rows es b places g =
+    (k : ℕ) → k < rows-of (getD es g blank .what) (getD b (getD places g 0) 0) → getD places (most-entries + g) 0 + k < directory
+    → Walked b (rest-of (times k (occurrence es g) (drop (getD places g 0 + 1) b))) (At (getD places (getD places (most-entries + g) 0 + k) 0))
+
+-- What is found of a slice: whether it is a record, and then its directory.
+pub record Checked (es : List Entry) (b : Bytes) (places : List ℕ) (ok : Bool) : Type 0 where
+  pub answer : ok ≡ is-done (stored (parts es) b)
+  pub starts : ok ≡ true → (j : ℕ) → j < length es → Starts es b places j
+  pub rows : ok ≡ true → (g : ℕ) → g < length es → Rows es b places g

@@ -5,9 +5,15 @@ ghost use lib.ListN.{length, getD};
 ghost use Rattle.rules.specs.Table.{is-inside};
 ghost use Rattle.tables.specs.Entries.{Valid, entries-of, blank};
 
+pub mod behind;
 pub mod empty;
+pub mod paths;
 pub mod places;
 pub mod walk;
+
+// The directory of a record has so many numbers. From 0 on it keeps the place of each entry's part, from 64 on the number in the
+// directory itself from which on the entry's occurrences are kept, and from 128 on their places, as long as there is room.
+pub const DIRECTORY: usize = 640;
 
 // Where a walk over a record stands: at a place behind what it was to take, or at something that is no record.
 pub enum Step {

@@ -2,19 +2,23 @@
 ghost use mathlib.Core.Path.{_≡_};
 ghost use mathlib.Core.Bool.{true, false};
 ghost use mathlib.Core.List.{List};
-ghost use Prim.Native.Nat.{_≤_, _<_};
+ghost use Prim.Native.Nat.{_+_, _-_, _≤_, _<_};
 ghost use lib.ListN.{length, drop, getD};
 ghost use Rattle.rules.specs.Outcome.{done};
 ghost use Rattle.rules.specs.Lists.{Bytes};
 ghost use Rattle.rules.specs.Values.{Format, allowed};
 ghost use Rattle.rules.specs.Table.{group, parts};
-ghost use Rattle.rules.specs.Record.{Record, counted, stored-value, group-count-at, value-count-at};
+ghost use Rattle.rules.specs.Record.{Record, times, counted, stored-value, group-count-at, value-count-at};
 ghost use Rattle.tables.specs.Entries.{Valid, entries-of, blank, is-group, is-multiple, format-at};
-ghost use Rattle.tables.specs.Places.{Home, inside-at};
-ghost use Rattle.records.specs.Places.{Held, Holds, cell-from, Cell-of, Contained, Value-of};
-use crate::Step;
-use crate::walk;
-use tables::Found;
+ghost use Rattle.tables.specs.Places.{inside-at};
+ghost use Rattle.records.specs.Places.{Held, Holds, Cell-of, Contained, Value-of, Outside, Piece-of};
+ghost use Rattle.records.specs.Walk.{directory, rest-of, Walked, Ends, start-of, occurrence};
+ghost use Rattle.records.specs.Paths.{Leads};
+ghost use Rattle.records.specs.declared.Step.the-variants.{At};
+use crate::DIRECTORY;
+use crate::behind;
+use crate::paths;
+use crate::paths::Path;
 use values::First;
 
 // The cell of a field in an occurrence: the place where it begins, or there is no such occurrence.
@@ -31,67 +35,77 @@ pub enum Content {
 
 // A place as it is kept, as a number.
 fn wide(place: u16) -> usize
-    ensures { λ r. ⌜ r ≡ place ⌝ }
+    ensures { λ r. ⌜ (r ≡ place) × (r ≤ 65535) ⌝ }
 {
     place as usize
 }
 
 // The place of entry i's part.
-fn place_of(places: &[u16; 64], i: usize) -> usize
-    requires { ⌜ i < 64 ⌝ }
-    ensures { λ r. ⌜ r ≡ getD (now (places .entry)) i 0 ⌝ }
+fn place_of(places: &[u16; DIRECTORY], i: usize) -> usize
+    requires { ⌜ i < directory ⌝ }
+    ensures { λ r. ⌜ (r ≡ getD (now (places .entry)) i 0) × (r ≤ 65535) ⌝ }
 {
     wide(places[i])
 }
 
 // The count of the periodic group that entry g is.
-pub fn group_count(t: &[u8], b: &[u8], places: &[u16; 64], g: usize) -> u8
+pub fn group_count(t: &[u8], b: &[u8], places: &[u16; DIRECTORY], g: usize) -> u8
     requires { ⌜ Valid (now t) × (g < length (entries-of (now t))) × (getD (entries-of (now t)) g blank .what ≡ group true) × Holds (entries-of (now t)) (now b) (now places) ⌝ }
     ensures { λ n. ⌜ ((r : Record) → Held (entries-of (now (t .entry))) (now (b .entry)) (now (places .entry)) r → n ≡ group-count-at (parts (entries-of (now (t .entry)))) r (getD (entries-of (now (t .entry))) g blank .name)) ⌝ }
 {
     b[place_of(places, g)]
 }
 
-// A cell where a walk stands.
-fn cell_of(step: Step) -> Cell
-    ensures { λ c. ⌜ c ≡ cell-from step ⌝ }
+// The place of occurrence o of the periodic group that entry g is: as it is kept, or behind those before it.
+fn row_at(t: &[u8], b: &[u8], places: &[u16; DIRECTORY], g: usize, o: usize) -> usize
+    requires { ⌜ Valid (now t) × (g < length (entries-of (now t))) × (getD (entries-of (now t)) g blank .what ≡ group true) × (1 ≤ o) × (o ≤ getD (now b) (getD (now places) g 0) 0) × Holds (entries-of (now t)) (now b) (now places) ⌝ }
+    ensures { λ r. ⌜ Walked (now (b .entry)) (rest-of (times (o - 1) (occurrence (entries-of (now (t .entry))) g) (drop (getD (now (places .entry)) g 0 + 1) (now (b .entry))))) (At r) ⌝ }
 {
-    match step {
-        Step::Bad => Cell::Nothing,
-        Step::At(p) => Cell::At(p),
+    let number = place_of(places, rules::MOST_ENTRIES + g) + (o - 1);
+    if number < DIRECTORY {
+        return place_of(places, number);
     }
+    let end = tables::group_end(t, g);
+    behind::behind_occurrences(t, b, place_of(places, g) + 1, o - 1, g + 1, end)
 }
 
-// The cell of entry i, a field in the periodic group that entry g is.
-fn cell_in(t: &[u8], b: &[u8], places: &[u16; 64], g: usize, i: usize, o: usize) -> Cell
-    requires { ⌜ Valid (now t) × (i < length (entries-of (now t))) × (is-group (getD (entries-of (now t)) i blank .what) ≡ false) × (1 ≤ o) × Home (entries-of (now t)) i g × Holds (entries-of (now t)) (now b) (now places) ⌝ }
-    ensures { λ c. ⌜ ((r : Record) → Held (entries-of (now (t .entry))) (now (b .entry)) (now (places .entry)) r → Cell-of (entries-of (now (t .entry))) (now (b .entry)) i o r c) ⌝ }
+// The cell of a field in a periodic group.
+fn cell_in(t: &[u8], b: &[u8], places: &[u16; DIRECTORY], path: Path, o: usize) -> Cell
+    requires { ⌜ Valid (now t) × (path .entry < length (entries-of (now t))) × (is-group (getD (entries-of (now t)) (path .entry) blank .what) ≡ false) × (1 ≤ o) × Leads (entries-of (now t)) path × (path .inside ≡ true) × Holds (entries-of (now t)) (now b) (now places) ⌝ }
+    ensures { λ c. ⌜ ((r : Record) → Held (entries-of (now (t .entry))) (now (b .entry)) (now (places .entry)) r → Cell-of (entries-of (now (t .entry))) (now (b .entry)) (path .entry) o r c) ⌝ }
 {
+    let g = path.group;
     if (group_count(t, b, places, g) as usize) < o {
         return Cell::Nothing;
     }
-    let end = tables::group_end(t, g);
-    let before = walk::occurrences_end(t, b, place_of(places, g) + 1, o - 1, g + 1, end);
-    match before {
-        Step::Bad => Cell::Nothing,
-        Step::At(p) => cell_of(walk::members_end(t, b, p, g + 1, i)),
+    let row = row_at(t, b, places, g, o);
+    if path.fixed {
+        return Cell::At(row + path.offset);
     }
+    Cell::At(behind::behind_members(t, b, row, g + 1, path.entry))
 }
 
-// The cell of entry i, a field, in occurrence o; outside periodic groups there is occurrence 1.
-pub fn cell_at(t: &[u8], b: &[u8], places: &[u16; 64], i: usize, o: usize) -> Cell
+// The cell of a field in occurrence o, by the way to it; outside periodic groups there is occurrence 1.
+pub fn cell_by(t: &[u8], b: &[u8], places: &[u16; DIRECTORY], path: Path, o: usize) -> Cell
+    requires { ⌜ Valid (now t) × (path .entry < length (entries-of (now t))) × (is-group (getD (entries-of (now t)) (path .entry) blank .what) ≡ false) × (1 ≤ o) × (inside-at (entries-of (now t)) (path .entry) ≡ false → o ≡ 1) × Leads (entries-of (now t)) path × Holds (entries-of (now t)) (now b) (now places) ⌝ }
+    ensures { λ c. ⌜ ((r : Record) → Held (entries-of (now (t .entry))) (now (b .entry)) (now (places .entry)) r → Cell-of (entries-of (now (t .entry))) (now (b .entry)) (path .entry) o r c) ⌝ }
+{
+    if path.inside {
+        return cell_in(t, b, places, path, o);
+    }
+    Cell::At(place_of(places, path.entry))
+}
+
+// The cell of entry i, a field, in occurrence o.
+pub fn cell_at(t: &[u8], b: &[u8], places: &[u16; DIRECTORY], i: usize, o: usize) -> Cell
     requires { ⌜ Valid (now t) × (i < length (entries-of (now t))) × (is-group (getD (entries-of (now t)) i blank .what) ≡ false) × (1 ≤ o) × (inside-at (entries-of (now t)) i ≡ false → o ≡ 1) × Holds (entries-of (now t)) (now b) (now places) ⌝ }
     ensures { λ c. ⌜ ((r : Record) → Held (entries-of (now (t .entry))) (now (b .entry)) (now (places .entry)) r → Cell-of (entries-of (now (t .entry))) (now (b .entry)) i o r c) ⌝ }
 {
-    let home = tables::periodic_group(t, i);
-    match home {
-        Found::At(g) => cell_in(t, b, places, g, i, o),
-        Found::Nothing => Cell::At(place_of(places, i)),
-    }
+    cell_by(t, b, places, paths::path_to(t, i), o)
 }
 
 // The count of entry i, an MU field, in occurrence o: 0 where there is no such occurrence.
-pub fn value_count(t: &[u8], b: &[u8], places: &[u16; 64], i: usize, o: usize) -> u8
+pub fn value_count(t: &[u8], b: &[u8], places: &[u16; DIRECTORY], i: usize, o: usize) -> u8
     requires { ⌜ Valid (now t) × (i < length (entries-of (now t))) × (is-multiple (getD (entries-of (now t)) i blank .what) ≡ true) × (1 ≤ o) × (inside-at (entries-of (now t)) i ≡ false → o ≡ 1) × Holds (entries-of (now t)) (now b) (now places) ⌝ }
     ensures { λ n. ⌜ ((r : Record) → Held (entries-of (now (t .entry))) (now (b .entry)) (now (places .entry)) r → n ≡ value-count-at (parts (entries-of (now (t .entry)))) r (getD (entries-of (now (t .entry))) i blank .name) o) ⌝ }
 {
@@ -116,24 +130,13 @@ fn content_at(b: &[u8], at: usize, size: usize) -> Content
 
 // Value k of the cell of an MU field.
 fn value_among(b: &[u8], cell: usize, format: usize, size: usize, k: usize) -> Content
-    requires { ⌜ (format < 5) × (allowed (format-at format) size ≡ true) × (1 ≤ k) ⌝ }
+    requires { ⌜ (cell ≤ length (now b)) × (allowed (format-at format) size ≡ true) × (1 ≤ k) × Ends (rest-of (counted true (stored-value (format-at format) size) (drop cell (now b)))) ⌝ }
     ensures { λ c. ⌜ ((vs : List Bytes) (rest : Bytes) → counted true (stored-value (format-at format) size) (drop cell (now (b .entry))) ≡ done (vs, rest) → Value-of (format-at format) size (now (b .entry)) vs k c) ⌝ }
 {
-    if walk::has_count(b, cell) {
-        if (b[cell] as usize) < k {
-            return Content::Nothing;
-        }
-        let before = walk::values_end(b, cell + 1, k - 1, format, size);
-        match before {
-            Step::Bad => {
-                return Content::Nothing;
-            }
-            Step::At(p) => {
-                return content_at(b, p, size);
-            }
-        }
+    if (b[cell] as usize) < k {
+        return Content::Nothing;
     }
-    Content::Nothing
+    content_at(b, behind::skip(b, cell + 1, k - 1, size), size)
 }
 
 // Value k of the cell that stands at a place.
@@ -145,7 +148,7 @@ pub fn value_at(
     multiple: bool,
     k: usize,
 ) -> Content
-    requires { ⌜ (cell ≤ length (now b)) × (format < 5) × (allowed (format-at format) size ≡ true) × (1 ≤ k) ⌝ }
+    requires { ⌜ (cell ≤ length (now b)) × (format < 5) × (allowed (format-at format) size ≡ true) × (1 ≤ k) × Ends (rest-of (counted multiple (stored-value (format-at format) size) (drop cell (now b)))) ⌝ }
     ensures { λ c. ⌜ ((vs : List Bytes) (rest : Bytes) → counted multiple (stored-value (format-at format) size) (drop cell (now (b .entry))) ≡ done (vs, rest) → Value-of (format-at format) size (now (b .entry)) vs k c) ⌝ }
 {
     if multiple {
@@ -155,4 +158,30 @@ pub fn value_at(
         return Content::Nothing;
     }
     content_at(b, cell, size)
+}
+
+// The place behind the parts of the entries before entry i.
+fn place_behind(t: &[u8], b: &[u8], places: &[u16; DIRECTORY], i: usize) -> usize
+    requires { ⌜ Valid (now t) × (i ≤ length (entries-of (now t))) × Holds (entries-of (now t)) (now b) (now places) ⌝ }
+    ensures { λ p. ⌜ (p ≤ length (now (b .entry))) × (drop p (now (b .entry)) ≡ start-of false (entries-of (now (t .entry))) (drop 5 (now (b .entry))) i) ⌝ }
+{
+    if i < tables::count(t) {
+        return place_of(places, i);
+    }
+    b.len()
+}
+
+// Where the fields among the entries from first to end stand, all outside periodic groups and none MU.
+pub fn piece_outside(
+    t: &[u8],
+    b: &[u8],
+    places: &[u16; DIRECTORY],
+    first: usize,
+    end: usize,
+) -> Content
+    requires { ⌜ Valid (now t) × (first ≤ end) × (end ≤ length (entries-of (now t))) × Outside (entries-of (now t)) first end × Holds (entries-of (now t)) (now b) (now places) ⌝ }
+    ensures { λ c. ⌜ ((r : Record) → Held (entries-of (now (t .entry))) (now (b .entry)) (now (places .entry)) r → Piece-of (entries-of (now (t .entry))) (now (b .entry)) first end 1 r c) ⌝ }
+{
+    let from = place_behind(t, b, places, first);
+    Content::At(from, place_behind(t, b, places, end))
 }

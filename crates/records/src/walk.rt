@@ -1,14 +1,16 @@
 // Whether a slice is a stored record (refusal 2), and where each entry's bytes begin.
 ghost use mathlib.Core.Path.{_≡_};
 ghost use mathlib.Core.Bool.{true};
-ghost use Prim.Native.Nat.{suc, _≤_, _<_};
-ghost use lib.ListN.{length, drop, getD};
+ghost use Prim.Native.Nat.{suc, _+_, _≤_, _<_};
+ghost use lib.ListN.{length, drop, getD, set};
 ghost use lib.Seq.{slice};
+ghost use Rattle.rules.specs.Limits.{longest-record};
 ghost use Rattle.rules.specs.Values.{allowed};
 ghost use Rattle.rules.specs.Record.{times, each, counted, stored-value, stored-cell};
 ghost use Rattle.tables.specs.Entries.{Valid, entries-of, blank, format-at};
 ghost use Rattle.records.specs.Where.{field-of, fields-of};
-ghost use Rattle.records.specs.Walk.{rest-of, Walked, has-count, behind, is-headed, Checked};
+ghost use Rattle.records.specs.Walk.{directory, rest-of, Walked, has-count, behind, is-headed, occurrence, rows-of, Keeps, Checked};
+use crate::DIRECTORY;
 use crate::Step;
 use values::First;
 
@@ -31,7 +33,7 @@ fn value_end(b: &[u8], at: usize, format: usize, size: usize) -> Step
 }
 
 // The place behind n values.
-pub fn values_end(b: &[u8], at: usize, n: usize, format: usize, size: usize) -> Step
+fn values_end(b: &[u8], at: usize, n: usize, format: usize, size: usize) -> Step
     requires { ⌜ (at ≤ length (now b)) × (format < 5) × (allowed (format-at format) size ≡ true) ⌝ }
     ensures { λ r. ⌜ Walked (now (b .entry)) (rest-of (times n (stored-value (format-at format) size) (drop at (now (b .entry))))) r ⌝ }
 {
@@ -89,7 +91,7 @@ fn member_end(t: &[u8], b: &[u8], at: usize, i: usize) -> Step
 }
 
 // The place behind the cells of the fields among the entries from first to end, once each.
-pub fn members_end(t: &[u8], b: &[u8], at: usize, first: usize, end: usize) -> Step
+fn members_end(t: &[u8], b: &[u8], at: usize, first: usize, end: usize) -> Step
     requires { ⌜ Valid (now t) × (first ≤ end) × (end ≤ length (entries-of (now t))) × (at ≤ length (now b)) ⌝ }
     ensures { λ r. ⌜ Walked (now (b .entry)) (rest-of (each stored-cell (fields-of (slice first end (entries-of (now (t .entry))))) (drop at (now (b .entry))))) r ⌝ }
 {
@@ -110,14 +112,34 @@ pub fn members_end(t: &[u8], b: &[u8], at: usize, first: usize, end: usize) -> S
     Step::At(p)
 }
 
-// The same n times.
-pub fn occurrences_end(t: &[u8], b: &[u8], at: usize, n: usize, first: usize, end: usize) -> Step
-    requires { ⌜ Valid (now t) × (first ≤ end) × (end ≤ length (entries-of (now t))) × (at ≤ length (now b)) ⌝ }
-    ensures { λ r. ⌜ Walked (now (b .entry)) (rest-of (times n (each stored-cell (fields-of (slice first end (entries-of (now (t .entry)))))) (drop at (now (b .entry))))) r ⌝ }
+// Keeps a place at a number of the directory, where it has so many.
+fn keep(places: &mut [u16; DIRECTORY], number: usize, place: usize)
+    requires { ⌜ (length (now places) ≡ directory) × (place ≤ 65535) ⌝ }
+    ensures { λ _. ⌜ now (places .exit) ≡ set (now (places .entry)) number place ⌝ }
+{
+    if number < DIRECTORY {
+        places[number] = place as u16;
+    }
+}
+
+// The same n times; where each time begins is kept from a number of the directory on.
+fn occurrences_end(
+    t: &[u8],
+    b: &[u8],
+    at: usize,
+    n: usize,
+    first: usize,
+    end: usize,
+    places: &mut [u16; DIRECTORY],
+    kept: usize,
+) -> Step
+    requires { ⌜ Valid (now t) × (first ≤ end) × (end ≤ length (entries-of (now t))) × (at ≤ length (now b)) × (length (now b) ≤ longest-record) × (length (now places) ≡ directory) × (kept + n ≤ 65535) ⌝ }
+    ensures { λ r. ⌜ Walked (now (b .entry)) (rest-of (times n (each stored-cell (fields-of (slice first end (entries-of (now (t .entry)))))) (drop at (now (b .entry))))) r × Keeps (each stored-cell (fields-of (slice first end (entries-of (now (t .entry)))))) (now (b .entry)) at n kept (now (places .entry)) (now (places .exit)) r ⌝ }
 {
     let mut p = at;
     let mut i = 0;
     while i < n {
+        keep(places, kept + i, p);
         let step = members_end(t, b, p, first, end);
         match step {
             Step::Bad => {
@@ -133,15 +155,23 @@ pub fn occurrences_end(t: &[u8], b: &[u8], at: usize, n: usize, first: usize, en
 }
 
 // The place behind the part that entry i begins, if it begins one.
-fn entry_end(t: &[u8], b: &[u8], at: usize, i: usize, inside: bool) -> Step
-    requires { ⌜ Valid (now t) × (i < length (entries-of (now t))) × (at ≤ length (now b)) ⌝ }
-    ensures { λ r. ⌜ Walked (now (b .entry)) (behind inside (getD (entries-of (now (t .entry))) i blank) (drop (suc i) (entries-of (now (t .entry)))) (drop at (now (b .entry)))) r ⌝ }
+fn entry_end(
+    t: &[u8],
+    b: &[u8],
+    at: usize,
+    i: usize,
+    inside: bool,
+    places: &mut [u16; DIRECTORY],
+    kept: usize,
+) -> Step
+    requires { ⌜ Valid (now t) × (i < length (entries-of (now t))) × (at ≤ length (now b)) × (length (now b) ≤ longest-record) × (length (now places) ≡ directory) × (kept ≤ 65280) ⌝ }
+    ensures { λ r. ⌜ Walked (now (b .entry)) (behind inside (getD (entries-of (now (t .entry))) i blank) (drop (suc i) (entries-of (now (t .entry)))) (drop at (now (b .entry)))) r × Keeps (occurrence (entries-of (now (t .entry))) i) (now (b .entry)) (at + 1) (rows-of (getD (entries-of (now (t .entry))) i blank .what) (getD (now (b .entry)) at 0)) kept (now (places .entry)) (now (places .exit)) r ⌝ }
 {
     let e = tables::entry_at(t, i);
     if e.periodic {
         if has_count(b, at) {
             let end = tables::group_end(t, i);
-            return occurrences_end(t, b, at + 1, b[at] as usize, i + 1, end);
+            return occurrences_end(t, b, at + 1, b[at] as usize, i + 1, end, places, kept);
         }
         return Step::Bad;
     }
@@ -149,6 +179,21 @@ fn entry_end(t: &[u8], b: &[u8], at: usize, i: usize, inside: bool) -> Step
         return Step::At(at);
     }
     member_end(t, b, at, i)
+}
+
+// The number behind those of entry i's occurrences.
+fn kept_behind(t: &[u8], b: &[u8], at: usize, i: usize, kept: usize) -> usize
+    requires { ⌜ Valid (now t) × (i < length (entries-of (now t))) × (kept ≤ 65280) ⌝ }
+    ensures { λ r. ⌜ (r ≡ kept + rows-of (getD (entries-of (now (t .entry))) i blank .what) (getD (now (b .entry)) at 0)) × (r ≤ kept + 255) ⌝ }
+{
+    if b.len() <= at {
+        return kept;
+    }
+    let e = tables::entry_at(t, i);
+    if e.periodic {
+        return kept + b[at] as usize;
+    }
+    kept
 }
 
 // Whether a slice is not too long for a record and has a record's head.
@@ -164,29 +209,26 @@ fn head_right(b: &[u8]) -> bool
     buffer::stands_at(b, 0, b"\xe5\xd9\xc3\x00\x01")
 }
 
-// Whether a slice is a record, and then the place of each entry's part.
-pub struct Directory {
-    pub ok: bool,
-    pub places: [u16; 64],
-}
-
-pub fn check(t: &[u8], b: &[u8]) -> Directory
-    requires { ⌜ Valid (now t) ⌝ }
-    ensures { λ r. ⌜ Checked (entries-of (now (t .entry))) (now (b .entry)) r ⌝ }
+// Whether a slice is a record, and then its directory.
+pub fn check(t: &[u8], b: &[u8], places: &mut [u16; DIRECTORY]) -> bool
+    requires { ⌜ Valid (now t) × (length (now places) ≡ directory) ⌝ }
+    ensures { λ r. ⌜ Checked (entries-of (now (t .entry))) (now (b .entry)) (now (places .exit)) r ⌝ }
 {
-    let mut places = [0u16; 64];
     if head_right(b) {
         let n = tables::count(t);
         let mut inside = false;
         let mut p = 5;
+        let mut kept = 128;
         let mut i = 0;
         while i < n {
-            places[i] = p as u16;
+            keep(places, i, p);
+            keep(places, rules::MOST_ENTRIES + i, kept);
             inside = crate::inside_next(t, i, inside);
-            let step = entry_end(t, b, p, i, inside);
+            let step = entry_end(t, b, p, i, inside, places, kept);
+            kept = kept_behind(t, b, p, i, kept);
             match step {
                 Step::Bad => {
-                    return Directory { ok: false, places };
+                    return false;
                 }
                 Step::At(next) => {
                     p = next;
@@ -194,10 +236,7 @@ pub fn check(t: &[u8], b: &[u8]) -> Directory
             }
             i += 1;
         }
-        return Directory {
-            ok: p == b.len(),
-            places,
-        };
+        return p == b.len();
     }
-    Directory { ok: false, places }
+    false
 }

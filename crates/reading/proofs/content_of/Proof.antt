@@ -3,6 +3,7 @@ use mathlib.Core.Path.{subst, ap}
 use native.Mathlib.Omega.{arith}
 use lib.ListN.{length}
 use Rattle.kinds.specs.Formats.{format-at}
+use Rattle.records.specs.Walk.{rest-of}
 use Rattle.reading.specs.Runs.{Cell-holds}
 use borrow.Author.Needs.{needs}
 use Rattle.reading.proofs.content_of.Statement.{statement}
@@ -16,7 +17,7 @@ value-at-requires c κs =
     let s = c .before .before .before .before in
     let a = s .args in
     let w = subst (Cell-holds (a .b .now) (format-at (a .own)) (a .size) (a .multiple) (s .pre .3 .0)) (c .before .cell .given .1) (s .pre .3 .1) in
-    (w .0, s .pre .0, s .pre .1, s .pre .2)
+    (w .0, s .pre .0, s .pre .1, s .pre .2, (w .1, ap rest-of (w .2)))
 
 enum-told : tie.Need-enum-told
 enum-told c = search needs

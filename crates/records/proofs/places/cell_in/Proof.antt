@@ -1,20 +1,28 @@
--- `records::places::cell_in` meets its contract: two walks stand where the look-up reads, and neither can fail in a record. Assumes nothing.
-use mathlib.Core.Path.{sym, _∙_}
-use Prim.Native.Nat.{_<_}
+-- `records::places::cell_in` meets its contract: behind the place of the occurrence stand the fields before, whose width is known or walked over. Assumes nothing.
+use mathlib.Core.Path.{sym, subst}
+use Prim.Native.Nat.{_+_, _≤_, _<_}
 use native.Mathlib.Omega.{arith}
-use lib.ListN.{length}
-use Rattle.rules.proofs.Steps.{not-done}
-use Rattle.tables.specs.Entries.{entries-of}
+use lib.ListN.{length, getD}
+use lib.Seq.{slice}
+use Rattle.rules.specs.Table.{parts}
+use Rattle.rules.specs.Record.{Record, group-count-at}
+use Rattle.tables.specs.Entries.{entries-of, blank}
 use Rattle.tables.proofs.Tables.{valid-most, valid-names}
-use Rattle.records.proofs.Walks.{walked-at, walked-bad}
-use Rattle.records.proofs.Ends.{group-within}
-use Rattle.records.proofs.Placed.{count-there, group-before, cell-missing, cell-there, cell-stands}
+use Rattle.records.specs.Where.{fields-of}
+use Rattle.records.specs.Paths.{lengths}
+use Rattle.records.specs.Places.{Held, Cell-of}
+use Rattle.records.specs.declared.places.Cell.the-variants.{At}
+use Rattle.records.proofs.Skips.{fields-skipped}
+use Rattle.records.proofs.Placed.{home-before, count-there, cell-missing, members-end, cell-stands}
 use borrow.Author.Needs.{needs}
 use Rattle.records.proofs.places.cell_in.Statement.{statement}
 use Rattle.records.proofs.places.cell_in.Tie as tie
 
 group-count-requires : tie.Need-group-count-requires
-group-count-requires c κs = let s = c .before .before in (s .pre .0, omega (arith, s .pre .1, s .pre .4 .upto), s .pre .4 .periodic, s .pre .5)
+group-count-requires c κs =
+    let s = c .before .before in
+    let home = s .pre .4 .home (s .pre .5) in
+    (s .pre .0, omega (arith, s .pre .1, home .upto), home .periodic, s .pre .6)
 
 cast-if1 : tie.Need-cast-if1
 cast-if1 c = search needs
@@ -22,76 +30,83 @@ cast-if1 c = search needs
 returns : tie.Need-returns
 returns c r held =
     let s = c .before .before .before .before in
-    cell-missing held (valid-names (s .args .t .now) (s .pre .0)) (s .args .i) (s .args .g) (s .args .o) (s .pre .1) (s .pre .2) (s .pre .3) (s .pre .4)
+    let a = s .args in
+    cell-missing held (valid-names (a .t .now) (s .pre .0)) (a .path .entry) (a .path .group) (a .o) (s .pre .1) (s .pre .2) (s .pre .3) (s .pre .4 .home (s .pre .5))
     (omega (arith, c .before .group-count .ensures r held, c .if1 .taken))
 
-group-end-requires : tie.Need-group-end-requires
-group-end-requires c κs = let s = c .before .before .before .before in (s .pre .0, omega (arith, s .pre .1, s .pre .4 .upto))
+row-at-requires : tie.Need-row-at-requires
+row-at-requires c κs =
+    let s = c .before .before .before .before in
+    let a = s .args in
+    let home = s .pre .4 .home (s .pre .5) in
+    let h = s .pre .6 in
+    let less : a .path .group < length (entries-of (a .t .now)) = omega (arith, s .pre .1, home .upto) in (
+      s .pre .0,
+      less,
+      home .periodic,
+      s .pre .3,
+      omega (arith, c .before .group-count .ensures (h .0) (h .1), count-there (h .1) (valid-names (a .t .now) (s .pre .0)) (a .path .group) less (home .periodic) .1, c .if1 .left),
+      h,
+    )
 
-place-of-requires : tie.Need-place-of-requires
-place-of-requires c κs =
-    let s = c .before .before .before .before .before in
-    omega (arith, valid-most (s .args .t .now) (s .pre .0), s .pre .1, s .pre .4 .upto)
+many : (c : tie.After-row-at) (r : Record) → Held (entries-of (c .before .before .before .before .before .args .t .now)) (c .before .before .before .before .before .args .b .now) (c .before .before .before .before .before .args .places .now) r
+    → c .before .before .before .before .before .args .o ≤ group-count-at (parts (entries-of (c .before .before .before .before .before .args .t .now))) r (getD (entries-of (c .before .before .before .before .before .args .t .now)) (c .before .before .before .before .before .args .path .group) blank .name)
+many c r held = omega (arith, c .before .before .group-count .ensures r held, c .before .if1 .left)
 
-place-inside : (c : tie.After-place-of) → c .place-of .result < length (c .before .before .before .before .before .before .args .b .now)
-place-inside c =
-    let s = c .before .before .before .before .before .before in
-    rw (c .place-of .ensures) (count-there (s .pre .5 .1) (valid-names (s .args .t .now) (s .pre .0)) (s .args .g) (omega (arith, s .pre .1, s .pre .4 .upto)) (s .pre .4 .periodic) .0)
-
-add-occurrences-end : tie.Need-add-occurrences-end
-add-occurrences-end c = omega (arith, place-inside c)
-
-sub-occurrences-end : tie.Need-sub-occurrences-end
-sub-occurrences-end c = search needs
-
-add-occurrences-end-2 : tie.Need-add-occurrences-end-2
-add-occurrences-end-2 c =
-    let s = c .before .before .before .before .before .before in
-    omega (arith, valid-most (s .args .t .now) (s .pre .0), s .pre .1, s .pre .4 .upto)
-
-occurrences-end-requires : tie.Need-occurrences-end-requires
-occurrences-end-requires c κs =
-    let s = c .before .before .before .before .before .before in
-    let w = group-within (entries-of (s .args .t .now)) (s .args .g) (omega (arith, s .pre .1, s .pre .4 .upto)) in
-    (s .pre .0, rw (c .before .group-end .ensures) (w .0), rw (c .before .group-end .ensures) (w .1), omega (arith, place-inside c))
-
-enum-told : tie.Need-enum-told
-enum-told c = search needs
-
-enum-known-before : tie.Need-enum-known-before
-enum-known-before c = search needs
-
-add-members-end : tie.Need-add-members-end
-add-members-end c =
-    let s = c .before .before .before .before .before .before .before .before .before .before in
-    omega (arith, valid-most (s .args .t .now) (s .pre .0), s .pre .1, s .pre .4 .upto)
-
-members-end-requires : tie.Need-members-end-requires
-members-end-requires c κs =
-    let s = c .before .before .before .before .before .before .before .before .before .before in
-    let l = group-before (s .pre .5 .1) (valid-names (s .args .t .now) (s .pre .0)) (s .args .i) (s .args .g) (s .args .o) (s .pre .1) (s .pre .2) (s .pre .3) (s .pre .4) in
-    (s .pre .0, omega (arith, l), omega (arith, s .pre .1), walked-at (c .before .before .before .occurrences-end .ensures) (c .before .before2 .given .1) .1)
-
-cell-of-requires : tie.Need-cell-of-requires
-cell-of-requires c κs = search needs
+add-t11 : tie.Need-add-t11
+add-t11 c =
+    let s = c .before .before .before .before .before .before .before in
+    let a = s .args in
+    let h = s .pre .6 in
+    let wide = s .pre .4 .fixed (c .before .if2 .taken) in
+    let row = c .before .before .row-at .ensures in
+    let e = members-end (h .1) (valid-names (a .t .now) (s .pre .0)) (a .path .entry) (a .path .group) (a .o) (s .pre .1) (s .pre .2) (s .pre .3) (s .pre .4 .home (s .pre .5)) (many (c .before .before) (h .0) (h .1)) (c .before .before .row-at .result) row in
+    omega (arith, fields-skipped (fields-of (slice (a .path .group + 1) (a .path .entry) (entries-of (a .t .now)))) (wide .plains) (a .b .now) (c .before .before .row-at .result) (row .place) e .place, wide .width)
 
 returns-2 : tie.Need-returns-2
 returns-2 c r held =
-    let w = c .before .before in
-    let s = c .before .before .before .before .before .before .before .before .before in
-    cell-there held (valid-names (s .args .t .now) (s .pre .0)) (s .args .i) (s .args .g) (s .args .o) (s .pre .1) (s .pre .2) (s .pre .3) (s .pre .4)
-    (omega (arith, w .before .before .before .before .group-count .ensures r held, w .before .before .before .if1 .left)) λ one cell next h₁ h₂ h₃.
-    absurd (not-done (sym (rw (w .before .before .group-end .ensures, w .before .place-of .ensures) at (walked-bad (w .occurrences-end .ensures) (c .enum-told .given .1))) ∙ h₁))
+    let s = c .before .before .before .before .before .before .before in
+    let a = s .args in
+    let es = entries-of (a .t .now) in
+    let named = valid-names (a .t .now) (s .pre .0) in
+    let home = s .pre .4 .home (s .pre .5) in
+    let fs = fields-of (slice (a .path .group + 1) (a .path .entry) es) in
+    let wide = s .pre .4 .fixed (c .before .if2 .taken) in
+    let row = c .before .before .row-at .ensures in
+    let p = c .before .before .row-at .result in
+    let e = members-end held named (a .path .entry) (a .path .group) (a .o) (s .pre .1) (s .pre .2) (s .pre .3) home (many (c .before .before) r held) p row in
+    subst (λ w. Cell-of es (a .b .now) (a .path .entry) (a .o) r (At (p + w))) (sym (wide .width))
+    (cell-stands held named (a .path .entry) (a .path .group) (a .o) (s .pre .1) (s .pre .2) (s .pre .3) home (many (c .before .before) r held) p row (p + lengths fs) (fields-skipped fs (wide .plains) (a .b .now) p (row .place) e))
+
+add-behind-members : tie.Need-add-behind-members
+add-behind-members c =
+    let s = c .before .before .before .before .before .before in
+    omega (arith, valid-most (s .args .t .now) (s .pre .0), s .pre .1, s .pre .4 .home (s .pre .5) .upto)
+
+behind-members-requires : tie.Need-behind-members-requires
+behind-members-requires c κs =
+    let s = c .before .before .before .before .before .before in
+    let a = s .args in
+    let h = s .pre .6 in
+    let home = s .pre .4 .home (s .pre .5) in
+    let row = c .before .row-at .ensures in (
+      s .pre .0,
+      omega (arith, home-before (entries-of (a .t .now)) (a .path .entry) (a .path .group) (s .pre .2) home),
+      omega (arith, s .pre .1),
+      row .place,
+      members-end (h .1) (valid-names (a .t .now) (s .pre .0)) (a .path .entry) (a .path .group) (a .o) (s .pre .1) (s .pre .2) (s .pre .3) home (many (c .before) (h .0) (h .1)) (c .before .row-at .result) row,
+    )
 
 returns-3 : tie.Need-returns-3
 returns-3 c r held =
-    let w = c .before .before .before .before .before in
-    let s = w .before .before .before .before .before .before .before in
-    rw (c .cell-of .ensures)
-    (cell-stands held (valid-names (s .args .t .now) (s .pre .0)) (s .args .i) (s .args .g) (s .args .o) (s .pre .1) (s .pre .2) (s .pre .3) (s .pre .4)
-    (omega (arith, w .before .before .before .before .group-count .ensures r held, w .before .before .before .if1 .left)) (c .before .before .before .before2 .given .0 .0)
-    (rw (w .before .before .group-end .ensures, w .before .place-of .ensures) at (walked-at (w .occurrences-end .ensures) (c .before .before .before .before2 .given .1) .0))
-    (c .before .members-end .result) (c .before .members-end .ensures))
+    let s = c .before .before .before .before .before .before .before in
+    let a = s .args in
+    let named = valid-names (a .t .now) (s .pre .0) in
+    let home = s .pre .4 .home (s .pre .5) in
+    let row = c .before .before .row-at .ensures in
+    let p = c .before .before .row-at .result in
+    let e = members-end held named (a .path .entry) (a .path .group) (a .o) (s .pre .1) (s .pre .2) (s .pre .3) home (many (c .before .before) r held) p row in
+    cell-stands held named (a .path .entry) (a .path .group) (a .o) (s .pre .1) (s .pre .2) (s .pre .3) home (many (c .before .before) r held) p row (c .behind-members .result) (c .behind-members .ensures e)
 
 pub cell-in-spec : {M : Type 1} → statement M
 cell-in-spec =
@@ -100,16 +115,9 @@ cell-in-spec =
     group-count-requires
     cast-if1
     returns
-    group-end-requires
-    place-of-requires
-    add-occurrences-end
-    sub-occurrences-end
-    add-occurrences-end-2
-    occurrences-end-requires
-    enum-told
-    enum-known-before
-    add-members-end
-    members-end-requires
-    cell-of-requires
+    row-at-requires
+    add-t11
     returns-2
+    add-behind-members
+    behind-members-requires
     returns-3)

@@ -11,12 +11,12 @@ place-of-requires c κs = let s = c .before .before in omega (arith, valid-most 
 shared-slice-read-result : tie.Need-shared-slice-read-result
 shared-slice-read-result c =
     let s = c .before .before .before .before in
-    rw (c .before .place-of .ensures) (count-there (s .pre .3 .1) (valid-names (s .args .t .now) (s .pre .0)) (s .args .g) (s .pre .1) (s .pre .2) .0)
+    rw (c .before .place-of .ensures .0) (count-there (s .pre .3 .1) (valid-names (s .args .t .now) (s .pre .0)) (s .args .g) (s .pre .1) (s .pre .2) .0)
 
 returns : tie.Need-returns
 returns c r held =
     let s = c .before .before .before .before in
-    rw (c .before .place-of .ensures) (count-there held (valid-names (s .args .t .now) (s .pre .0)) (s .args .g) (s .pre .1) (s .pre .2) .1)
+    rw (c .before .place-of .ensures .0) (count-there held (valid-names (s .args .t .now) (s .pre .0)) (s .args .g) (s .pre .1) (s .pre .2) .1)
 
 pub group-count-spec : {M : Type 1} → statement M
 group-count-spec = tie.close (tie.spec place-of-requires shared-slice-read-result returns)

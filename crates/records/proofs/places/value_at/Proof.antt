@@ -11,7 +11,7 @@ use Rattle.records.proofs.places.value_at.Statement.{statement}
 use Rattle.records.proofs.places.value_at.Tie as tie
 
 value-among-requires : tie.Need-value-among-requires
-value-among-requires c κs = search needs
+value-among-requires c κs = let s = c .before .before in (s .pre .0, s .pre .2, s .pre .3, rw (c .if1 .taken) at (s .pre .4))
 
 returns : tie.Need-returns
 returns c vs rest p = c .value-among .ensures vs rest (rw (c .before .if1 .taken) at p)

@@ -1,59 +1,80 @@
 -- `records::walk::check` meets its contract: the walk over what is left answers as the whole, and keeps each place. Assumes nothing.
 use mathlib.Core.Path.{_≡_, refl, sym, _∙_}
-use Prim.Native.Nat.{_-_}
+use Prim.Native.Nat.{_+_, _-_, _<_}
 use native.Mathlib.Omega.{arith}
 use lib.ListN.{length, length-set}
 use Rattle.tables.specs.Entries.{entries-of, blank}
 use Rattle.tables.proofs.Tables.{valid-most}
 use Rattle.records.proofs.Checking.{Checking, start}
 use Rattle.records.proofs.Heads.{headed-five, headed-most}
-use Rattle.records.proofs.Directories.{no-head, passed, no-part, at-the-end}
+use Rattle.records.proofs.Directories.{Rowing, rowing, long-set, old, new, rowed, no-head, passed, no-part, at-the-end}
 use borrow.Author.Needs.{needs}
 use Rattle.records.proofs.walk.check.Statement.{statement}
 use Rattle.records.proofs.walk.check.Tie as tie
 
 abbrev Inv-loop : tie.InvT-loop
-Inv-loop t b places₀ n inside₀ p₀ i₀ places inside p i = (n ≡ length (entries-of t)) × (length places ≡ 64) × Checking (entries-of t) b places inside i p
+Inv-loop t b places₀ n inside₀ p₀ kept₀ i₀ places inside p kept i =
+    (n ≡ length (entries-of t)) × Checking (entries-of t) b places inside i p × Rowing (entries-of t) b places i kept
 
 abbrev μ-loop : tie.MeasureT-loop
-μ-loop t b places₀ n inside₀ p₀ i₀ places inside p i = n - i
+μ-loop t b places₀ n inside₀ p₀ kept₀ i₀ places inside p kept i = n - i
 
 head-right-requires : tie.Need-head-right-requires Inv-loop μ-loop
 head-right-requires c κs = search needs
 
 count-requires : tie.Need-count-requires Inv-loop μ-loop
-count-requires c κs = c .before .before .before .before .pre
+count-requires c κs = c .before .before .before .before .pre .0
 
 loop-holds : tie.Need-loop-holds Inv-loop μ-loop
 loop-holds c =
     let s = c .before .before .before .before .before in
-    (c .count .ensures, refl, start (entries-of (s .args .t .now)) (s .args .b .now) _ (headed-five (s .args .b .now) (sym (c .before .before .head-right .ensures) ∙ c .before .if1 .taken)))
+    let a = s .args in
+    let es = entries-of (a .t .now) in
+    (c .count .ensures, start es (a .b .now) _ (headed-five (a .b .now) (sym (c .before .before .head-right .ensures) ∙ c .before .if1 .taken)), rowing es (a .b .now) _ (s .pre .1))
 
-cast-places : tie.Need-cast-places Inv-loop μ-loop
-cast-places c =
-    let s = c .before .before .before .before .before .before .before in
-    omega (arith, c .before .loop .inv .2 .inside, headed-most (s .args .b .now) (sym (c .before .before .before .before .head-right .ensures) ∙ c .before .before .before .if1 .taken))
+keep-requires : tie.Need-keep-requires Inv-loop μ-loop
+keep-requires c κs =
+    let l = c .before .before .loop .inv in
+    (l .2 .long, omega (arith, l .1 .inside, headed-most (c .before .before .before .before .before .before .before .before .args .b .now) (sym (c .before .before .before .before .before .head-right .ensures) ∙ c .before .before .before .before .if1 .taken)))
 
-mul-places : tie.Need-mul-places Inv-loop μ-loop
-mul-places c = let s = c .before .before .before .before .before .before .before in omega (arith, valid-most (s .args .t .now) (s .pre), c .before .loop .inv .0)
+add-keep : tie.Need-add-keep Inv-loop μ-loop
+add-keep c = let s = c .before .before .before .before .before .before .before .before .before .before in omega (arith, valid-most (s .args .t .now) (s .pre .0), c .before .before .before .before .loop .inv .0, c .before .before .before .loop-test .taken)
 
-array-write-places : tie.Need-array-write-places Inv-loop μ-loop
-array-write-places c = let s = c .before .before .before .before .before .before .before in omega (arith, valid-most (s .args .t .now) (s .pre), c .before .loop .inv .0)
+keep-requires-2 : tie.Need-keep-requires-2 Inv-loop μ-loop
+keep-requires-2 c κs =
+    let s = c .before .before .before .before .before .before .before .before .before .before in
+    let l = c .before .before .before .before .loop .inv in
+    (rw (c .before .keep .ensures) (simp length-set (l .2 .long)), omega (arith, l .2 .most, valid-most (s .args .t .now) (s .pre .0), l .0, c .before .before .before .loop-test .taken))
 
 inside-next-requires : tie.Need-inside-next-requires Inv-loop μ-loop
-inside-next-requires c κs = let l = c .before in (c .before .before .before .before .before .before .before .pre, omega (arith, l .loop .inv .0))
+inside-next-requires c κs = (c .before .before .before .before .before .before .before .before .before .before .before .pre .0, omega (arith, c .before .before .before .before .before .loop .inv .0, c .before .before .before .before .loop-test .taken))
 
 entry-end-requires : tie.Need-entry-end-requires Inv-loop μ-loop
-entry-end-requires c κs = let l = c .before .before in (c .before .before .before .before .before .before .before .before .pre, omega (arith, l .loop .inv .0), l .loop .inv .2 .inside)
+entry-end-requires c κs =
+    let s = c .before .before .before .before .before .before .before .before .before .before .before .before .before in
+    let l = c .before .before .before .before .before .before .before .loop .inv in (
+      s .pre .0,
+      omega (arith, l .0, c .before .before .before .before .before .before .loop-test .taken),
+      l .1 .inside,
+      headed-most (s .args .b .now) (sym (c .before .before .before .before .before .before .before .before .before .before .head-right .ensures) ∙ c .before .before .before .before .before .before .before .before .before .if1 .taken),
+      rw (c .before .before .keep2 .ensures, c .before .before .before .before .keep .ensures) (long-set (c .before .before .before .before .before .before .before .loop .places) (c .before .before .before .before .before .before .before .loop .i) (c .before .before .before .before .before .before .before .loop .p) (64 + c .before .before .before .before .before .before .before .loop .i) (c .before .before .before .before .before .before .before .loop .kept) ∙ l .2 .long),
+      omega (arith, l .2 .most, valid-most (s .args .t .now) (s .pre .0), l .0, c .before .before .before .before .before .before .loop-test .taken),
+    )
+
+kept-behind-requires : tie.Need-kept-behind-requires Inv-loop μ-loop
+kept-behind-requires c κs =
+    let s = c .before .before .before .before .before .before .before .before .before .before .before .before .before .before in
+    let l = c .before .before .before .before .before .before .before .before .loop .inv in
+    (s .pre .0, omega (arith, l .0, c .before .before .before .before .before .before .before .loop-test .taken), omega (arith, l .2 .most, valid-most (s .args .t .now) (s .pre .0), l .0, c .before .before .before .before .before .before .before .loop-test .taken))
 
 enum-told : tie.Need-enum-told Inv-loop μ-loop
 enum-told c = search needs
 
 returns : tie.Need-returns Inv-loop μ-loop
 returns c =
-    let l = c .before .before .before .before .before in
-    no-part (l .loop .inv .2) (omega (arith, l .loop .inv .0)) blank (c .before .before .before .inside-next .ensures) (c .before .before .entry-end .ensures) _ (c .enum-told .given .1)
-    (sym (c .before .before .before .before .before .before .before .before .head-right .ensures) ∙ c .before .before .before .before .before .before .before .if1 .taken) refl
+    let l = c .before .before .before .before .before .before .before .before .before .before .before .loop .inv in
+    no-part (l .1) (omega (arith, l .0, c .before .before .before .before .before .before .before .before .before .before .loop-test .taken)) blank (c .before .before .before .before .before .inside-next .ensures) (c .before .before .before .entry-end .ensures .0) _ _ (c .enum-told .given .1)
+    (sym (c .before .before .before .before .before .before .before .before .before .before .before .before .before .before .head-right .ensures) ∙ c .before .before .before .before .before .before .before .before .before .before .before .before .before .if1 .taken) refl
 
 enum-known-step : tie.Need-enum-known-step Inv-loop μ-loop
 enum-known-step c = search needs
@@ -66,23 +87,25 @@ loop-less c = search needs
 
 loop-again : tie.Need-loop-again Inv-loop μ-loop
 loop-again c =
-    let l = c .before .before .before .before .before .before in
-    let s = c .before .before .before .before .before .before .before .before .before .before .before .before in (
-      l .loop .inv .0,
-      simp length-set (l .loop .inv .1),
-      passed (l .loop .inv .2) (omega (arith, l .loop .inv .0)) blank (c .before .before .before .before .inside-next .ensures) (c .before .before .before .entry-end .ensures) (c .before .step .given .1)
-          (omega (arith, valid-most (s .args .t .now) (s .pre), l .loop .inv .0, l .loop .inv .1)),
+    let s = c .before .before .before .before .before .before .before .before .before .before .before .before .before .before .before .before .before .before in
+    let l = c .before .before .before .before .before .before .before .before .before .before .before .before .loop .inv in
+    let less = c .before .before .before .before .before .before .before .before .before .before .before .loop-test .taken in
+    let small : c .before .before .before .before .before .before .before .before .before .before .before .before .loop .i < 64 = omega (arith, valid-most (s .args .t .now) (s .pre .0), l .0, less) in
+    let step = c .before .step .given .1 in
+    let kept = rw (c .before .before .before .before .before .before .before .keep2 .ensures, c .before .before .before .before .before .before .before .before .before .keep .ensures) at (c .before .before .before .before .entry-end .ensures .1 _ step) in
+    let p = c .before .before .before .before .before .before .before .before .before .before .before .before .loop .p in (
+      l .0,
+      passed (l .1) (omega (arith, l .0, less)) blank (c .before .before .before .before .before .before .inside-next .ensures) (c .before .before .before .before .entry-end .ensures .0) step _ (new (l .2) small p kept) (old (l .2) small p kept),
+      rowed (l .2) small p kept (c .before .before .before .kept-behind .ensures .0) (c .before .before .before .kept-behind .ensures .1),
     )
 
 returns-2 : tie.Need-returns-2 Inv-loop μ-loop
 returns-2 c =
-    let l = c .before in
-    at-the-end (l .loop .inv .2) _ (omega (arith, l .loop .inv .0)) (sym (c .before .before .before .before .head-right .ensures) ∙ c .before .before .before .if1 .taken) refl refl
+    let l = c .before .loop .inv in
+    at-the-end (l .1) (l .2) _ (omega (arith, l .0, c .loop-test .left)) (sym (c .before .before .before .before .head-right .ensures) ∙ c .before .before .before .if1 .taken) refl
 
 returns-3 : tie.Need-returns-3 Inv-loop μ-loop
-returns-3 c =
-    let a = c .before .before .before .before .args in
-    no-head (entries-of (a .t .now)) (a .b .now) _ (sym (c .before .head-right .ensures) ∙ c .if1 .left) refl
+returns-3 c = let a = c .before .before .before .before .args in no-head (entries-of (a .t .now)) (a .b .now) _ _ (sym (c .before .head-right .ensures) ∙ c .if1 .left) refl
 
 pub check-spec : {M : Type 1} → statement M
 check-spec =
@@ -93,11 +116,12 @@ check-spec =
     head-right-requires
     count-requires
     loop-holds
-    cast-places
-    mul-places
-    array-write-places
+    keep-requires
+    add-keep
+    keep-requires-2
     inside-next-requires
     entry-end-requires
+    kept-behind-requires
     enum-told
     returns
     enum-known-step
