@@ -19,3 +19,4 @@ pub mod Contents
 pub mod Skips
 pub mod Widths
 pub mod Pieces
+pub mod Strips

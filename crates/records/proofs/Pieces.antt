@@ -44,18 +44,18 @@ start-none before (e ∷ es) bs zero h = absurd (not-suc-le-zero h)
 start-none before (e ∷ es) bs (suc j) h = start-none _ es _ j (le-of-suc-le-suc h)
 
 -- The bytes of a cell that has one value.
-once-bytes : (mu : Bool) (f : Format) (s : ℕ) (bs : Bytes) {vs : Cell} {rest : Bytes} → mu ≡ false → counted mu (stored-value f s) bs ≡ done (vs, rest) → bs ≡ join vs ++ rest
+pub once-bytes : (mu : Bool) (f : Format) (s : ℕ) (bs : Bytes) {vs : Cell} {rest : Bytes} → mu ≡ false → counted mu (stored-value f s) bs ≡ done (vs, rest) → bs ≡ join vs ++ rest
 unfolding join
 once-bytes true f s bs m p = absurd (never m refl)
 once-bytes false f s bs {vs} {rest} m p = counted-once (stored-value f s) bs p λ v e h. rw (e, append-nil v) (value-sound f s bs v rest h)
 
-values-append : (es : List Entry) (r : Record) (o : ℕ) (xs ys : List Field) → values-of es r o (xs ++ ys) ≡ values-of es r o xs ++ values-of es r o ys
+pub values-append : (es : List Entry) (r : Record) (o : ℕ) (xs ys : List Field) → values-of es r o (xs ++ ys) ≡ values-of es r o xs ++ values-of es r o ys
 unfolding values-of
 values-append es r o [] ys = refl
 values-append es r o (x ∷ xs) ys = ap (λ (bs : Bytes). join (values-at (parts es) r (x .name) o) ++ bs) (values-append es r o xs ys)
     ∙ sym (append-assoc (join (values-at (parts es) r (x .name) o)) (values-of es r o xs) (values-of es r o ys))
 
-inside-group : (es : List Entry) (j : ℕ) → getD es j blank .what ≡ group true → inside-at es j ≡ true
+pub inside-group : (es : List Entry) (j : ℕ) → getD es j blank .what ≡ group true → inside-at es j ≡ true
 unfolding inside-at inside-before inside-of
 inside-group es j q = ap (inside-of (inside-before es j) (getD es j blank .level)) q
 

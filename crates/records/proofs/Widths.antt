@@ -45,12 +45,12 @@ and-more : (t x y z : Bool) → x ≡ (y && z) → (t && x) ≡ ((t && y) && z)
 and-more true x y z h = h
 and-more false x y z h = refl
 
-plains-append : (xs ys : List Field) → all plain (xs ++ ys) ≡ (all plain xs && all plain ys)
+pub plains-append : (xs ys : List Field) → all plain (xs ++ ys) ≡ (all plain xs && all plain ys)
 unfolding all
 plains-append [] ys = refl
 plains-append (x ∷ xs) ys = and-more (plain x) (all plain (xs ++ ys)) (all plain xs) (all plain ys) (plains-append xs ys)
 
-lengths-append : (xs ys : List Field) → lengths (xs ++ ys) ≡ lengths xs + lengths ys
+pub lengths-append : (xs ys : List Field) → lengths (xs ++ ys) ≡ lengths xs + lengths ys
 unfolding lengths
 lengths-append [] ys = sym (zero-add (lengths ys))
 lengths-append (x ∷ xs) ys = rw (lengths-append xs ys) (omega arith)

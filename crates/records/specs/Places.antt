@@ -2,19 +2,20 @@
 use mathlib.Core.Path.{_≡_}
 use mathlib.Core.Bool.{true, false}
 use mathlib.Core.List.{List, [], _∷_, _++_}
-use Prim.Native.Nat.{ℕ, _-_, _≤_, _<_}
+use Prim.Native.Nat.{ℕ, _+_, _-_, _≤_, _<_}
 use lib.ListN.{length, take, drop, getD}
 use lib.Seq.{slice}
 use Rattle.rules.specs.Outcome.{done}
 use Rattle.rules.specs.Lists.{Bytes, join}
 use Rattle.rules.specs.Values.{Format, content, allowed}
 use Rattle.rules.specs.Table.{Entry, Field, parts}
-use Rattle.rules.specs.Record.{Record, stored-cell, stored, values-at}
+use Rattle.rules.specs.Record.{Record, times, each, stored-cell, stored, group-count-at, values-at}
 use Rattle.tables.specs.Entries.{blank, is-multiple}
 use Rattle.tables.specs.Groups.{field-at}
 use Rattle.tables.specs.Places.{inside-at}
-use Rattle.records.specs.Walk.{Starts, Rows}
+use Rattle.records.specs.Walk.{rest-of, Walked, occurrence, Starts, Rows}
 use Rattle.records.specs.Where.{fields-of}
+use Rattle.records.specs.declared.Step.the-variants as Step
 use Rattle.records.specs.declared.places.Cell.{Cell}
 use Rattle.records.specs.declared.places.Cell.the-variants.{At, Nothing}
 use Rattle.records.specs.declared.places.Content.{Content}
@@ -29,6 +30,17 @@ pub record Held (es : List Entry) (b : Bytes) (places : List ℕ) (r : Record) :
 -- They hold some record.
 abbrev pub Holds : List Entry → Bytes → List ℕ → Type 0
 Holds es b places = (r : Record) × Held es b places r
+
+-- Entry i's place in occurrence o of the periodic group that entry g is: the occurrence stands at p, and there the fields before the entry.
+pub record Stands (es : List Entry) (b : Bytes) (places : List ℕ) (g i o : ℕ) (r : Record) (p q : ℕ) : Type 0 where
+  pub many : o ≤ group-count-at (parts es) r (getD es g blank .name)
+  pub row : Walked b (rest-of (times (o - 1) (occurrence es g) (drop (getD places g 0 + 1) b))) (Step.At p)
+  pub before : Walked b (rest-of (each stored-cell (fields-of (slice (g + 1) i es)) (drop p b))) (Step.At q)
+
+-- The same of the code's answer: or there is no such occurrence.
+abbrev pub Entered : List Entry → Bytes → List ℕ → ℕ → ℕ → ℕ → Record → Cell → Type 0
+Entered es b places g i o r (At q) = (p : ℕ) × Stands es b places g i o r p q
+Entered es b places g i o r Nothing = group-count-at (parts es) r (getD es g blank .name) < o
 
 -- The cell of entry i in occurrence o of a record: from a place on, or there is none.
 abbrev pub Cell-of : List Entry → Bytes → ℕ → ℕ → Record → Cell → Type 0
