@@ -7,21 +7,21 @@ use native.Mathlib.Nat.{add-zero}
 use native.Mathlib.Omega.{arith}
 use lib.ListN.{length, take, drop, getD, length-append, length-drop}
 use lib.Seq.{slice, slice-cons, slice-empty, take-at}
-use Rattle.rules.specs.Outcome.{Outcome, done}
+use Rattle.rules.specs.Outcome.{done}
 use Rattle.rules.specs.Lists.{Bytes, all, join}
 use Rattle.rules.specs.Table.{What, field, group, Entry, Field, parts}
 use Rattle.rules.specs.Use.{plain}
 use Rattle.rules.specs.Record.{Record, times, each, stored-cell, group-count-at, values-at}
-use Rattle.rules.proofs.Steps.{done-inj, and-right}
+use Rattle.rules.proofs.Steps.{done-inj}
 use Rattle.tables.specs.Entries.{Valid, entries-of, blank, is-group}
-use Rattle.tables.specs.Groups.{group-end, field-at}
-use Rattle.tables.specs.Places.{inside-at, Home}
+use Rattle.tables.specs.Groups.{group-end}
+use Rattle.tables.specs.Places.{Home}
 use Rattle.tables.proofs.Tables.{valid-names, valid-sound}
 use Rattle.tables.proofs.Nesting.{members-inside}
 use Rattle.records.specs.Walk.{rest-of, Walked, occurrence}
 use Rattle.records.specs.Where.{field-of, fields-of}
 use Rattle.records.specs.Paths.{lengths}
-use Rattle.records.specs.Places.{Held, Stands, values-of, Piece-of}
+use Rattle.records.specs.Places.{Held, values-of, Piece-of}
 use Rattle.records.specs.declared.Step.the-variants as S
 use Rattle.records.specs.declared.places.Content.the-variants.{At}
 use Rattle.records.proofs.Entries.{never}
@@ -31,7 +31,7 @@ use Rattle.records.proofs.Ends.{each-single, group-within}
 use Rattle.records.proofs.Groups.{fields-split}
 use Rattle.records.proofs.Skips.{plain-both, fields-skipped}
 use Rattle.records.proofs.Widths.{plains-append, lengths-append}
-use Rattle.records.proofs.Placed.{field-is, members-end, cell-missing, cell-stands}
+use Rattle.records.proofs.Placed.{field-is, cell-missing, cell-stands}
 use Rattle.records.proofs.Pieces.{once-bytes, values-append, inside-group}
 
 both-true : {C : Type 0} (x y : Bool) → (x && y) ≡ true → (x ≡ true → y ≡ true → C) → C

@@ -6,7 +6,6 @@ use lib.ListN.{drop}
 use lib.Seq.{slice}
 use Rattle.rules.specs.Record.{each, stored-cell}
 use Rattle.tables.specs.Entries.{entries-of}
-use Rattle.tables.proofs.Tables.{valid-most}
 use Rattle.records.specs.Where.{fields-of}
 use Rattle.records.specs.Walk.{rest-of, Walked}
 use Rattle.records.specs.declared.Step.the-variants.{At}
