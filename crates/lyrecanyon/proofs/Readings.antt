@@ -1,60 +1,48 @@
--- Read is refused by table, record, syntax and use rules in this order, and else it is its items, filled in the buffer and within 32,767 bytes.
+-- Read is refused by its table and its record in this order, and else it is the items of its format in the buffer, within 32,767 bytes. What is made in less room is made in more, and is refused so too, unless for want of room.
 use mathlib.Core.Path.{_≡_, refl, sym, _∙_, ap, subst}
 use mathlib.Core.Bool.{Bool, true, false}
 use mathlib.Core.List.{List, []}
-use Prim.Native.Nat.{ℕ, _-_, _≤_, _<_, min}
-use native.Mathlib.Nat.{sub-zero}
+use Prim.Native.Nat.{ℕ, _≤_, min}
 use native.Mathlib.Omega.{arith}
-use lib.ListN.{length}
+use lib.ListN.{length, take}
 use Rattle.rules.specs.Outcome.{Outcome, done, refused, _>>=_, is-done}
 use Rattle.rules.specs.Limits.{longest-items}
 use Rattle.rules.specs.Lists.{Bytes, bytes-of}
 use Rattle.rules.specs.Table.{Entry, table, parts}
 use Rattle.rules.specs.Record.{Record, stored}
 use Rattle.rules.specs.Format.{elements}
-use Rattle.rules.specs.Use as rules
-use Rattle.rules.specs.Use.{Item, items}
+use Rattle.rules.specs.Use.{uses, items}
 use Rattle.rules.specs.Services.{filled, read}
-use Rattle.rules.proofs.Only.{Only}
+use Rattle.rules.proofs.Only.{Only, only-bind}
 use Rattle.rules.proofs.Refusals.{no-table, no-record, bad-syntax}
 use Rattle.rules.proofs.UseRefusals.{Between, uses-only, filled-only}
-use Rattle.rules.proofs.Steps.{by-outcome, by-test, not-both}
+use Rattle.rules.proofs.Steps.{by-outcome, by-test, not-both, not-done}
 use Rattle.buffer.specs.Splice.{splice}
+use Rattle.buffer.proofs.Laws.{take-splice}
 use Rattle.tables.specs.Entries.{Valid, entries-of}
-use Rattle.records.specs.Places.{Held, Holds}
-use Rattle.uses.specs.Meant.{uses-of, Tested}
-use Rattle.reading.specs.Filling.{placed}
-use Rattle.reading.specs.Runs.{Fills, Sound}
+use Rattle.records.specs.Places.{Holds}
+use Rattle.uses.specs.Meant.{uses-of}
+use Rattle.reading.specs.Filling.{placed, Filling}
+use Rattle.reading.specs.Turns.{Scans}
 use Rattle.reading.specs.declared.Next.{Next}
 use Rattle.reading.specs.declared.Next.the-variants as next
-use Rattle.reading.proofs.Going.{filled-length, at-inj, no-at}
+use Rattle.reading.proofs.Going.{filled-length, at-inj, refused-inj, no-at}
+use Rattle.reading.proofs.Rooms.{more-room, more-room-refused}
 use Rattle.lyrecanyon.specs.Answers.{refusal-number, Settled}
 use Rattle.lyrecanyon.specs.declared.Refusal.{Refusal}
 use Rattle.lyrecanyon.specs.declared.Answer.the-variants.{Done, Refused}
 use Rattle.lyrecanyon.proofs.Settling.{settled-refused, settled-done}
 
--- What a test of the use rules returns: 4 or 5 where the syntax is good.
-tested-refused : {A : Type 0} (P : ℕ → Type 0) (o : Outcome A) (n : ℕ) → Tested o n → 0 < n → Only P o → P n × (o ≡ refused n)
-tested-refused P (done a) n q s k = absurd (omega (arith, q, s))
-tested-refused P (refused m) n q s k = (rw (q .0) k, ap refused (sym (q .0)))
-
-pub tested-done : {A : Type 0} (o : Outcome A) (n : ℕ) → Tested o n → n ≡ 0 → is-done o ≡ true
-tested-done (done a) n q z = refl
-tested-done (refused m) n q z = absurd (omega (arith, q .0, q .1, z))
-
-used-only : (es : List Entry) (f : Bytes) → is-done (elements f) ≡ true → Only (Between 4 5) (uses-of es f)
-unfolding uses-of
-used-only es f g = by-outcome (elements f)
-    (λ xs e. rw e (uses-only es [] xs))
-    (λ n e. absurd (not-both (sym (ap is-done e) ∙ g)))
-
 pub read-no-table : (t b f : Bytes) (room : ℕ) → is-done (table t) ≡ false → read t b f room ≡ refused 1
 unfolding read
 read-no-table t b f room h = rw (no-table t h) refl
 
+-- The items of a format in so much room, of a record.
+abbrev made : List Entry → Bytes → ℕ → Record → Outcome Bytes
+made es f room r = uses-of es f >>= λ us. filled (parts es) r room (items us)
+
 -- What follows the tests of the table and of the record.
-read-stored : (t b f : Bytes) (room : ℕ) → Valid t
-    → read t b f room ≡ (stored (parts (entries-of t)) b >>= λ r. uses-of (entries-of t) f >>= λ us. filled (parts (entries-of t)) r (min room longest-items) (items us))
+read-stored : (t b f : Bytes) (room : ℕ) → Valid t → read t b f room ≡ (stored (parts (entries-of t)) b >>= made (entries-of t) f (min room longest-items))
 unfolding read entries-of uses-of
 read-stored t b f room v = by-outcome (table t)
     (λ es e. rw e (by-outcome (stored (parts es) b)
@@ -65,100 +53,124 @@ read-stored t b f room v = by-outcome (table t)
 pub read-no-record : (t b f : Bytes) (room : ℕ) → Valid t → is-done (stored (parts (entries-of t)) b) ≡ false → read t b f room ≡ refused 2
 read-no-record t b f room v h = read-stored t b f room v ∙ rw (no-record (parts (entries-of t)) b h) refl
 
--- Bytes that hold a record.
-module _ (t b f : Bytes) (room : ℕ) (places : List ℕ) (v : Valid t) where
-  read-held : (r : Record) → Held (entries-of t) b places r
-      → read t b f room ≡ (uses-of (entries-of t) f >>= λ us. filled (parts (entries-of t)) r (min room longest-items) (items us))
-  read-held r p = read-stored t b f room v ∙ rw (p .stands) refl
+-- The items are refused with 3 for the format, 4 or 5 for its elements, 7 to 9 for its items.
+wider : {A : Type 0} (a b : ℕ) (o : Outcome A) → 3 ≤ a → b ≤ 9 → Only (Between a b) o → Only (Between 3 9) o
+wider a b (done x) l m k = tt
+wider a b (refused n) l m k = (omega (arith, k .0), omega (arith, k .1))
 
-  read-unused : Holds (entries-of t) b places → (n : ℕ) → uses-of (entries-of t) f ≡ refused n → read t b f room ≡ refused n
-  read-unused h n e = read-held (h .0) (h .1) ∙ rw e refl
+used-only : (es : List Entry) (f : Bytes) → Only (Between 3 9) (uses-of es f)
+unfolding uses-of
+used-only es f = by-outcome (elements f)
+    (λ xs e. rw e (wider 4 5 (uses es [] xs) (omega arith) (omega arith) (uses-only es [] xs)))
+    (λ n e. rw (bad-syntax f (ap is-done e)) (omega arith, omega arith))
 
-  pub read-bad-syntax : Holds (entries-of t) b places → is-done (elements f) ≡ false → read t b f room ≡ refused 3
-  unfolding uses-of
-  read-bad-syntax h e = read-unused h 3 (rw (bad-syntax f e) refl)
+module _ (es : List Entry) (f : Bytes) (r : Record) where
+  made-only : (room : ℕ) → Only (Between 3 9) (made es f room r)
+  made-only room = only-bind (Between 3 9) (uses-of es f) _ (used-only es f) (λ us. wider 7 9 (filled (parts es) r room (items us)) (omega arith) (omega arith) (filled-only (parts es) r room (items us)))
 
-  -- The number of the first element that is refused is the outcome's, and is 4 or 5.
-  pub read-unused-by : Holds (entries-of t) b places → is-done (elements f) ≡ true → (n : ℕ) → Tested (uses-of (entries-of t) f) n → 0 < n
-      → Between 4 5 n × (read t b f room ≡ refused n)
-  read-unused-by h g n q s =
-      let k = tested-refused (Between 4 5) (uses-of (entries-of t) f) n q s (used-only (entries-of t) f g) in (k .0, read-unused h n (k .1))
+  made-length : (room : ℕ) (bs : Bytes) → made es f room r ≡ done bs → length bs ≤ room
+  made-length room bs e = by-outcome (uses-of es f)
+      (λ us u. filled-length (parts es) r room (items us) bs (rw u at e))
+      (λ n u. absurd (not-done (rw u at e)))
+
+  made-more : (room room′ : ℕ) (bs : Bytes) → room ≤ room′ → made es f room r ≡ done bs → made es f room′ r ≡ done bs
+  made-more room room′ bs l e = by-outcome (uses-of es f)
+      (λ us u. rw u (more-room (parts es) r room room′ (items us) bs l (rw u at e)))
+      (λ n u. rw u (rw u at e))
+
+  made-refused : (room room′ n : ℕ) → room ≤ room′ → (n ≡ 7 → ⊥) → made es f room r ≡ refused n → made es f room′ r ≡ refused n
+  made-refused room room′ n l z e = by-outcome (uses-of es f)
+      (λ us u. rw u (more-room-refused (parts es) r room room′ (items us) n l z (rw u at e)))
+      (λ k u. rw u (rw u at e))
 
 -- An outcome by where it ends.
-placed-refused : (o : Outcome Bytes) (at n : ℕ) → next.Refused n ≡ placed at o → o ≡ refused n
-placed-refused (done bs) at n e = absurd (no-at (sym e))
-placed-refused (refused k) at n e = let q : n ≡ k = cc in ap refused (sym q)
+placed-refused : (o : Outcome Bytes) (n : ℕ) → next.Refused n ≡ placed 0 o → o ≡ refused n
+placed-refused (done bs) n e = absurd (no-at (sym e))
+placed-refused (refused k) n e = ap refused (sym (refused-inj e))
 
 placed-at : (o : Outcome Bytes) (n : ℕ) → next.At n ≡ placed 0 o → (bs : Bytes) × (o ≡ done bs) × (n ≡ length bs)
 placed-at (done bs) n e = (bs, refl, omega (arith, at-inj e))
 placed-at (refused k) n e = absurd (no-at e)
 
--- The items of a format that keeps the use rules fill the buffer, whatever record the bytes hold.
-abbrev Filled : Bytes → Bytes → List ℕ → Bytes → ℕ → Bool → Bytes → Bytes → Next → Type 0
-Filled t b places f end write entry exit n =
-    (us : List rules.Use) → uses-of (entries-of t) f ≡ done us → Fills (entries-of t) b places (items us) 0 end write entry exit n
-
--- A test writes nothing.
-pub unwritten : (es : List Entry) (b : Bytes) (places : List ℕ) (xs : List Item) (at end : ℕ) → Sound es b places xs at end false
-unwritten es b places xs at end w = absurd (not-both w)
-
--- The items may be filled up to the end of the buffer, or to the limit.
+-- The items are to be made in room up to the end of the buffer, or to the limit.
 pub record Ready (t b : Bytes) (places : List ℕ) (f out : Bytes) (end : ℕ) : Type 0 where
   pub valid : Valid t
   pub holds : Holds (entries-of t) b places
-  pub kept : is-done (uses-of (entries-of t) f) ≡ true
   pub room : end ≡ min (length out) longest-items
 
 module _ {t b : Bytes} {places : List ℕ} {f out : Bytes} {end : ℕ} (s : Ready t b places f out end) where
-  -- The outcome, for the record and the uses that there are.
-  given : List rules.Use → Outcome Bytes
-  given us = filled (parts (entries-of t)) (s .holds .0) (end - 0) (items us)
+  -- The outcome in so much room, for the record that there is.
+  abbrev given : ℕ → Outcome Bytes
+  given room = made (entries-of t) f room (s .holds .0)
 
-  read-given : (us : List rules.Use) → uses-of (entries-of t) f ≡ done us → read t b f (length out) ≡ given us
-  unfolding given
-  read-given us u = read-held t b f (length out) places (s .valid) (s .holds .0) (s .holds .1) ∙ rw (u, sub-zero, s .room) refl
+  read-given : read t b f (length out) ≡ given end
+  read-given = read-stored t b f (length out) (s .valid) ∙ rw (s .holds .1 .stands, s .room) refl
 
-  used : {C : Type 0} → ((us : List rules.Use) → uses-of (entries-of t) f ≡ done us → C) → C
-  used k = by-outcome (uses-of (entries-of t) f) k (λ n e. absurd (not-both (sym (ap is-done e) ∙ s .kept)))
+  -- A pass in so much room.
+  module _ (room : ℕ) {write : Bool} {area area′ : Bytes} {m : Next} (g : Scans (entries-of t) b places f room write area area′ m) where
+    filling : Filling (given room) 0 write area area′ m
+    filling = g (s .holds .0) (s .holds .1)
 
-  -- A test that is refused.
-  module _ {out′ : Bytes} {r : Next} (g : Filled t b places f end false out out′ r) {n : ℕ} (e : r ≡ next.Refused n) where
-    refused-with : (us : List rules.Use) → uses-of (entries-of t) f ≡ done us → given us ≡ refused n
-    unfolding given
-    refused-with us u = placed-refused _ 0 n (sym e ∙ g us u (s .holds .0) (s .holds .1) .answer)
+    -- One that is refused.
+    module _ {n : ℕ} (e : m ≡ next.Refused n) where
+      refused-with : given room ≡ refused n
+      refused-with = placed-refused _ n (sym e ∙ filling .answer)
 
-    pub refused-between : Between 7 9 n
-    unfolding given
-    refused-between = used λ us u. subst (Only (Between 7 9)) (refused-with us u) (filled-only (parts (entries-of t)) (s .holds .0) (end - 0) (items us))
+      pub refused-between : Between 3 9 n
+      refused-between = subst (Only (Between 3 9)) refused-with (made-only (entries-of t) f (s .holds .0) room)
 
-    pub refused-read : (x : Refusal) → refusal-number x ≡ n → Settled (read t b f (length out)) out out′ (Refused x)
-    refused-read x q = used λ us u.
-        rw (g us u (s .holds .0) (s .holds .1) .bytes) (settled-refused _ out x (read-given us u ∙ refused-with us u ∙ ap refused (sym q)))
+      pub all-refused : room ≡ end → (x : Refusal) → refusal-number x ≡ n → Settled (read t b f (length out)) out out (Refused x)
+      all-refused l x q = settled-refused _ out x (read-given ∙ ap given (sym l) ∙ refused-with ∙ ap refused (sym q))
+
+      pub less-refused : room ≤ end → (n ≡ 7 → ⊥) → (x : Refusal) → refusal-number x ≡ n → Settled (read t b f (length out)) out out (Refused x)
+      less-refused l z x q = settled-refused _ out x (read-given ∙ made-refused (entries-of t) f (s .holds .0) room end n l z refused-with ∙ ap refused (sym q))
+
+    -- One that makes all items.
+    module _ {n : ℕ} (e : m ≡ next.At n) where
+      bytes-made : (bs : Bytes) × (given room ≡ done bs) × (n ≡ length bs)
+      bytes-made = placed-at (given room) n (sym e ∙ filling .answer)
+
+      pub made-within : n ≤ room
+      made-within = let o = bytes-made in omega (arith, o .2, made-length (entries-of t) f (s .holds .0) room (o .0) (o .1))
+
+      made-read : room ≤ end → {out′ : Bytes} → out′ ≡ splice 0 (bytes-made .0) out → Settled (read t b f (length out)) out out′ (Done n)
+      made-read l w =
+          let o = bytes-made in
+          settled-done _ (o .0) out _ n (read-given ∙ made-more (entries-of t) f (s .holds .0) room end (o .0) l (o .1)) (o .2) w
+
+  -- A test writes nothing, and else what is done is written.
+  unwritten : (room : ℕ) {area area′ : Bytes} {m : Next} → Scans (entries-of t) b places f room false area area′ m → area′ ≡ area
+  unwritten room g = filling room g .bytes (λ w. absurd (not-both w))
+
+  pub tested-refused : {out′ : Bytes} {m : Next} → Scans (entries-of t) b places f end false out out′ m → {n : ℕ} → m ≡ next.Refused n
+      → (x : Refusal) → refusal-number x ≡ n → Settled (read t b f (length out)) out out′ (Refused x)
+  tested-refused g e x q = rw (unwritten end g) (all-refused end g e refl x q)
+
+  written : (room : ℕ) {area area′ : Bytes} {m : Next} → Scans (entries-of t) b places f room true area area′ m → (bs : Bytes) → given room ≡ done bs → area′ ≡ splice 0 bs area
+  unfolding bytes-of
+  written room {area} g bs e = filling room g .bytes (λ w. ap is-done e) ∙ ap (λ o. splice 0 (bytes-of o) area) e
+
+  -- What was written to the front of an area, put to the front of the buffer.
+  pub short-read : (room : ℕ) {area area′ : Bytes} {m : Next} → Scans (entries-of t) b places f room true area area′ m → {n : ℕ} → m ≡ next.At n → room ≤ end
+      → {out′ : Bytes} → out′ ≡ splice 0 (take n area′) out → Settled (read t b f (length out)) out out′ (Done n)
+  short-read room {area} g {n} e l w =
+      let o = bytes-made room g e in
+      made-read room g e l (w ∙ ap (λ bs. splice 0 bs out) (ap (take n) (written room g (o .0) (o .1)) ∙ take-splice (o .0) area n (o .2)))
 
   -- A test that is passed, and then the writing.
-  module _ {out′ : Bytes} {r : Next} (g : Filled t b places f end false out out′ r) {n : ℕ} (e : r ≡ next.At n) where
-    pub passed-sound : (write : Bool) (us : List rules.Use) → uses-of (entries-of t) f ≡ done us → Sound (entries-of t) b places (items us) 0 end write
-    passed-sound write us u w rec p = ap is-done (placed-at (filled (parts (entries-of t)) rec (end - 0) (items us)) n (sym e ∙ g us u rec p .answer) .1)
-
-    pub passed-same : out′ ≡ out
-    passed-same = used λ us u. g us u (s .holds .0) (s .holds .1) .bytes
-
-    pub written-read : {out″ : Bytes} {m : Next} → Filled t b places f end true out′ out″ m → Settled (read t b f (length out)) out out″ (Done n)
-    unfolding bytes-of given
-    written-read k = used λ us u.
-        let o = placed-at (given us) n (sym e ∙ g us u (s .holds .0) (s .holds .1) .answer) in
-        settled-done _ (o .0) out _ n (read-given us u ∙ o .1) (o .2)
-        (k us u (s .holds .0) (s .holds .1) .bytes ∙ ap (λ z. splice 0 (bytes-of z) out′) (o .1) ∙ ap (splice 0 (o .0)) passed-same)
+  pub long-read : {out′ out″ : Bytes} {m m′ : Next} → Scans (entries-of t) b places f end false out out′ m → {n : ℕ} → m ≡ next.At n
+      → Scans (entries-of t) b places f end true out′ out″ m′ → Settled (read t b f (length out)) out out″ (Done n)
+  long-read g e k =
+      let o = bytes-made end g e in
+      made-read end g e (omega arith) (written end k (o .0) (o .1) ∙ ap (splice 0 (o .0)) (unwritten end g))
 
 -- What is written lies in the buffer.
 filled-within : (t b f : Bytes) (room : ℕ) → Valid t → length (bytes-of (read t b f room)) ≤ room
 unfolding bytes-of
 filled-within t b f room v = by-outcome (stored (parts (entries-of t)) b)
-    (λ r h. by-outcome (uses-of (entries-of t) f)
-    (λ us u. by-outcome (filled (parts (entries-of t)) r (min room longest-items) (items us))
-    (λ bs e. rw (read-stored t b f room v, h, u, e) (omega (arith, filled-length (parts (entries-of t)) r (min room longest-items) (items us) bs e)))
-    (λ n e. rw (read-stored t b f room v, h, u, e) (omega arith)))
-    (λ n u. rw (read-stored t b f room v, h, u) (omega arith)))
+    (λ r h. by-outcome (made (entries-of t) f (min room longest-items) r)
+    (λ bs e. rw (read-stored t b f room v, h, e) (omega (arith, made-length (entries-of t) f r (min room longest-items) bs e)))
+    (λ n e. rw (read-stored t b f room v, h, e) (omega arith)))
     (λ n h. rw (read-stored t b f room v, h) (omega arith))
 
 pub read-within : (t b f : Bytes) (room : ℕ) → length (bytes-of (read t b f room)) ≤ room

@@ -1,15 +1,16 @@
 // The services: read, update, and the empty record of a table.
 ghost use mathlib.Core.Path.{_≡_};
-ghost use mathlib.Core.Bool.{true};
 ghost use Prim.Native.Nat.{_≤_, min};
 ghost use lib.ListN.{length};
-ghost use Rattle.rules.specs.Outcome.{is-done};
+ghost use Rattle.rules.specs.Limits.{longest-items};
 ghost use Rattle.rules.specs.Services as Rules;
 ghost use Rattle.tables.specs.Entries.{Valid, entries-of};
-ghost use Rattle.uses.specs.Meant.{uses-of};
 ghost use Rattle.records.specs.Places.{Holds};
 ghost use Rattle.lyrecanyon.specs.Answers.{Settled, Exported, refusal-number, answer-number, answer-length};
 use reading::Next;
+
+// Answers up to so many bytes are made in a work area first, so that one pass over the format is enough.
+const SHORT: usize = 1024;
 
 // Why a call is refused: the numbers 1 to 10 of document 01, in their order.
 pub enum Refusal {
@@ -96,24 +97,56 @@ fn least(a: usize, b: usize) -> usize
     if a < b { a } else { b }
 }
 
-// The items of a format that keeps the use rules. All are tested first, in their order, so that a refusal changes no byte.
-fn read_items(
+// The items of a format. All are tested first, in their order, so that a refusal changes no byte.
+fn read_long(
     table: &[u8],
     stored: &[u8],
-    places: &[u16; 64],
+    places: &[u16; records::DIRECTORY],
     format: &[u8],
     buffer: &mut [u8],
+    end: usize,
 ) -> Answer
-    requires { ⌜ Valid (now table) × Holds (entries-of (now table)) (now stored) (now places) × (is-done (uses-of (entries-of (now table)) (now format)) ≡ true) ⌝ }
+    requires { ⌜ Valid (now table) × Holds (entries-of (now table)) (now stored) (now places) × (end ≡ min (length (now buffer)) longest-items) ⌝ }
     ensures { λ r. ⌜ Settled (Rules.read (now (table .entry)) (now (stored .entry)) (now (format .entry)) (length (now (buffer .entry)))) (now (buffer .entry)) (now (buffer .exit)) r ⌝ }
 {
-    let end = least(buffer.len(), rules::LONGEST_ITEMS);
-    let next = reading::fill(table, stored, places, format, buffer, end, false);
+    let next = reading::scan(table, stored, places, format, buffer, end, false);
     match next {
         Next::Refused(n) => Answer::Refused(refusal_of(n)),
         Next::At(used) => {
-            reading::fill(table, stored, places, format, buffer, end, true);
+            reading::scan(table, stored, places, format, buffer, end, true);
             Answer::Done(used)
+        }
+    }
+}
+
+// The same, made in a work area first: a refusal for want of room there tells nothing of a longer buffer.
+fn read_short(
+    table: &[u8],
+    stored: &[u8],
+    places: &[u16; records::DIRECTORY],
+    format: &[u8],
+    buffer: &mut [u8],
+) -> Answer
+    requires { ⌜ Valid (now table) × Holds (entries-of (now table)) (now stored) (now places) ⌝ }
+    ensures { λ r. ⌜ Settled (Rules.read (now (table .entry)) (now (stored .entry)) (now (format .entry)) (length (now (buffer .entry)))) (now (buffer .entry)) (now (buffer .exit)) r ⌝ }
+{
+    let end = least(buffer.len(), rules::LONGEST_ITEMS);
+    let room = least(end, SHORT);
+    let mut area = [0u8; SHORT];
+    let next = reading::scan(table, stored, places, format, &mut area, room, true);
+    match next {
+        Next::Refused(n) => {
+            if n != 7 {
+                return Answer::Refused(refusal_of(n));
+            }
+            if room < end {
+                return read_long(table, stored, places, format, buffer, end);
+            }
+            Answer::Refused(Refusal::BeyondBuffer)
+        }
+        Next::At(made) => {
+            buffer::put(&area[..made], buffer, 0);
+            Answer::Done(made)
         }
     }
 }
@@ -125,18 +158,11 @@ pub fn read(table: &[u8], stored: &[u8], format: &[u8], buffer: &mut [u8]) -> An
     if !tables::valid(table) {
         return Answer::Refused(Refusal::NoTable);
     }
-    let directory = records::walk::check(table, stored);
-    if !directory.ok {
+    let mut places = [0u16; records::DIRECTORY];
+    if !records::walk::check(table, stored, &mut places) {
         return Answer::Refused(Refusal::NoRecord);
     }
-    if !formats::syntax::syntax(format) {
-        return Answer::Refused(Refusal::BadSyntax);
-    }
-    let n = uses::test(table, format);
-    if n != 0 {
-        return Answer::Refused(refusal_of(n));
-    }
-    read_items(table, stored, &directory.places, format, buffer)
+    read_short(table, stored, &places, format, buffer)
 }
 
 // The same for C: the number is returned, and the length used is written.

@@ -1,10 +1,10 @@
 -- What is put of an element, by what its items are.
 use mathlib.Core.Path.{_≡_, refl, sym, _∙_, ap, subst}
-use mathlib.Core.Bool.{Bool, true}
+use mathlib.Core.Bool.{Bool}
 use mathlib.Core.List.{List, [], _∷_}
 use Prim.Native.Nat.{ℕ, _-_}
 use lib.ListN.{take, drop, getD, replicate}
-use Rattle.rules.specs.Outcome.{Outcome, done, is-done}
+use Rattle.rules.specs.Outcome.{Outcome, done}
 use Rattle.rules.specs.Lists.{Bytes}
 use Rattle.rules.specs.Characters.{space}
 use Rattle.rules.specs.Table.{Entry, parts}
@@ -21,7 +21,7 @@ use Rattle.uses.specs.declared.Use.the-variants.{Blanks, Text, GroupCount, Valu
 use Rattle.uses.proofs.SpanFields as fields
 use Rattle.records.specs.Places.{Held}
 use Rattle.reading.specs.Filling.{within, Filling}
-use Rattle.reading.specs.Runs.{Fills, Sound, span-items}
+use Rattle.reading.specs.Runs.{Fills, span-items}
 use Rattle.reading.specs.declared.Next.{Next}
 use Rattle.reading.proofs.Running.{filled-one}
 use Rattle.reading.proofs.Unbare.{filled-bare}
@@ -61,10 +61,6 @@ span-filled es f s r room =
     ∙ filled-bare (parts es) r room (asked-of es s) (range (s .from) (s .upto)) (range (s .«value_from») (s .«value_upto»)) (s .bare)
 
 module _ (es : List Entry) (b : Bytes) (places : List ℕ) (f : Bytes) (at end : ℕ) (write : Bool) {u : Use} (s : Span) (e : u ≡ Values s) where
-  pub span-sound : Sound es b places (items-of (use-meant es f u)) at end write → Sound es b places (span-items es s (s .from)) at end write
-  span-sound h w r p =
-      ap is-done (sym (span-filled es f s r (end - at))) ∙ subst (λ (z : Use). is-done (filled (parts es) r (end - at) (items-of (use-meant es f z))) ≡ true) e (h w r p)
-
   pub use-span : {out out′ : Bytes} {m : Next} → Fills es b places (span-items es s (s .from)) at end write out out′ m → Fills es b places (items-of (use-meant es f u)) at end write out out′ m
   use-span {out} {out′} {m} g = meant es b places f at end write (Values s) e
       (λ r h. subst (λ (z : Outcome Bytes). Filling z at write out out′ m) (sym (span-filled es f s r (end - at))) (g r h))

@@ -1,8 +1,8 @@
--- A loop over items: what is left of them, from where it stands, ends and writes as the whole does from its start. A turn takes some
--- items off the front, a stop is their refusal, and the end is that none is left.
+-- A loop over outcomes: what is left of them, from where it stands, ends and writes as the whole does from its start. A turn takes some
+-- off the front, a stop is their refusal, and the end is that none is left.
 use mathlib.Core.Path.{_≡_, refl, sym, _∙_, ap}
 use mathlib.Core.Bool.{Bool, true, false}
-use mathlib.Core.List.{List, [], _∷_, _++_, append-assoc}
+use mathlib.Core.List.{List, [], _∷_, _++_, map, append-assoc, map-append}
 use Prim.Native.Nat.{ℕ, zero, suc, _+_, _-_, _≤_, _<_}
 use native.Mathlib.Nat.{sub-zero, add-zero}
 use native.Mathlib.Omega.{arith}
@@ -16,13 +16,14 @@ use Rattle.rules.specs.Use.{Item}
 use Rattle.rules.specs.Services.{item-bytes, filled}
 use Rattle.rules.proofs.Steps.{from-bind, from-need, need-true, done-inj, not-done, by-test, by-outcome, not-both}
 use Rattle.buffer.specs.Splice.{splice}
-use Rattle.buffer.proofs.Laws.{splice-nil, splice-then, length-splice}
-use Rattle.reading.specs.Filling.{placed, left-as, Filling}
+use Rattle.buffer.proofs.Laws.{splice-nil, splice-then}
+use Rattle.reading.specs.Filling.{placed, left-as, Counts, Filling}
+use Rattle.reading.specs.Runs.{together}
 use Rattle.reading.specs.declared.Next.{Next}
 use Rattle.reading.specs.declared.Next.the-variants.{At, Refused}
 
 -- Bytes put before an outcome's bytes.
-abbrev before : Bytes → Outcome Bytes → Outcome Bytes
+abbrev pub before : Bytes → Outcome Bytes → Outcome Bytes
 before a o = o >>= λ b. done (a ++ b)
 
 before-none : (o : Outcome Bytes) → before [] o ≡ o
@@ -33,52 +34,73 @@ before-both : (a b : Bytes) (o : Outcome Bytes) → before a (before b o) ≡ be
 before-both a b (done c) = ap done (sym (append-assoc a b c))
 before-both a b (refused k) = refl
 
--- Items in two runs.
+-- Outcomes in two runs.
+pub together-length : (room : ℕ) (os : List (Outcome Bytes)) (bs : Bytes) → together room os ≡ done bs → length bs ≤ room
+unfolding together
+together-length room [] bs p = let e = done-inj p in rw (← e) (omega arith)
+together-length room (done b ∷ os) bs p =
+    from-need (leb (length b) room) 7 _ p λ t k.
+    from-bind (together (room - length b) os) _ k λ cs h k₂.
+    let l = together-length (room - length b) os cs h in
+    let m = leb→le (length b) room t in
+    let e = done-inj k₂ in
+    rw (← e, length-append) (omega arith)
+together-length room (refused n ∷ os) bs p = absurd (not-done p)
+
+append-on : (room : ℕ) (xs ys : List (Outcome Bytes)) (a : Bytes) → together room xs ≡ done a → together room (xs ++ ys) ≡ before a (together (room - length a) ys)
+unfolding together
+append-on room [] ys a p = rw (← done-inj p, sub-zero) (sym (before-none (together room ys)))
+append-on room (done b ∷ xs) ys a p =
+    from-need (leb (length b) room) 7 _ p λ t k.
+    from-bind (together (room - length b) xs) _ k λ cs h k₂.
+    let e = done-inj k₂ in
+    let m : room - length (b ++ cs) ≡ room - length b - length cs = rw length-append (omega arith) in
+    rw (need-true (leb (length b) room) 7 t, append-on (room - length b) xs ys cs h, ← e, m) (before-both b cs (together (room - length b - length cs) ys))
+append-on room (refused n ∷ xs) ys a p = absurd (not-done p)
+
+append-off : (room : ℕ) (xs ys : List (Outcome Bytes)) (k : ℕ) → together room xs ≡ refused k → together room (xs ++ ys) ≡ refused k
+unfolding together
+append-off room [] ys k p = absurd (not-done (sym p))
+append-off room (done b ∷ xs) ys k p = by-test (leb (length b) room)
+    (λ t. by-outcome (together (room - length b) xs)
+    (λ cs h. absurd (not-done (sym (rw (t, h) at p))))
+    (λ n h. rw (t, append-off (room - length b) xs ys n h) (rw (t, h) at p)))
+    (λ t. rw t (rw t at p))
+append-off room (refused n ∷ xs) ys k p = p
+
+-- Items are filled as their bytes are put together.
+pub filled-together : (ps : List Part) (r : Record) (xs : List Item) (room : ℕ) → filled ps r room xs ≡ together room (map (item-bytes ps r) xs)
+unfolding filled together
+filled-together ps r [] room = refl
+filled-together ps r (x ∷ xs) room = simp (filled-together ps r xs)
+
 module _ (ps : List Part) (r : Record) where
   pub filled-length : (room : ℕ) (xs : List Item) (bs : Bytes) → filled ps r room xs ≡ done bs → length bs ≤ room
-  unfolding filled
-  filled-length room [] bs p = let e = done-inj p in rw (← e) (omega arith)
-  filled-length room (x ∷ xs) bs p =
-      from-bind (item-bytes ps r x) _ p λ b h k.
-      from-need (leb (length b) room) 7 _ k λ t k₂.
-      from-bind (filled ps r (room - length b) xs) _ k₂ λ cs h₃ k₃.
-      let l = filled-length (room - length b) xs cs h₃ in
-      let m = leb→le (length b) room t in
-      let e = done-inj k₃ in
-      rw (← e, length-append) (omega arith)
+  filled-length room xs bs p = together-length room (map (item-bytes ps r) xs) bs (sym (filled-together ps r xs room) ∙ p)
 
-  append-on : (room : ℕ) (xs ys : List Item) (a : Bytes) → filled ps r room xs ≡ done a
+  filled-parted : (room : ℕ) (xs ys : List Item) → filled ps r room (xs ++ ys) ≡ together room (map (item-bytes ps r) xs ++ map (item-bytes ps r) ys)
+  filled-parted room xs ys = filled-together ps r (xs ++ ys) room ∙ ap (together room) (map-append (item-bytes ps r) xs ys)
+
+  pub filled-on : (room : ℕ) (xs ys : List Item) (a : Bytes) → filled ps r room xs ≡ done a
       → filled ps r room (xs ++ ys) ≡ before a (filled ps r (room - length a) ys)
-  unfolding filled
-  append-on room [] ys a p = rw (← done-inj p, sub-zero) (sym (before-none (filled ps r room ys)))
-  append-on room (x ∷ xs) ys a p =
-      from-bind (item-bytes ps r x) _ p λ b h k.
-      from-need (leb (length b) room) 7 _ k λ t k₂.
-      from-bind (filled ps r (room - length b) xs) _ k₂ λ cs h₃ k₃.
-      let e = done-inj k₃ in
-      let m : room - length (b ++ cs) ≡ room - length b - length cs = rw length-append (omega arith) in
-      rw (h, need-true (leb (length b) room) 7 t, append-on (room - length b) xs ys cs h₃, ← e, m) (before-both b cs (filled ps r (room - length b - length cs) ys))
+  filled-on room xs ys a p =
+      filled-parted room xs ys ∙ append-on room _ _ a (sym (filled-together ps r xs room) ∙ p) ∙ ap (before a) (sym (filled-together ps r ys (room - length a)))
 
-  pub append-off : (room : ℕ) (xs ys : List Item) (k : ℕ) → filled ps r room xs ≡ refused k → filled ps r room (xs ++ ys) ≡ refused k
-  unfolding filled
-  append-off room [] ys k p = absurd (not-done (sym p))
-  append-off room (x ∷ xs) ys k p = by-outcome (item-bytes ps r x)
-      (λ b h. by-test (leb (length b) room)
-      (λ t. by-outcome (filled ps r (room - length b) xs)
-      (λ cs h₃. absurd (not-done (sym (rw (h, t, h₃) at p))))
-      (λ n h₃. rw (h, t, append-off (room - length b) xs ys n h₃) (rw (h, t, h₃) at p)))
-      (λ t. rw (h, t) (rw (h, t) at p)))
-      (λ n h. rw h (rw h at p))
+  pub filled-off : (room : ℕ) (xs ys : List Item) (k : ℕ) → filled ps r room xs ≡ refused k → filled ps r room (xs ++ ys) ≡ refused k
+  filled-off room xs ys k p = filled-parted room xs ys ∙ append-off room _ _ k (sym (filled-together ps r xs room) ∙ p)
 
--- A loop over items: it began at `start` and stands at `at`, with `rest` still to come of the `whole`. It writes only what is all done.
+pub room-left : (end at at′ n : ℕ) → at + n ≡ at′ → at′ ≤ end → end - at - n ≡ end - at′
+room-left end at at′ n e l = omega arith
+
+-- A loop over outcomes: it began at `start` and stands at `at`, with `rest` still to come of the `whole`.
 pub record Going (whole rest : Outcome Bytes) (start at : ℕ) (write : Bool) (out₀ out : Bytes) : Type 0 where
   pub answer : placed at rest ≡ placed start whole
-  pub bytes : left-as write at rest out ≡ left-as write start whole out₀
+  pub alike : is-done rest ≡ is-done whole
   pub same : length out ≡ length out₀
-  pub sound : write ≡ true → is-done rest ≡ true
+  pub bytes : Counts write rest → left-as write at rest out ≡ left-as write start whole out₀
 
-pub going-start : (whole : Outcome Bytes) (at : ℕ) (write : Bool) (out : Bytes) → (write ≡ true → is-done whole ≡ true) → Going whole whole at at write out out
-going-start whole at write out h = record { answer = refl; bytes = refl; same = refl; sound = h }
+pub going-start : (whole : Outcome Bytes) (at : ℕ) (write : Bool) (out : Bytes) → Going whole whole at at write out out
+going-start whole at write out = record { answer = refl; alike = refl; same = refl; bytes = λ h. refl }
 
 placed-before : (at : ℕ) (a : Bytes) (o : Outcome Bytes) → placed at (before a o) ≡ placed (at + length a) o
 placed-before at a (done b) = ap At (rw length-append (omega arith))
@@ -88,74 +110,104 @@ done-before : (a : Bytes) (o : Outcome Bytes) → is-done (before a o) ≡ is-do
 done-before a (done b) = refl
 done-before a (refused k) = refl
 
-left-before : (write : Bool) (at : ℕ) (a : Bytes) (o : Outcome Bytes) (out : Bytes) → at + length a ≤ length out → (write ≡ true → is-done o ≡ true)
+left-before : (write : Bool) (at : ℕ) (a : Bytes) (o : Outcome Bytes) (out : Bytes) → at + length a ≤ length out → Counts write o
     → left-as write (at + length a) o (left-as write at (done a) out) ≡ left-as write at (before a o) out
 unfolding bytes-of
 left-before false at a o out h s = refl
 left-before true at a (done b) out h s = splice-then at a b out (at + length a) refl h
 left-before true at a (refused k) out h s = absurd (not-both (s refl))
 
-left-length : (write : Bool) (at : ℕ) (a out : Bytes) → at + length a ≤ length out → length (left-as write at (done a) out) ≡ length out
-unfolding bytes-of
-left-length false at a out h = refl
-left-length true at a out h = length-splice at a out h
-
 pub at-inj : {m n : ℕ} → At m ≡ At n → m ≡ n
 at-inj p = cc
+
+pub refused-inj : {m n : ℕ} → _≡_ {A = Next} (Refused m) (Refused n) → m ≡ n
+refused-inj p = cc
 
 pub no-at : {m k : ℕ} → _≡_ {A = Next} (At m) (Refused k) → ⊥
 no-at p = let z : _≡_ {A = ℕ} 0 1 = cc in omega arith
 
--- A turn that takes the items xs, of which a callee says where they end and what it left in the buffer.
-module _ (ps : List Part) (r : Record) (end : ℕ) (xs ys : List Item) {whole : Outcome Bytes} {start at : ℕ} {write : Bool} {out₀ out out′ : Bytes} {n : Next}
-    (g : Going whole (filled ps r (end - at) (xs ++ ys)) start at write out₀ out) (f : Filling (filled ps r (end - at) xs) at write out out′ n) (fits : at ≤ end) (room : end ≤ length out) where
-  pub turn-within : (at′ : ℕ) → n ≡ At at′ → (at ≤ at′) × (at′ ≤ end)
-  turn-within at′ q = by-outcome (filled ps r (end - at) xs)
-      (λ a h. let l = filled-length ps r (end - at) xs a h in let e : at + length a ≡ at′ = at-inj (sym (f .answer ∙ ap (placed at) h) ∙ q) in omega arith)
-      (λ k h. absurd (no-at (sym q ∙ f .answer ∙ ap (placed at) h)))
+module _ {whole rest : Outcome Bytes} {start at : ℕ} {write : Bool} {out₀ out out′ : Bytes} (g : Going whole rest start at write out₀ out) (same : length out′ ≡ length out) where
+  -- A turn: some bytes come off the front of what is left.
+  pub going-on : (a : Bytes) (left : Outcome Bytes) (at′ : ℕ) → rest ≡ before a left → at + length a ≡ at′ → at′ ≤ length out → out′ ≡ left-as write at (done a) out
+      → Going whole left start at′ write out₀ out′
+  going-on a left at′ o e l b =
+      let d : is-done rest ≡ is-done left = ap is-done o ∙ done-before a left in
+      record {
+        answer = ap (λ n. placed n left) (sym e) ∙ sym (placed-before at a left) ∙ ap (placed at) (sym o) ∙ g .answer;
+        alike = sym d ∙ g .alike;
+        same = same ∙ g .same;
+        bytes = λ k.
+            ap (λ n. left-as write n left out′) (sym e) ∙ ap (left-as write (at + length a) left) b ∙ left-before write at a left out (omega arith) k
+            ∙ ap (λ x. left-as write at x out) (sym o) ∙ g .bytes (λ w. d ∙ k w);
+      }
 
-  pub turn : (at′ : ℕ) → n ≡ At at′ → Going whole (filled ps r (end - at′) ys) start at′ write out₀ out′
-  turn at′ q = by-outcome (filled ps r (end - at) xs)
-      (λ a h. on a h (filled-length ps r (end - at) xs a h) (at-inj (sym (f .answer ∙ ap (placed at) h) ∙ q)))
-      (λ k h. absurd (no-at (sym q ∙ f .answer ∙ ap (placed at) h)))
+  -- A stop: what is left is refused, and so is the whole; its bytes count only where nothing was written.
+  pub going-off : (k : ℕ) → rest ≡ refused k → (write ≡ false → out′ ≡ out) → Filling whole start write out₀ out′ (Refused k)
+  going-off k o u = record {
+    answer = ap (placed at) (sym o) ∙ g .answer;
+    same = same ∙ g .same;
+    bytes = unwritten write (sym (g .alike) ∙ ap is-done o) (g .bytes) u;
+  }
     where
-      on : (a : Bytes) → filled ps r (end - at) xs ≡ done a → length a ≤ end - at → at + length a ≡ at′ → Going whole (filled ps r (end - at′) ys) start at′ write out₀ out′
-      on a h l e =
-          let m : end - at - length a ≡ end - at′ = omega arith in
-          let o : filled ps r (end - at) (xs ++ ys) ≡ before a (filled ps r (end - at′) ys) = append-on ps r (end - at) xs ys a h ∙ rw m refl in
-          let d : write ≡ true → is-done (filled ps r (end - at′) ys) ≡ true = λ w. sym (done-before a (filled ps r (end - at′) ys)) ∙ rw o at (g .sound w) in
-          let b : out′ ≡ left-as write at (done a) out = f .bytes ∙ ap (λ x. left-as write at x out) h in
-          record {
-            answer = rw (← e) (sym (placed-before at a (filled ps r (end - (at + length a)) ys))) ∙ rw (o, ← e) at (g .answer);
-            bytes = rw (b, ← e) (left-before write at a (filled ps r (end - (at + length a)) ys) out (omega arith) (rw (← e) at d)) ∙ rw (o, ← e) at (g .bytes);
-            same = rw b (left-length write at a out (omega arith) ∙ g .same);
-            sound = d;
-          }
+      unwritten : (w : Bool) → is-done whole ≡ false → (Counts w rest → left-as w at rest out ≡ left-as w start whole out₀) → (w ≡ false → out′ ≡ out)
+          → Counts w whole → out′ ≡ left-as w start whole out₀
+      unwritten false d b c s = c refl ∙ b (λ w. absurd (not-both w))
+      unwritten true d b c s = absurd (not-both (sym d ∙ s refl))
 
-  -- A stop: the items xs are refused, which happens only where nothing is written.
-  pub stop : (k : ℕ) → n ≡ Refused k → Filling whole start write out₀ out′ (Refused k)
-  stop k q = by-outcome (filled ps r (end - at) xs)
+-- What a callee says of an outcome: it ends at a place with its bytes put, or it is refused.
+module _ {o : Outcome Bytes} {at : ℕ} {write : Bool} {out out′ : Bytes} {n : Next} (f : Filling o at write out out′ n) where
+  put-on : {C : Type 0} → (at′ : ℕ) → n ≡ At at′ → ((a : Bytes) → o ≡ done a → at + length a ≡ at′ → out′ ≡ left-as write at (done a) out → C) → C
+  put-on at′ q k = by-outcome o
+      (λ a h. k a h (at-inj (sym (f .answer ∙ ap (placed at) h) ∙ q)) (f .bytes (λ w. ap is-done h) ∙ ap (λ x. left-as write at x out) h))
+      (λ j h. absurd (no-at (sym q ∙ f .answer ∙ ap (placed at) h)))
+
+  pub put-off : (k : ℕ) → n ≡ Refused k → o ≡ refused k
+  put-off k q = by-outcome o
       (λ a h. absurd (no-at (sym (f .answer ∙ ap (placed at) h) ∙ q)))
-      (λ j h. off j h (append-off ps r (end - at) xs ys j h) (sym (f .answer ∙ ap (placed at) h) ∙ q))
-    where
-      off : (j : ℕ) → filled ps r (end - at) xs ≡ refused j → filled ps r (end - at) (xs ++ ys) ≡ refused j → Refused j ≡ Refused k → Filling whole start write out₀ out′ (Refused k)
-      off j h o e = unwritten write (g .answer) (g .bytes) (g .sound) (f .bytes)
-        where
-          unwritten : (w : Bool) → placed at (filled ps r (end - at) (xs ++ ys)) ≡ placed start whole
-              → left-as w at (filled ps r (end - at) (xs ++ ys)) out ≡ left-as w start whole out₀ → (w ≡ true → is-done (filled ps r (end - at) (xs ++ ys)) ≡ true)
-              → out′ ≡ left-as w at (filled ps r (end - at) xs) out → Filling whole start w out₀ out′ (Refused k)
-          unwritten false p b s c = record { answer = sym e ∙ rw o at p; bytes = c ∙ b }
-          unwritten true p b s c = absurd (not-both (rw o at (s refl)))
+      (λ j h. let e : Refused j ≡ Refused k = sym (f .answer ∙ ap (placed at) h) ∙ q in h ∙ ap refused (refused-inj e))
 
--- The end: no item is left.
-pub going-end : (ps : List Part) (r : Record) (room : ℕ) {whole : Outcome Bytes} {start at : ℕ} {write : Bool} {out₀ out : Bytes}
-    → Going whole (filled ps r room []) start at write out₀ out → Filling whole start write out₀ out (At at)
-unfolding filled bytes-of
-going-end ps r room {whole} {start} {at} {write} {out₀} {out} g = record {
+  pub put-unwritten : write ≡ false → out′ ≡ out
+  put-unwritten e = f .bytes (λ w. absurd (not-both (sym e ∙ w))) ∙ ap (λ w. left-as w at o out) e
+
+pub items-on : (ps : List Part) (r : Record) (end : ℕ) (xs : List Item) {at : ℕ} {write : Bool} {out out′ : Bytes} {n : Next}
+    → Filling (filled ps r (end - at) xs) at write out out′ n → {C : Type 0} → at ≤ end → (at′ : ℕ) → n ≡ At at′
+    → ((a : Bytes) → filled ps r (end - at) xs ≡ done a → at + length a ≡ at′ → at′ ≤ end → out′ ≡ left-as write at (done a) out → C) → C
+items-on ps r end xs {at} f fits at′ q k = put-on f at′ q λ a h e b. let l = filled-length ps r (end - at) xs a h in k a h e (omega arith) b
+
+-- A turn that takes the outcomes xs, of which a callee says where they end and what it left in the buffer; and a stop at them.
+module _ (end : ℕ) (xs ys : List (Outcome Bytes)) {whole : Outcome Bytes} {start at : ℕ} {write : Bool} {out₀ out out′ : Bytes} {n : Next}
+    (g : Going whole (together (end - at) (xs ++ ys)) start at write out₀ out) (f : Filling (together (end - at) xs) at write out out′ n) (fits : at ≤ end) (room : end ≤ length out) where
+  pub turn-within : (at′ : ℕ) → n ≡ At at′ → (at ≤ at′) × (at′ ≤ end)
+  turn-within at′ q = put-on f at′ q λ a h e b. let l = together-length (end - at) xs a h in omega arith
+
+  pub turn : (at′ : ℕ) → n ≡ At at′ → Going whole (together (end - at′) ys) start at′ write out₀ out′
+  turn at′ q = put-on f at′ q λ a h e b.
+      let l = together-length (end - at) xs a h in
+      let o = append-on (end - at) xs ys a h ∙ ap (λ m. before a (together m ys)) (room-left end at at′ (length a) e (omega arith)) in
+      going-on g (f .same) a (together (end - at′) ys) at′ o e (omega arith) b
+
+  pub stop : (k : ℕ) → n ≡ Refused k → Filling whole start write out₀ out′ (Refused k)
+  stop k q = going-off g (f .same) k (append-off (end - at) xs ys k (put-off f k q)) (put-unwritten f)
+
+-- The end: nothing is left.
+pub going-end : (room : ℕ) {whole : Outcome Bytes} {start at : ℕ} {write : Bool} {out₀ out : Bytes}
+    → Going whole (together room []) start at write out₀ out → Filling whole start write out₀ out (At at)
+unfolding together bytes-of
+going-end room {whole} {start} {at} {write} {out₀} {out} g = record {
   answer = ap At (sym (add-zero at)) ∙ g .answer;
-  bytes = sym (nothing-written write) ∙ g .bytes;
+  same = g .same;
+  bytes = λ s. sym (nothing-written write) ∙ g .bytes (λ w. refl);
 }
   where
     nothing-written : (w : Bool) → left-as w at (done []) out ≡ out
     nothing-written false = refl
     nothing-written true = splice-nil at out
+
+-- The end by a callee that takes all that is left.
+pub going-last : {whole rest : Outcome Bytes} {start at : ℕ} {write : Bool} {out₀ out out′ : Bytes} {n : Next}
+    → Going whole rest start at write out₀ out → Filling rest at write out out′ n → Filling whole start write out₀ out′ n
+going-last g f = record {
+  answer = f .answer ∙ g .answer;
+  same = f .same ∙ g .same;
+  bytes = λ s. f .bytes (λ w. g .alike ∙ s w) ∙ g .bytes (λ w. g .alike ∙ s w);
+}

@@ -1,8 +1,15 @@
+pub mod Carrying
+pub mod Cells
+pub mod Columns
 pub mod Elements
-pub mod Formats
+pub mod Existing
 pub mod Going
+pub mod Rooms
 pub mod Running
+pub mod Scanning
 pub mod Singles
 pub mod Spans
+pub mod Together
+pub mod Turns
 pub mod Unbare
 pub mod Values

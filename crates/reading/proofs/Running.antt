@@ -1,30 +1,23 @@
 -- A loop over items for whatever record the bytes hold: its start, a turn that takes some items off the front, a stop and its end.
 use mathlib.Core.Path.{_≡_, sym, _∙_, ap, subst}
-use mathlib.Core.Bool.{Bool, true}
-use mathlib.Core.List.{List, [], _∷_, _++_, append-nil}
+use mathlib.Core.Bool.{Bool}
+use mathlib.Core.List.{List, [], _∷_, _++_, map, map-append}
 use Prim.Native.Nat.{ℕ, _+_, _-_, _≤_}
 use native.Mathlib.Omega.{arith}
-use lib.Dec.{leb}
 use lib.ListN.{length}
-use Rattle.rules.specs.Outcome.{done, is-done}
+use Rattle.rules.specs.Outcome.{Outcome}
 use Rattle.rules.specs.Lists.{Bytes}
 use Rattle.rules.specs.Table.{Part, Entry, parts}
 use Rattle.rules.specs.Record.{Record}
 use Rattle.rules.specs.Use.{Item}
 use Rattle.rules.specs.Services.{item-bytes, filled}
-use Rattle.rules.proofs.Steps.{by-test, by-outcome, not-both}
 use Rattle.records.specs.Places.{Held, Holds}
-use Rattle.reading.specs.Filling.{within}
-use Rattle.reading.specs.Runs.{Fills, Sound}
+use Rattle.reading.specs.Filling.{Filling, within}
+use Rattle.reading.specs.Runs.{Fills, together}
 use Rattle.reading.specs.declared.Next.{Next}
 use Rattle.reading.specs.declared.Next.the-variants.{At, Refused}
-use Rattle.reading.proofs.Going.{Going, going-start, going-end, turn, turn-within, stop, append-off}
-
--- Items that are all done are done at their front.
-done-front : (ps : List Part) (r : Record) (room : ℕ) (xs ys : List Item) → is-done (filled ps r room (xs ++ ys)) ≡ true → is-done (filled ps r room xs) ≡ true
-done-front ps r room xs ys d = by-outcome (filled ps r room xs)
-    (λ a h. ap is-done h)
-    (λ k h. absurd (not-both (sym (ap is-done (append-off ps r room xs ys k h)) ∙ d)))
+use Rattle.reading.proofs.Going.{Going, going-start, going-end, turn, turn-within, stop, filled-together}
+use Rattle.reading.proofs.Together.{together-one}
 
 pub record Running (es : List Entry) (b : Bytes) (places : List ℕ) (end : ℕ) (whole rest : List Item) (start at : ℕ) (write : Bool) (out₀ out : Bytes) : Type 0 where
   pub holds : Holds es b places
@@ -33,48 +26,57 @@ pub record Running (es : List Entry) (b : Bytes) (places : List ℕ) (end : ℕ)
   pub going : (r : Record) → Held es b places r → Going (filled (parts es) r (end - start) whole) (filled (parts es) r (end - at) rest) start at write out₀ out
 
 pub run-start : (es : List Entry) (b : Bytes) (places : List ℕ) (end : ℕ) (xs : List Item) (at : ℕ) (write : Bool) (out : Bytes)
-    → Holds es b places → at ≤ end → end ≤ length out → Sound es b places xs at end write → Running es b places end xs xs at at write out out
-run-start es b places end xs at write out k h l s = record {
+    → Holds es b places → at ≤ end → end ≤ length out → Running es b places end xs xs at at write out out
+run-start es b places end xs at write out k h l = record {
   holds = k;
   fits = h;
   room = l;
-  going = λ r p. going-start (filled (parts es) r (end - at) xs) at write out (λ w. s w r p);
+  going = λ r p. going-start (filled (parts es) r (end - at) xs) at write out;
 }
+
+-- Items one behind the other, by their bytes.
+filled-both : (es : List Entry) (r : Record) (room : ℕ) (xs ys : List Item)
+    → filled (parts es) r room (xs ++ ys) ≡ together room (map (item-bytes (parts es) r) xs ++ map (item-bytes (parts es) r) ys)
+filled-both es r room xs ys = filled-together (parts es) r (xs ++ ys) room ∙ ap (together room) (map-append (item-bytes (parts es) r) xs ys)
 
 module _ {es : List Entry} {b : Bytes} {places : List ℕ} {end : ℕ} {whole rest : List Item} {start at : ℕ} {write : Bool} {out₀ out : Bytes}
     (g : Running es b places end whole rest start at write out₀ out) where
-  module _ (xs ys : List Item) (e : rest ≡ xs ++ ys) where
-    parted : (r : Record) → Held es b places r → Going (filled (parts es) r (end - start) whole) (filled (parts es) r (end - at) (xs ++ ys)) start at write out₀ out
-    parted r p = subst (λ zs. Going (filled (parts es) r (end - start) whole) (filled (parts es) r (end - at) zs) start at write out₀ out) e (g .going r p)
+  abbrev Left : Record → Outcome Bytes → Type 0
+  Left r o = Going (filled (parts es) r (end - start) whole) o start at write out₀ out
 
-    pub run-sound : Sound es b places xs at end write
-    run-sound w r p = done-front (parts es) r (end - at) xs ys (parted r p .sound w)
+  module _ (xs ys : List Item) (e : rest ≡ xs ++ ys) where
+    abbrev Parted : Record → Type 0
+    Parted r = Left r (together (end - at) (map (item-bytes (parts es) r) xs ++ map (item-bytes (parts es) r) ys))
+
+    parted : (r : Record) → Held es b places r → Parted r
+    parted r p = subst (Left r) (ap (filled (parts es) r (end - at)) e ∙ filled-both es r (end - at) xs ys) (g .going r p)
 
     module _ {out′ : Bytes} {n : Next} (f : Fills es b places xs at end write out out′ n) where
+      put : (r : Record) → Held es b places r → Filling (together (end - at) (map (item-bytes (parts es) r) xs)) at write out out′ n
+      put r p = subst (λ (o : Outcome Bytes). Filling o at write out out′ n) (filled-together (parts es) r xs (end - at)) (f r p)
+
       pub run-on : (at′ : ℕ) → n ≡ At at′ → Running es b places end whole ys start at′ write out₀ out′
       run-on at′ q =
           let r = g .holds .0 in
           let p = g .holds .1 in
-          let t = turn (parts es) r end xs ys (parted r p) (f r p) (g .fits) (g .room) at′ q in
+          let t = turn end _ _ (parted r p) (put r p) (g .fits) (g .room) at′ q in
           record {
             holds = g .holds;
-            fits = turn-within (parts es) r end xs ys (parted r p) (f r p) (g .fits) (g .room) at′ q .1;
+            fits = turn-within end _ _ (parted r p) (put r p) (g .fits) (g .room) at′ q .1;
             room = omega (arith, t .same, g .going r p .same, g .room);
-            going = λ r p. turn (parts es) r end xs ys (parted r p) (f r p) (g .fits) (g .room) at′ q;
+            going = λ r p. subst (λ (o : Outcome Bytes). Going (filled (parts es) r (end - start) whole) o start at′ write out₀ out′)
+                (sym (filled-together (parts es) r ys (end - at′))) (turn end _ _ (parted r p) (put r p) (g .fits) (g .room) at′ q);
           }
 
       pub run-off : (k : ℕ) → n ≡ Refused k → Fills es b places whole start end write out₀ out′ (Refused k)
-      run-off k q r p = stop (parts es) r end xs ys (parted r p) (f r p) (g .fits) (g .room) k q
+      run-off k q r p = stop end _ _ (parted r p) (put r p) (g .fits) (g .room) k q
 
   pub run-end : rest ≡ [] → Fills es b places whole start end write out₀ out (At at)
-  run-end e r p = going-end (parts es) r (end - at) (subst (λ zs. Going (filled (parts es) r (end - start) whole) (filled (parts es) r (end - at) zs) start at write out₀ out) e (g .going r p))
+  run-end e r p = going-end (end - at) (subst (Left r) (ap (filled (parts es) r (end - at)) e ∙ filled-together (parts es) r [] (end - at)) (g .going r p))
 
 -- One item in its room, and no item.
 pub filled-one : (ps : List Part) (r : Record) (room : ℕ) (x : Item) → filled ps r room (x ∷ []) ≡ within room (item-bytes ps r x)
-unfolding filled within
-filled-one ps r room x = by-outcome (item-bytes ps r x)
-    (λ b h. by-test (leb (length b) room) (λ t. rw (h, t, append-nil)) (λ t. rw (h, t)))
-    (λ k h. rw h)
+filled-one ps r room x = filled-together ps r (x ∷ []) room ∙ together-one room (item-bytes ps r x)
 
 pub run-same : {es : List Entry} {b : Bytes} {places : List ℕ} {end : ℕ} {whole rest : List Item} {start at : ℕ} {write : Bool} {out₀ out : Bytes}
     → Running es b places end whole rest start at write out₀ out → length out ≡ length out₀
@@ -82,12 +84,9 @@ run-same g = g .going (g .holds .0) (g .holds .1) .same
 
 -- The same items, said otherwise.
 module _ (es : List Entry) (b : Bytes) (places : List ℕ) {xs ys : List Item} (e : xs ≡ ys) (at end : ℕ) (write : Bool) where
-  pub sound-as : Sound es b places xs at end write → Sound es b places ys at end write
-  sound-as = subst (λ (zs : List Item). Sound es b places zs at end write) e
-
   pub fills-as : {out out′ : Bytes} {n : Next} → Fills es b places ys at end write out out′ n → Fills es b places xs at end write out out′ n
   fills-as {out} {out′} {n} = subst (λ (zs : List Item). Fills es b places zs at end write out out′ n) (sym e)
 
   -- No item: nothing changes.
-  pub fills-none : {out : Bytes} → ys ≡ [] → Holds es b places → at ≤ end → end ≤ length out → Sound es b places xs at end write → Fills es b places xs at end write out out (At at)
-  fills-none {out} none k h l s = run-end (run-start es b places end xs at write out k h l s) (e ∙ none)
+  pub fills-none : {out : Bytes} → ys ≡ [] → Holds es b places → at ≤ end → end ≤ length out → Fills es b places xs at end write out out (At at)
+  fills-none {out} none k h l = run-end (run-start es b places end xs at write out k h l) (e ∙ none)

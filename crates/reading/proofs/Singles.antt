@@ -3,6 +3,7 @@ use mathlib.Core.Path.{_≡_, refl, sym, _∙_, ap, subst}
 use mathlib.Core.Bool.{Bool, true, false}
 use mathlib.Core.List.{List, [], _∷_}
 use Prim.Native.Nat.{ℕ, _+_, _≤_, _<_}
+use native.Mathlib.Nat.{add-zero}
 use native.Mathlib.Omega.{arith}
 use borrow.Author.Tests.{le-leb, lt-leb}
 use lib.Dec.{leb}
@@ -12,7 +13,7 @@ use Rattle.rules.specs.Lists.{Bytes, bytes-of}
 use Rattle.rules.proofs.Steps.{by-outcome, done-inj, not-done}
 use Rattle.values.specs.Fits.{size-of}
 use Rattle.buffer.specs.Splice.{splice}
-use Rattle.buffer.proofs.Laws.{splice-nil}
+use Rattle.buffer.proofs.Laws.{splice-nil, length-splice}
 use Rattle.reading.specs.Filling.{placed, left-as, within, Filling}
 use Rattle.reading.specs.declared.Next.the-variants.{At, Refused}
 
@@ -27,18 +28,27 @@ within-beyond room bs h = rw (lt-leb (length bs) room h) refl
 module _ (room at : ℕ) (bs out : Bytes) (write : Bool) where
   pub item-beyond : room < length bs → Filling (within room (done bs)) at write out out (Refused 7)
   unfolding bytes-of
-  item-beyond h = rw (within-beyond room bs h) (record { answer = refl; bytes = unchanged write })
+  item-beyond h = rw (within-beyond room bs h) (record { answer = refl; same = refl; bytes = λ k. unchanged write })
     where
       unchanged : (w : Bool) → out ≡ left-as w at (refused 7) out
       unchanged true = sym (splice-nil at out)
       unchanged false = refl
 
   pub item-tested : (n : ℕ) → write ≡ false → length bs ≤ room → n ≡ at + length bs → Filling (within room (done bs)) at write out out (At n)
-  item-tested n w h e = rw (within-fits room bs h, e, w) (record { answer = refl; bytes = refl })
+  item-tested n w h e = rw (within-fits room bs h, e, w) (record { answer = refl; same = refl; bytes = λ k. refl })
 
-  pub item-written : (n : ℕ) {out′ : Bytes} → write ≡ true → length bs ≤ room → n ≡ at + length bs → out′ ≡ splice at bs out → Filling (within room (done bs)) at write out out′ (At n)
+  pub item-written : (n : ℕ) {out′ : Bytes} → write ≡ true → length bs ≤ room → at + length bs ≤ length out → n ≡ at + length bs → out′ ≡ splice at bs out → Filling (within room (done bs)) at write out out′ (At n)
   unfolding bytes-of
-  item-written n w h e q = rw (within-fits room bs h, e, w) (record { answer = refl; bytes = q })
+  item-written n w h l e q = rw (within-fits room bs h, e, w) (record { answer = refl; same = ap length q ∙ length-splice at bs out l; bytes = λ k. q })
+
+-- No bytes: nothing changes.
+pub nothing-put : (room at : ℕ) (out : Bytes) (write : Bool) (bs : Bytes) → bs ≡ [] → Filling (within room (done bs)) at write out out (At at)
+unfolding bytes-of
+nothing-put room at out write bs e = rw (e, within-fits room [] (omega arith)) (record { answer = ap At (sym (add-zero at)); same = refl; bytes = λ k. unchanged write })
+  where
+    unchanged : (w : Bool) → out ≡ left-as w at (done []) out
+    unchanged true = sym (splice-nil at out)
+    unchanged false = refl
 
 -- The same of an outcome, by what a test of it said: its refusal, or how long its bytes are.
 module _ (o : Outcome Bytes) where
@@ -54,7 +64,7 @@ module _ (o : Outcome Bytes) where
   module _ (room at : ℕ) (out : Bytes) (write : Bool) where
     pub value-refused : (k : ℕ) → o ≡ refused k → Filling (within room o) at write out out (Refused k)
     unfolding within bytes-of
-    value-refused k e = rw e (record { answer = refl; bytes = unchanged write })
+    value-refused k e = rw e (record { answer = refl; same = refl; bytes = λ k. unchanged write })
       where
         unchanged : (w : Bool) → out ≡ left-as w at (refused k) out
         unchanged true = sym (splice-nil at out)
@@ -67,5 +77,5 @@ module _ (o : Outcome Bytes) where
       pub value-tested : write ≡ false → n ≤ room → Filling (within room o) at write out out (At (at + n))
       value-tested w h = subst (λ x. Filling (within room x) at write out out (At (at + n))) (sym (e .0)) (item-tested room at (bytes-of o) out write (at + n) w (omega (arith, e .1)) (omega (arith, e .1)))
 
-      pub value-written : {out′ : Bytes} → write ≡ true → n ≤ room → out′ ≡ splice at (bytes-of o) out → Filling (within room o) at write out out′ (At (at + n))
-      value-written {out′} w h q = subst (λ x. Filling (within room x) at write out out′ (At (at + n))) (sym (e .0)) (item-written room at (bytes-of o) out write (at + n) w (omega (arith, e .1)) (omega (arith, e .1)) q)
+      pub value-written : {out′ : Bytes} → write ≡ true → n ≤ room → at + n ≤ length out → out′ ≡ splice at (bytes-of o) out → Filling (within room o) at write out out′ (At (at + n))
+      value-written {out′} w h l q = subst (λ x. Filling (within room x) at write out out′ (At (at + n))) (sym (e .0)) (item-written room at (bytes-of o) out write (at + n) w (omega (arith, e .1)) (omega (arith, e .1)) (omega (arith, e .1)) q)

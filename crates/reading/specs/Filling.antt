@@ -4,7 +4,7 @@ use mathlib.Core.Bool.{Bool, true, false}
 use Prim.Native.Nat.{ℕ, _+_}
 use lib.Dec.{leb}
 use lib.ListN.{length}
-use Rattle.rules.specs.Outcome.{Outcome, done, refused, _>>=_, need}
+use Rattle.rules.specs.Outcome.{Outcome, done, refused, _>>=_, need, is-done}
 use Rattle.rules.specs.Lists.{Bytes, bytes-of}
 use Rattle.buffer.specs.Splice.{splice}
 use Rattle.reading.specs.declared.Next.{Next}
@@ -27,6 +27,11 @@ within room o = do
   _ ← need (leb (length b) room) 7
   done b
 
+-- What is written counts only where all of it is done.
+abbrev pub Counts : Bool → Outcome Bytes → Type 0
+Counts write o = write ≡ true → is-done o ≡ true
+
 pub record Filling (o : Outcome Bytes) (at : ℕ) (write : Bool) (entry exit : Bytes) (r : Next) : Type 0 where
   pub answer : r ≡ placed at o
-  pub bytes : exit ≡ left-as write at o entry
+  pub same : length exit ≡ length entry
+  pub bytes : Counts write o → exit ≡ left-as write at o entry

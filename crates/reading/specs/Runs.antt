@@ -1,18 +1,20 @@
 -- A run of items filled into a record buffer, for whatever record the bytes hold.
 use mathlib.Core.Path.{_≡_}
 use mathlib.Core.Bool.{Bool, true, false}
-use mathlib.Core.List.{List, [], map}
-use Prim.Native.Nat.{ℕ, _-_, _≤_, _<_}
+use mathlib.Core.List.{List, [], _∷_, _++_, map}
+use Prim.Native.Nat.{ℕ, pred, _+_, _-_, _≤_, _<_}
+use lib.Dec.{leb}
 use lib.ListN.{length, take, drop, getD}
-use Rattle.rules.specs.Outcome.{Outcome, done, is-done}
+use Rattle.rules.specs.Outcome.{Outcome, done, _>>=_, need}
+use Rattle.rules.specs.Limits.{highest-index}
 use Rattle.rules.specs.Lists.{Bytes}
-use Rattle.rules.specs.Values.{Format, allowed, converts, carried, null}
+use Rattle.rules.specs.Values.{Format, allowed, converts, carried, content, null}
 use Rattle.rules.specs.Table.{Entry, parts}
-use Rattle.rules.specs.Record.{Record, counted, stored-value}
-use Rattle.rules.specs.Use.{Item, Asked, as-stored, value-items, just}
+use Rattle.rules.specs.Record.{Record, times, counted, stored-value}
+use Rattle.rules.specs.Use.{Item, Asked, as-stored, value-items, just, over}
 use Rattle.rules.specs.Services.{filled}
 use Rattle.kinds.specs.Formats.{format-at}
-use Rattle.tables.specs.Entries.{blank, is-group}
+use Rattle.tables.specs.Entries.{blank, is-group, is-multiple, format-number, size-of}
 use Rattle.tables.specs.Places.{inside-at}
 use Rattle.tables.specs.Groups.{field-at}
 use Rattle.formats.specs.Elements.{range}
@@ -21,35 +23,66 @@ use Rattle.uses.specs.declared.Span.{Span}
 use Rattle.records.specs.Places.{Held}
 use Rattle.records.specs.declared.places.Cell.{Cell}
 use Rattle.records.specs.declared.places.Cell.the-variants as cell
-use Rattle.records.specs.declared.places.Content.{Content}
-use Rattle.records.specs.declared.places.Content.the-variants as content
 use Rattle.reading.specs.Filling.{Filling}
 use Rattle.reading.specs.declared.Next.{Next}
+use Rattle.reading.specs.declared.Run.{Run}
+use Rattle.reading.specs.declared.Wanted.{Wanted}
 
 -- The items end and write as they are to.
 abbrev pub Fills : List Entry → Bytes → List ℕ → List Item → ℕ → ℕ → Bool → Bytes → Bytes → Next → Type 0
 Fills es b places xs at end write entry exit n =
     (r : Record) → Held es b places r → Filling (filled (parts es) r (end - at) xs) at write entry exit n
 
--- They are written only where all of them are done.
-abbrev pub Sound : List Entry → Bytes → List ℕ → List Item → ℕ → ℕ → Bool → Type 0
-Sound es b places xs at end write =
-    write ≡ true → (r : Record) → Held es b places r → is-done (filled (parts es) r (end - at) xs) ≡ true
-
--- A value by its content, carried to the format and length in effect; null where there is none.
-abbrev pub carried-from : Bytes → Format → Format → ℕ → Content → Outcome Bytes
-carried-from b f g n (content.At from upto) = carried f g n (take (upto - from) (drop from b))
-carried-from b f g n content.Nothing = done (null g n)
-
--- The content lies in the bytes, and is so long as its format allows.
-abbrev pub Lies : Bytes → Format → Content → Type 0
-Lies b f (content.At from upto) = (from ≤ upto) × (upto ≤ length b) × (allowed f (upto - from) ≡ true)
-Lies b f content.Nothing = Unit {0}
+-- Outcomes one behind the other in so much room, as items are filled.
+unfoldable pub together : ℕ → List (Outcome Bytes) → Outcome Bytes
+together room [] = done []
+together room (o ∷ os) = do
+  b ← o
+  _ ← need (leb (length b) room) 7
+  bs ← together (room - length b) os
+  done (b ++ bs)
 
 -- The values of a cell that stands at a place, or there is no cell.
 abbrev pub Cell-holds : Bytes → Format → ℕ → Bool → List Bytes → Cell → Type 0
 Cell-holds b f n mu vs (cell.At q) = (q ≤ length b) × (rest : Bytes) × (counted mu (stored-value f n) (drop q b) ≡ done (vs, rest))
 Cell-holds b f n mu vs cell.Nothing = vs ≡ []
+
+-- What is wanted of a field may be asked for.
+pub record Wants (w : Wanted) : Type 0 where
+  pub own : w .own < 5
+  pub standard : allowed (format-at (w .own)) (w .standard) ≡ true
+  pub format : w .format < 5
+  pub size : allowed (format-at (w .format)) (w .size) ≡ true
+  pub converts : converts (format-at (w .own)) (format-at (w .format)) ≡ true
+  pub first : 1 ≤ w .first
+  pub ordered : w .first ≤ w .last
+  pub last : w .last ≤ highest-index
+
+-- What is wanted of entry i.
+abbrev pub wanted-at : List Entry → ℕ → ℕ → ℕ → ℕ → ℕ → Wanted
+wanted-at es i first last format size =
+    let what = getD es i blank .what in
+    record { own = format-number what; standard = size-of what; multiple = is-multiple what; first = first; last = last; format = format; size = size }
+
+-- A stored value at the format and length in effect; and those wanted of a cell's values, of which one that doesn't exist is null.
+abbrev pub carried-to : Wanted → Bytes → Outcome Bytes
+carried-to w v = carried (format-at (w .own)) (format-at (w .format)) (w .size) (content (w .standard) v)
+
+abbrev pub wanted : Wanted → List Bytes → List (Outcome Bytes)
+wanted w vs = over (range (w .first) (w .last)) (λ k. carried-to w (getD vs (pred k) (null (format-at (w .own)) (w .standard))))
+
+-- Those that exist.
+abbrev pub existing : Wanted → List Bytes → List Bytes
+existing w vs = take (w .last + 1 - w .first) (drop (w .first - 1) vs)
+
+-- So many values stand in the bytes from a place on.
+abbrev pub Stand : Wanted → Bytes → ℕ → ℕ → List Bytes → Type 0
+Stand w b at n us = (rest : Bytes) × (times n (stored-value (format-at (w .own)) (w .standard)) (drop at b) ≡ done (us, rest))
+
+-- Those of the values wanted that exist stand in a run.
+pub record Exist (w : Wanted) (b : Bytes) (vs : List Bytes) (r : Run) : Type 0 where
+  pub place : r .at ≤ length b
+  pub stand : Stand w b (r .at) (r .count) (existing w vs)
 
 -- The field that entry i is, at a format and a length.
 abbrev pub asked-at : List Entry → ℕ → ℕ → ℕ → Asked

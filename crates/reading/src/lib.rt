@@ -1,35 +1,63 @@
-// The service read, behind its tests of table, record and format: the items are tested one after the other, and then written.
+// The service read, behind its tests of table and record: one pass over a format tests its elements and items, and writes where it is asked to.
 ghost use mathlib.Core.Path.{_≡_};
-ghost use mathlib.Core.List.{_∷_, [], List};
+ghost use mathlib.Core.List.{_∷_, [], List, map};
 ghost use mathlib.Core.Bool.{true, false};
 ghost use Prim.Native.Nat.{_+_, _-_, _≤_, _<_};
-ghost use lib.ListN.{length, replicate};
-ghost use Rattle.rules.specs.Outcome.{done, is-done};
+ghost use lib.ListN.{length, replicate, drop};
+ghost use Rattle.rules.specs.Outcome.{done};
 ghost use Rattle.rules.specs.Characters.{space};
 ghost use Rattle.rules.specs.Values.{allowed, null, carried};
 ghost use Rattle.rules.specs.Limits.{highest-index};
-ghost use Rattle.rules.specs.Lists.{Bytes};
-ghost use Rattle.rules.specs.Use as rules;
-ghost use Rattle.rules.specs.Use.{value-items, just, items-of, items};
+ghost use Rattle.rules.specs.Lists.{Bytes, join};
+ghost use Rattle.rules.specs.Use.{value-items, just, items-of};
 ghost use Rattle.kinds.specs.Formats.{format-at};
 ghost use Rattle.tables.specs.Entries.{Valid, entries-of};
 ghost use Rattle.tables.specs.Places.{inside-at};
 ghost use Rattle.formats.specs.Elements.{range};
-ghost use Rattle.uses.specs.Meant.{Span-held, Use-held, use-meant, uses-of};
-ghost use Rattle.records.specs.Places.{Holds, Value-of};
+ghost use Rattle.formats.specs.Syntax.{parsed};
+ghost use Rattle.uses.specs.Meant.{Span-held, Use-held, use-meant};
+ghost use Rattle.records.specs.Places.{Holds};
 ghost use Rattle.reading.specs.Filling.{Filling, within};
-ghost use Rattle.reading.specs.Runs.{Fills, Sound, carried-from, Lies, Cell-holds, asked-at, Askable, Only, field-items, row-items, span-items};
+ghost use Rattle.reading.specs.Runs.{Fills, together, Wants, carried-to, wanted, Stand, Exist, wanted-at, Cell-holds, asked-at, Askable, Only, field-items, span-items};
+ghost use Rattle.reading.specs.Turns.{Turned, Unless-used, unless, Scans};
+ghost use Rattle.records.specs.declared.places.Cell.the-variants.{At};
+use formats::syntax::Step;
 use records::places::Cell;
-use records::places::Content;
-use uses::Next as Ahead;
+use uses::Meant;
 use uses::Span;
 use uses::Use;
+use values::First;
 use values::Fit;
 
 // Where a run of items ends in the record buffer, or the number of its refusal.
 pub enum Next {
     At(usize),
     Refused(u8),
+}
+
+// The use of an element and the place where the next element begins, the use of the last element, or the number of a refusal.
+enum Turn {
+    More(Use, usize),
+    Last(Use),
+    Refused(u8),
+}
+
+// What is wanted of a field: its values from first to last, which are stored at its own format and standard length, at a format and a
+// length in effect.
+struct Wanted {
+    own: usize,
+    standard: usize,
+    multiple: bool,
+    first: usize,
+    last: usize,
+    format: usize,
+    size: usize,
+}
+
+// Values that stand one behind the other from a place on.
+struct Run {
+    at: usize,
+    count: usize,
 }
 
 // A run of n blanks.
@@ -106,27 +134,9 @@ fn put_value(
     }
 }
 
-// Null, for a value that doesn't exist.
-fn put_null(format: usize, size: usize, out: &mut [u8], at: usize, end: usize, write: bool) -> Next
-    requires { ⌜ (format < 5) × (allowed (format-at format) size ≡ true) × (at ≤ end) × (end ≤ length (now out)) ⌝ }
-    ensures { λ r. ⌜ Filling (within (end - at) (done (null (format-at format) size))) at write (now (out .entry)) (now (out .exit)) r ⌝ }
-{
-    let n = values::null_length(format, size);
-    if end - at < n {
-        return Next::Refused(7);
-    }
-    if write {
-        values::write_null(format, size, out, at);
-        return Next::At(at + n);
-    }
-    Next::At(at + n)
-}
-
-// A value by its content, or null where there is none.
-fn put_item(
-    b: &[u8],
-    content: Content,
-    own: usize,
+// n nulls, for values that don't exist.
+fn put_nulls(
+    n: usize,
     format: usize,
     size: usize,
     out: &mut [u8],
@@ -134,25 +144,171 @@ fn put_item(
     end: usize,
     write: bool,
 ) -> Next
-    requires { ⌜ (own < 5) × (format < 5) × Lies (now b) (format-at own) content × (allowed (format-at format) size ≡ true) × (at ≤ end) × (end ≤ length (now out)) ⌝ }
-    ensures { λ r. ⌜ Filling (within (end - at) (carried-from (now (b .entry)) (format-at own) (format-at format) size content)) at write (now (out .entry)) (now (out .exit)) r ⌝ }
+    requires { ⌜ (n ≤ highest-index) × (format < 5) × (allowed (format-at format) size ≡ true) × (at ≤ end) × (end ≤ length (now out)) ⌝ }
+    ensures { λ r. ⌜ Filling (within (end - at) (done (join (replicate n (null (format-at format) size))))) at write (now (out .entry)) (now (out .exit)) r ⌝ }
 {
-    match content {
-        Content::At(from, upto) => {
-            put_value(&b[from..upto], own, format, size, out, at, end, write)
+    if n == 0 {
+        return Next::At(at);
+    }
+    let all = n * values::null_length(format, size);
+    if end - at < all {
+        return Next::Refused(7);
+    }
+    if write {
+        values::write_nulls(n, format, size, out, at);
+        return Next::At(at + all);
+    }
+    Next::At(at + all)
+}
+
+// n values that stand from a place on, carried to the format and length in effect.
+fn put_carried(
+    b: &[u8],
+    from: usize,
+    n: usize,
+    w: Wanted,
+    out: &mut [u8],
+    at: usize,
+    end: usize,
+    write: bool,
+) -> Next
+    requires { ⌜ Wants w × (from ≤ length (now b)) × ((us : List Bytes) × Stand w (now b) from n us) × (at ≤ end) × (end ≤ length (now out)) ⌝ }
+    ensures { λ r. ⌜ ((us : List Bytes) → Stand w (now (b .entry)) from n us → Filling (together (end - at) (map (carried-to w) us)) at write (now (out .entry)) (now (out .exit)) r) ⌝ }
+{
+    let mut p = at;
+    let mut q = from;
+    let mut i = 0;
+    while i < n {
+        let first = values::first_value(b, q, w.standard);
+        match first {
+            // The values are known to stand there, so that this does not happen.
+            First::Refused(k) => {
+                return Next::Refused(k);
+            }
+            First::Value(start, next) => {
+                let put = put_value(&b[start..next], w.own, w.format, w.size, out, p, end, write);
+                match put {
+                    Next::Refused(k) => {
+                        return Next::Refused(k);
+                    }
+                    Next::At(place) => {
+                        p = place;
+                    }
+                }
+                q = next;
+            }
         }
-        Content::Nothing => put_null(format, size, out, at, end, write),
+        i += 1;
+    }
+    Next::At(p)
+}
+
+// The values of a run, at the format and length in effect: at their own they are copied as they are stored.
+fn put_run(
+    b: &[u8],
+    run: Run,
+    w: Wanted,
+    out: &mut [u8],
+    at: usize,
+    end: usize,
+    write: bool,
+) -> Next
+    requires { ⌜ Wants w × (run .at ≤ length (now b)) × ((us : List Bytes) × Stand w (now b) (run .at) (run .count) us) × (at ≤ end) × (end ≤ length (now out)) ⌝ }
+    ensures { λ r. ⌜ ((us : List Bytes) → Stand w (now (b .entry)) (run .at) (run .count) us → Filling (together (end - at) (map (carried-to w) us)) at write (now (out .entry)) (now (out .exit)) r) ⌝ }
+{
+    if w.own == w.format {
+        if w.standard == w.size {
+            let from = run.at;
+            let upto = records::behind::skip(b, from, run.count, w.standard);
+            return put_text(&b[from..upto], out, at, end, write);
+        }
+    }
+    put_carried(b, run.at, run.count, w, out, at, end, write)
+}
+
+// Those of the values wanted that exist, in the cell of an MU field.
+fn run_among(b: &[u8], cell: usize, w: Wanted) -> Run
+    requires { ⌜ Wants w × ((vs : List Bytes) × Cell-holds (now b) (format-at (w .own)) (w .standard) true vs (At cell)) ⌝ }
+    ensures { λ r. ⌜ ((vs : List Bytes) → Cell-holds (now (b .entry)) (format-at (w .own)) (w .standard) true vs (At cell) → Exist w (now (b .entry)) vs r) ⌝ }
+{
+    let n = b[cell] as usize;
+    if n < w.first {
+        return Run { at: 0, count: 0 };
+    }
+    let at = records::behind::skip(b, cell + 1, w.first - 1, w.standard);
+    if n < w.last {
+        return Run {
+            at,
+            count: n + 1 - w.first,
+        };
+    }
+    Run {
+        at,
+        count: w.last + 1 - w.first,
     }
 }
 
-// Value k of a cell.
-fn content_of(b: &[u8], cell: Cell, own: usize, size: usize, multiple: bool, k: usize) -> Content
-    requires { ⌜ (own < 5) × (allowed (format-at own) size ≡ true) × (1 ≤ k) × ((vs : List Bytes) × Cell-holds (now b) (format-at own) size multiple vs cell) ⌝ }
-    ensures { λ c. ⌜ ((vs : List Bytes) → Cell-holds (now (b .entry)) (format-at own) size multiple vs cell → Value-of (format-at own) size (now (b .entry)) vs k c) ⌝ }
+// The same in a cell that stands at a place.
+fn run_at(b: &[u8], cell: usize, w: Wanted) -> Run
+    requires { ⌜ Wants w × ((vs : List Bytes) × Cell-holds (now b) (format-at (w .own)) (w .standard) (w .multiple) vs (At cell)) ⌝ }
+    ensures { λ r. ⌜ ((vs : List Bytes) → Cell-holds (now (b .entry)) (format-at (w .own)) (w .standard) (w .multiple) vs (At cell) → Exist w (now (b .entry)) vs r) ⌝ }
+{
+    if w.multiple {
+        return run_among(b, cell, w);
+    }
+    if 1 < w.first {
+        return Run { at: 0, count: 0 };
+    }
+    Run { at: cell, count: 1 }
+}
+
+// The same in a cell, if there is one.
+fn run_of(b: &[u8], cell: Cell, w: Wanted) -> Run
+    requires { ⌜ Wants w × ((vs : List Bytes) × Cell-holds (now b) (format-at (w .own)) (w .standard) (w .multiple) vs cell) ⌝ }
+    ensures { λ r. ⌜ ((vs : List Bytes) → Cell-holds (now (b .entry)) (format-at (w .own)) (w .standard) (w .multiple) vs cell → Exist w (now (b .entry)) vs r) ⌝ }
 {
     match cell {
-        Cell::At(q) => records::places::value_at(b, q, own, size, multiple, k),
-        Cell::Nothing => Content::Nothing,
+        Cell::At(p) => run_at(b, p, w),
+        Cell::Nothing => Run { at: 0, count: 0 },
+    }
+}
+
+// What is wanted of a cell: the values that exist, and nulls for the others.
+fn put_cell(
+    b: &[u8],
+    cell: Cell,
+    w: Wanted,
+    out: &mut [u8],
+    at: usize,
+    end: usize,
+    write: bool,
+) -> Next
+    requires { ⌜ Wants w × ((vs : List Bytes) × Cell-holds (now b) (format-at (w .own)) (w .standard) (w .multiple) vs cell) × (at ≤ end) × (end ≤ length (now out)) ⌝ }
+    ensures { λ r. ⌜ ((vs : List Bytes) → Cell-holds (now (b .entry)) (format-at (w .own)) (w .standard) (w .multiple) vs cell → Filling (together (end - at) (wanted w vs)) at write (now (out .entry)) (now (out .exit)) r) ⌝ }
+{
+    let run = run_of(b, cell, w);
+    let missing = w.last + 1 - w.first - run.count;
+    let next = put_run(b, run, w, out, at, end, write);
+    match next {
+        Next::Refused(k) => Next::Refused(k),
+        Next::At(p) => put_nulls(missing, w.format, w.size, out, p, end, write),
+    }
+}
+
+// What is wanted of entry i, a field.
+fn wanted_of(t: &[u8], i: usize, first: usize, last: usize, format: usize, size: usize) -> Wanted
+    requires { ⌜ Valid (now t) × (i < length (entries-of (now t))) ⌝ }
+    ensures { λ w. ⌜ w ≡ wanted-at (entries-of (now (t .entry))) i first last format size ⌝ }
+{
+    let e = tables::entry_at(t, i);
+    Wanted {
+        own: e.format as usize,
+        standard: e.size as usize,
+        multiple: e.multiple,
+        first,
+        last,
+        format,
+        size,
     }
 }
 
@@ -172,37 +328,12 @@ fn put_values(
     end: usize,
     write: bool,
 ) -> Next
-    requires { ⌜ Valid (now t) × Askable (entries-of (now t)) i o format size × (1 ≤ first) × (last ≤ highest-index) × Holds (entries-of (now t)) (now b) (now places) × (at ≤ end) × (end ≤ length (now out)) × Sound (entries-of (now t)) (now b) (now places) (value-items (asked-at (entries-of (now t)) i format size ∷ []) (just o) (range first last) false) at end write ⌝ }
+    requires { ⌜ Valid (now t) × Askable (entries-of (now t)) i o format size × (1 ≤ first) × (first ≤ last) × (last ≤ highest-index) × Holds (entries-of (now t)) (now b) (now places) × (at ≤ end) × (end ≤ length (now out)) ⌝ }
     ensures { λ r. ⌜ Fills (entries-of (now (t .entry))) (now (b .entry)) (now (places .entry)) (value-items (asked-at (entries-of (now (t .entry))) i format size ∷ []) (just o) (range first last) false) at end write (now (out .entry)) (now (out .exit)) r ⌝ }
 {
-    let e = tables::entry_at(t, i);
+    let w = wanted_of(t, i, first, last, format, size);
     let cell = records::places::cell_at(t, b, places, i, o);
-    let mut p = at;
-    let mut k = first;
-    while k <= last {
-        let content = content_of(b, cell, e.format as usize, e.size as usize, e.multiple, k);
-        let next = put_item(
-            b,
-            content,
-            e.format as usize,
-            format,
-            size,
-            out,
-            p,
-            end,
-            write,
-        );
-        match next {
-            Next::Refused(n) => {
-                return Next::Refused(n);
-            }
-            Next::At(place) => {
-                p = place;
-            }
-        }
-        k += 1;
-    }
-    Next::At(p)
+    put_cell(b, cell, w, out, at, end, write)
 }
 
 // The values from low to high of entry j in occurrence o, where it is a field, at its own format and length; a group adds nothing.
@@ -219,7 +350,7 @@ fn put_field(
     end: usize,
     write: bool,
 ) -> Next
-    requires { ⌜ Valid (now t) × (j < length (entries-of (now t))) × (1 ≤ o) × (inside-at (entries-of (now t)) j ≡ false → o ≡ 1) × (1 ≤ low) × (high ≤ highest-index) × Holds (entries-of (now t)) (now b) (now places) × (at ≤ end) × (end ≤ length (now out)) × Sound (entries-of (now t)) (now b) (now places) (field-items (entries-of (now t)) j (j + 1) o low high) at end write ⌝ }
+    requires { ⌜ Valid (now t) × (j < length (entries-of (now t))) × (1 ≤ o) × (inside-at (entries-of (now t)) j ≡ false → o ≡ 1) × (1 ≤ low) × (low ≤ high) × (high ≤ highest-index) × Holds (entries-of (now t)) (now b) (now places) × (at ≤ end) × (end ≤ length (now out)) ⌝ }
     ensures { λ r. ⌜ Fills (entries-of (now (t .entry))) (now (b .entry)) (now (places .entry)) (field-items (entries-of (now (t .entry))) j (j + 1) o low high) at end write (now (out .entry)) (now (out .exit)) r ⌝ }
 {
     let e = tables::entry_at(t, j);
@@ -258,7 +389,7 @@ fn put_fields(
     end: usize,
     write: bool,
 ) -> Next
-    requires { ⌜ Valid (now t) × (first ≤ stop) × (stop ≤ length (entries-of (now t))) × (1 ≤ o) × Only (entries-of (now t)) first stop o × (1 ≤ low) × (high ≤ highest-index) × Holds (entries-of (now t)) (now b) (now places) × (at ≤ end) × (end ≤ length (now out)) × Sound (entries-of (now t)) (now b) (now places) (field-items (entries-of (now t)) first stop o low high) at end write ⌝ }
+    requires { ⌜ Valid (now t) × (first ≤ stop) × (stop ≤ length (entries-of (now t))) × (1 ≤ o) × Only (entries-of (now t)) first stop o × (1 ≤ low) × (low ≤ high) × (high ≤ highest-index) × Holds (entries-of (now t)) (now b) (now places) × (at ≤ end) × (end ≤ length (now out)) ⌝ }
     ensures { λ r. ⌜ Fills (entries-of (now (t .entry))) (now (b .entry)) (now (places .entry)) (field-items (entries-of (now (t .entry))) first stop o low high) at end write (now (out .entry)) (now (out .exit)) r ⌝ }
 {
     let mut p = at;
@@ -278,23 +409,24 @@ fn put_fields(
     Next::At(p)
 }
 
-// A span in occurrence o.
-fn put_row(
+// A span of fields as they are stored, occurrence by occurrence.
+fn put_rows(
     t: &[u8],
     b: &[u8],
     places: &[u16; records::DIRECTORY],
     s: Span,
-    o: usize,
     out: &mut [u8],
     at: usize,
     end: usize,
     write: bool,
 ) -> Next
-    requires { ⌜ Valid (now t) × Span-held (entries-of (now t)) s × (1 ≤ o) × Only (entries-of (now t)) (s .first) (s .end) o × Holds (entries-of (now t)) (now b) (now places) × (at ≤ end) × (end ≤ length (now out)) × Sound (entries-of (now t)) (now b) (now places) (row-items (entries-of (now t)) s o) at end write ⌝ }
-    ensures { λ r. ⌜ Fills (entries-of (now (t .entry))) (now (b .entry)) (now (places .entry)) (row-items (entries-of (now (t .entry))) s o) at end write (now (out .entry)) (now (out .exit)) r ⌝ }
+    requires { ⌜ Valid (now t) × Span-held (entries-of (now t)) s × (s .standard ≡ true) × Holds (entries-of (now t)) (now b) (now places) × (at ≤ end) × (end ≤ length (now out)) ⌝ }
+    ensures { λ r. ⌜ Fills (entries-of (now (t .entry))) (now (b .entry)) (now (places .entry)) (span-items (entries-of (now (t .entry))) s (s .from)) at end write (now (out .entry)) (now (out .exit)) r ⌝ }
 {
-    if s.standard {
-        return put_fields(
+    let mut p = at;
+    let mut o = s.from;
+    while o <= s.upto {
+        let next = put_fields(
             t,
             b,
             places,
@@ -304,26 +436,55 @@ fn put_row(
             s.value_from,
             s.value_upto,
             out,
-            at,
+            p,
             end,
             write,
         );
+        match next {
+            Next::Refused(n) => {
+                return Next::Refused(n);
+            }
+            Next::At(place) => {
+                p = place;
+            }
+        }
+        o += 1;
     }
-    put_values(
-        t,
-        b,
-        places,
-        s.first,
-        o,
-        s.value_from,
-        s.value_upto,
-        s.format,
-        s.size,
-        out,
-        at,
-        end,
-        write,
-    )
+    Next::At(p)
+}
+
+// A span of one field at a format and a length, occurrence by occurrence; the way to it is found once.
+fn put_column(
+    t: &[u8],
+    b: &[u8],
+    places: &[u16; records::DIRECTORY],
+    s: Span,
+    out: &mut [u8],
+    at: usize,
+    end: usize,
+    write: bool,
+) -> Next
+    requires { ⌜ Valid (now t) × Span-held (entries-of (now t)) s × (s .standard ≡ false) × Holds (entries-of (now t)) (now b) (now places) × (at ≤ end) × (end ≤ length (now out)) ⌝ }
+    ensures { λ r. ⌜ Fills (entries-of (now (t .entry))) (now (b .entry)) (now (places .entry)) (span-items (entries-of (now (t .entry))) s (s .from)) at end write (now (out .entry)) (now (out .exit)) r ⌝ }
+{
+    let w = wanted_of(t, s.first, s.value_from, s.value_upto, s.format, s.size);
+    let path = records::paths::path_to(t, s.first);
+    let mut p = at;
+    let mut o = s.from;
+    while o <= s.upto {
+        let cell = records::places::cell_by(t, b, places, path, o);
+        let next = put_cell(b, cell, w, out, p, end, write);
+        match next {
+            Next::Refused(n) => {
+                return Next::Refused(n);
+            }
+            Next::At(place) => {
+                p = place;
+            }
+        }
+        o += 1;
+    }
+    Next::At(p)
 }
 
 // A span.
@@ -337,24 +498,13 @@ fn put_span(
     end: usize,
     write: bool,
 ) -> Next
-    requires { ⌜ Valid (now t) × Span-held (entries-of (now t)) s × Holds (entries-of (now t)) (now b) (now places) × (at ≤ end) × (end ≤ length (now out)) × Sound (entries-of (now t)) (now b) (now places) (span-items (entries-of (now t)) s (s .from)) at end write ⌝ }
+    requires { ⌜ Valid (now t) × Span-held (entries-of (now t)) s × Holds (entries-of (now t)) (now b) (now places) × (at ≤ end) × (end ≤ length (now out)) ⌝ }
     ensures { λ r. ⌜ Fills (entries-of (now (t .entry))) (now (b .entry)) (now (places .entry)) (span-items (entries-of (now (t .entry))) s (s .from)) at end write (now (out .entry)) (now (out .exit)) r ⌝ }
 {
-    let mut p = at;
-    let mut o = s.from;
-    while o <= s.upto {
-        let next = put_row(t, b, places, s, o, out, p, end, write);
-        match next {
-            Next::Refused(n) => {
-                return Next::Refused(n);
-            }
-            Next::At(place) => {
-                p = place;
-            }
-        }
-        o += 1;
+    if s.standard {
+        return put_rows(t, b, places, s, out, at, end, write);
     }
-    Next::At(p)
+    put_column(t, b, places, s, out, at, end, write)
 }
 
 // What an element means.
@@ -369,7 +519,7 @@ fn put_use(
     end: usize,
     write: bool,
 ) -> Next
-    requires { ⌜ Valid (now t) × Use-held (entries-of (now t)) (now f) u × Holds (entries-of (now t)) (now b) (now places) × (at ≤ end) × (end ≤ length (now out)) × Sound (entries-of (now t)) (now b) (now places) (items-of (use-meant (entries-of (now t)) (now f) u)) at end write ⌝ }
+    requires { ⌜ Valid (now t) × Use-held (entries-of (now t)) (now f) u × Holds (entries-of (now t)) (now b) (now places) × (at ≤ end) × (end ≤ length (now out)) ⌝ }
     ensures { λ r. ⌜ Fills (entries-of (now (t .entry))) (now (b .entry)) (now (places .entry)) (items-of (use-meant (entries-of (now (t .entry))) (now (f .entry)) u)) at end write (now (out .entry)) (now (out .exit)) r ⌝ }
 {
     match u {
@@ -387,29 +537,96 @@ fn put_use(
     }
 }
 
-// The items of a good format whose elements keep the use rules, from the front of out on; out has room up to end.
-pub fn fill(
+// A refusal n stands, unless the syntax of the elements from a place on is bad, which is 3.
+fn syntax_behind(f: &[u8], from: usize, n: u8) -> u8
+    requires { ⌜ from ≤ length (now f) ⌝ }
+    ensures { λ r. ⌜ r ≡ unless (parsed (drop from (now (f .entry)))) n ⌝ }
+{
+    let mut at = from;
+    loop {
+        match formats::syntax::next(f, at) {
+            Step::More(_, place) => {
+                at = place;
+            }
+            Step::Last(_) => {
+                return n;
+            }
+            Step::Bad => {
+                return 3;
+            }
+        }
+    }
+}
+
+// The use of the element at a place, or the number that the elements from there on are refused with.
+fn use_at(t: &[u8], f: &[u8], at: usize, last: &mut [u8; 64]) -> Turn
+    requires { ⌜ Valid (now t) × (at ≤ length (now f)) × (length (now last) ≡ 64) ⌝ }
+    ensures { λ r. ⌜ Turned (entries-of (now (t .entry))) (now (f .entry)) at (now (last .entry)) (now (last .exit)) r ⌝ }
+{
+    match formats::syntax::next(f, at) {
+        Step::More(e, place) => match uses::use_of(t, last, e) {
+            Meant::As(u) => {
+                uses::remember(t, last, u);
+                Turn::More(u, place)
+            }
+            Meant::Refused(n) => Turn::Refused(syntax_behind(f, place, n)),
+        },
+        Step::Last(e) => match uses::use_of(t, last, e) {
+            Meant::As(u) => Turn::Last(u),
+            Meant::Refused(n) => Turn::Refused(n),
+        },
+        Step::Bad => Turn::Refused(3),
+    }
+}
+
+// A refusal n of an item stands, unless the elements from a place on are refused.
+fn uses_behind(t: &[u8], f: &[u8], from: usize, last: &mut [u8; 64], n: u8) -> u8
+    requires { ⌜ Valid (now t) × (from ≤ length (now f)) × (length (now last) ≡ 64) ⌝ }
+    ensures { λ r. ⌜ Unless-used (entries-of (now (t .entry))) (now (f .entry)) (now (last .entry)) from n r ⌝ }
+{
+    let mut at = from;
+    loop {
+        match use_at(t, f, at, last) {
+            Turn::More(_, place) => {
+                at = place;
+            }
+            Turn::Last(_) => {
+                return n;
+            }
+            Turn::Refused(k) => {
+                return k;
+            }
+        }
+    }
+}
+
+// The items of a format from the front of out on, which has room up to end: where they end, or the number of the first refusal, 3 for
+// the whole format, then 4 and 5 for its elements, then 9 and 7 for its items.
+pub fn scan(
     t: &[u8],
     b: &[u8],
-    places: &[u16; 64],
+    places: &[u16; records::DIRECTORY],
     f: &[u8],
     out: &mut [u8],
     end: usize,
     write: bool,
 ) -> Next
-    requires { ⌜ Valid (now t) × Holds (entries-of (now t)) (now b) (now places) × (is-done (uses-of (entries-of (now t)) (now f)) ≡ true) × (end ≤ length (now out)) × ((us : List rules.Use) → uses-of (entries-of (now t)) (now f) ≡ done us → Sound (entries-of (now t)) (now b) (now places) (items us) 0 end write) ⌝ }
-    ensures { λ r. ⌜ ((us : List rules.Use) → uses-of (entries-of (now (t .entry))) (now (f .entry)) ≡ done us → Fills (entries-of (now (t .entry))) (now (b .entry)) (now (places .entry)) (items us) 0 end write (now (out .entry)) (now (out .exit)) r) ⌝ }
+    requires { ⌜ Valid (now t) × Holds (entries-of (now t)) (now b) (now places) × (end ≤ length (now out)) ⌝ }
+    ensures { λ r. ⌜ Scans (entries-of (now (t .entry))) (now (b .entry)) (now (places .entry)) (now (f .entry)) end write (now (out .entry)) (now (out .exit)) r ⌝ }
 {
+    if rules::LONGEST_FORMAT < f.len() {
+        return Next::Refused(3);
+    }
     let mut last = [0u8; 64];
     let mut at = 0;
     let mut p = 0;
     loop {
-        match uses::next_use(t, f, at, &mut last) {
-            Ahead::More(u, place) => {
+        match use_at(t, f, at, &mut last) {
+            Turn::More(u, place) => {
                 let next = put_use(t, b, places, f, u, out, p, end, write);
                 match next {
                     Next::Refused(n) => {
-                        return Next::Refused(n);
+                        return Next::Refused(uses_behind(t, f, place, &mut last, n));
                     }
                     Next::At(q) => {
                         p = q;
@@ -417,12 +634,11 @@ pub fn fill(
                 }
                 at = place;
             }
-            Ahead::Last(u) => {
+            Turn::Last(u) => {
                 return put_use(t, b, places, f, u, out, p, end, write);
             }
-            // The use rules are kept, so that this does not happen.
-            Ahead::Refused => {
-                return Next::Refused(5);
+            Turn::Refused(n) => {
+                return Next::Refused(n);
             }
         }
     }

@@ -1,18 +1,20 @@
 -- Null of each format, byte by byte, and its length.
 use mathlib.Core.Path.{_≡_, refl, sym, _∙_, ap}
 use mathlib.Core.Bool.{true, false, false≢true}
-use mathlib.Core.List.{List, [], _∷_, _++_}
+use mathlib.Core.List.{List, [], _∷_, _++_, append-nil}
 use Prim.Native.Nat.{ℕ, zero, suc, _+_, _-_, _*_, _^_, _≤_, _<_}
-use native.Mathlib.Nat.{one-le-pow, sub-zero}
+use native.Mathlib.Nat.{one-le-pow, sub-zero, zero-mul, suc-mul}
 use native.Mathlib.Omega.{arith}
 use lib.Dec.{ltb, eqb, lit<}
-use lib.ListN.{length, getD, replicate, length-append, length-replicate}
+use lib.ListN.{length, getD, replicate, length-append, length-replicate, replicate-append-replicate}
 use borrow.Author.Tests.{lt-ltb, eqb-true, eqb-false}
 use Rattle.rules.specs.Outcome.{done}
 use Rattle.rules.specs.Characters.{space}
-use Rattle.rules.specs.Lists.{Bytes, bytes-of, digits}
+use Rattle.rules.specs.Lists.{Bytes, bytes-of, digits, join}
 use Rattle.rules.specs.Values.{Format, alpha, binary, fixed, packed, unpacked, allowed, normal, null, null-value, pairs, zoned, sign-written}
 use Rattle.rules.proofs.Steps.{by-test}
+use Rattle.buffer.specs.Splice.{splice}
+use Rattle.buffer.proofs.Laws.{splice-nil, length-splice, splice-rest}
 use Rattle.words.proofs.Digits.{digits-zero}
 use Rattle.words.proofs.Fixed.{done-need}
 use Rattle.values.specs.Formats.{format-at}
@@ -120,13 +122,81 @@ null-size k n h z =
     (λ q. packed-size k n (eqb-true k 3 q) z)
     (λ q. rw (null-filled k n h (eqb-false k 3 q) z) (length-replicate n (getD fillers k 0)))
 
+pub packed-long : (n : ℕ) → 0 < n → length (null packed n) ≡ n
+unfolding format-at
+packed-long n h = packed-size 3 n refl (λ z. omega arith)
+
 pub is-packed : (k : ℕ) → k ≡ 3 → packed ≡ format-at k
 unfolding format-at
 is-packed k e = rw e
 
--- The room that null takes.
-pub null-room-0 : (k n : ℕ) → k < 5 → n ≡ 0 → allowed (format-at k) n ≡ true → (at room : ℕ) → at + length (null (format-at k) n) ≤ room → at < room
-null-room-0 k n h z a at room l = let m = rw (null-0 k n h z a) at l in omega arith
+-- Null is one byte throughout, where it is not P's.
+throughout : (x : Bytes) (m b : ℕ) → x ≡ replicate m b → x ≡ replicate (length x) b
+throughout x m b e = e ∙ ap (λ (j : ℕ). replicate j b) (sym (ap length e ∙ length-replicate m b))
 
-pub null-room : (k n : ℕ) → k < 5 → (n ≡ 0 → ⊥) → (at room : ℕ) → at + length (null (format-at k) n) ≤ room → at + n ≤ room
-null-room k n h z at room l = rw (null-size k n h z) at l
+module _ (k n : ℕ) (h : k < 5) where
+  pub null-byte-0 : n ≡ 0 → allowed (format-at k) n ≡ true → null (format-at k) n ≡ replicate (length (null (format-at k) n)) 1
+  null-byte-0 z a = throughout (null (format-at k) n) 1 1 (null-0 k n h z a)
+
+  module _ (p : k ≡ 3 → ⊥) (z : n ≡ 0 → ⊥) where
+    by-filler : (b : ℕ) → getD fillers k 0 ≡ b → null (format-at k) n ≡ replicate (length (null (format-at k) n)) b
+    by-filler b e = throughout (null (format-at k) n) n b (null-filled k n h p z ∙ ap (replicate n) e)
+
+    pub null-byte-alpha : k ≡ 0 → null (format-at k) n ≡ replicate (length (null (format-at k) n)) 0x40
+    null-byte-alpha e = by-filler 0x40 (ap (λ (j : ℕ). getD fillers j 0) e)
+
+    pub null-byte-unpacked : k ≡ 4 → null (format-at k) n ≡ replicate (length (null (format-at k) n)) 0xF0
+    null-byte-unpacked e = by-filler 0xF0 (ap (λ (j : ℕ). getD fillers j 0) e)
+
+    pub null-byte-other : (k ≡ 0 → ⊥) → (k ≡ 4 → ⊥) → null (format-at k) n ≡ replicate (length (null (format-at k) n)) 0
+    null-byte-other a u = by-filler 0 (five (λ (j : ℕ). (j ≡ 0 → ⊥) → (j ≡ 4 → ⊥) → getD fillers j 0 ≡ 0)
+        (λ x y. absurd (x refl)) (λ x y. refl) (λ x y. refl) (λ x y. refl) (λ x y. absurd (y refl)) k h a u)
+
+-- The same bytes so many times.
+pub length-copies : (n : ℕ) (x : Bytes) → length (join (replicate n x)) ≡ n * length x
+unfolding join
+length-copies zero x = sym (zero-mul (length x))
+length-copies (suc n) x = length-append x (join (replicate n x)) ∙ ap (λ (m : ℕ). length x + m) (length-copies n x) ∙ (rw (suc-mul n (length x)) (omega arith))
+
+pub one-copy : (x : Bytes) → join (replicate 1 x) ≡ x
+unfolding join
+one-copy x = append-nil x
+
+pub copies-throughout : (n : ℕ) (x : Bytes) (b : ℕ) → x ≡ replicate (length x) b → join (replicate n x) ≡ replicate (n * length x) b
+unfolding join
+copies-throughout zero x b e = rw (zero-mul (length x))
+copies-throughout (suc n) x b e =
+    let m : length x + n * length x ≡ suc n * length x = rw (suc-mul n (length x)) (omega arith) in
+    ap (λ (y : Bytes). x ++ y) (copies-throughout n x b e) ∙ ap (λ (y : Bytes). y ++ replicate (n * length x) b) e
+    ∙ replicate-append-replicate (length x) (n * length x) b ∙ ap (λ (k : ℕ). replicate k b) m
+
+-- A loop that writes the same bytes n times: what is left, from where it stands, writes as the whole does.
+pub record Copying (x : Bytes) (n i at p : ℕ) (out₀ out : Bytes) : Type 0 where
+  pub same : length out ≡ length out₀
+  pub room : p + length (join (replicate (n - i) x)) ≤ length out
+  pub bytes : splice p (join (replicate (n - i) x)) out ≡ splice at (join (replicate n x)) out₀
+
+pub copying : (x : Bytes) (n at : ℕ) (out : Bytes) → at + length (join (replicate n x)) ≤ length out → Copying x n 0 at at out out
+copying x n at out h = record { same = refl; room = rw (sub-zero n) h; bytes = rw (sub-zero n) refl }
+
+module _ {x : Bytes} {n i at p : ℕ} {out₀ out : Bytes} (g : Copying x n i at p out₀ out) where
+  copies-left : i < n → join (replicate (n - i) x) ≡ x ++ join (replicate (n - (i + 1)) x)
+  unfolding join
+  copies-left h = let e : n - i ≡ suc (n - (i + 1)) = omega arith in rw e
+
+  pub copy-room : i < n → p + length x ≤ length out
+  copy-room h = let r = rw (copies-left h, length-append) at (g .room) in omega arith
+
+  pub copy-on : (q : ℕ) {out′ : Bytes} → i < n → out′ ≡ splice p x out → q ≡ p + length x → Copying x n (i + 1) at q out₀ out′
+  copy-on q {out′} h w e =
+      let l = ap length w ∙ length-splice p x out (copy-room h) in
+      let r = rw (copies-left h, length-append) at (g .room) in
+      record {
+        same = l ∙ g .same;
+        room = omega (arith, r, l, e);
+        bytes = splice-rest p x (join (replicate (n - (i + 1)) x)) out out′ _ q (ap (λ (y : Bytes). splice p y out) (sym (copies-left h)) ∙ g .bytes) w e (copy-room h);
+      }
+
+  pub copied : n ≤ i → out ≡ splice at (join (replicate n x)) out₀
+  unfolding join
+  copied h = let e : n - i ≡ 0 = omega arith in sym (splice-nil p out) ∙ rw e at (g .bytes)

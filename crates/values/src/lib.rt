@@ -4,9 +4,9 @@ ghost use mathlib.Core.Path.{_≡_};
 ghost use mathlib.Core.Bool.{true};
 ghost use mathlib.Core.Logic.{_⊎_};
 ghost use Prim.Native.Nat.{_+_, _<_, _≤_};
-ghost use lib.ListN.{length, drop};
+ghost use lib.ListN.{length, drop, replicate};
 ghost use Rattle.rules.specs.Outcome.{is-done};
-ghost use Rattle.rules.specs.Lists.{bytes-of};
+ghost use Rattle.rules.specs.Lists.{bytes-of, join};
 ghost use Rattle.rules.specs.Values.{packed, first-value, null, in-normal-form, carried};
 ghost use Rattle.buffer.specs.Splice.{splice};
 ghost use Rattle.rules.specs.Values as Rules;
@@ -21,6 +21,7 @@ pub mod texts;
 use kinds::ALPHA;
 use kinds::Kind;
 use kinds::PACKED;
+use kinds::UNPACKED;
 
 // Where the first value of a run of bytes lies: its content, without its length byte, and the place after it.
 pub enum First {
@@ -78,7 +79,21 @@ pub fn null_length(format: usize, size: usize) -> usize
 }
 
 // What null is filled with; the last byte of P has the sign too.
-const NULLS: [u8; 5] = [0x40, 0, 0, 0, 0xF0];
+fn null_byte(format: usize, size: usize) -> u8
+    requires { ⌜ (format < 5) × (format ≡ 3 → ⊥) × (Rules.allowed (format-at format) size ≡ true) ⌝ }
+    ensures { λ r. ⌜ null (format-at format) size ≡ replicate (length (null (format-at format) size)) r ⌝ }
+{
+    if size == 0 {
+        return 1;
+    }
+    if format == ALPHA {
+        return 0x40;
+    }
+    if format == UNPACKED {
+        return 0xF0;
+    }
+    0
+}
 
 // Null of format P, to out from at on.
 fn write_packed_null(size: usize, out: &mut [u8], at: usize)
@@ -90,20 +105,43 @@ fn write_packed_null(size: usize, out: &mut [u8], at: usize)
     out[end] = 0x0F;
 }
 
+// n nulls of format P, to out from at on.
+fn write_packed_nulls(n: usize, size: usize, out: &mut [u8], at: usize)
+    requires { ⌜ (0 < size) × (at + length (join (replicate n (null packed size))) ≤ length (now out)) ⌝ }
+    ensures { λ _. ⌜ now (out .exit) ≡ splice at (join (replicate n (null packed size))) (now (out .entry)) ⌝ }
+{
+    let mut p = at;
+    let mut i = 0;
+    while i < n {
+        write_packed_null(size, out, p);
+        p += size;
+        i += 1;
+    }
+}
+
+// n nulls, to out from at on.
+pub fn write_nulls(n: usize, format: usize, size: usize, out: &mut [u8], at: usize)
+    requires { ⌜ (format < 5) × (Rules.allowed (format-at format) size ≡ true) × (at + length (join (replicate n (null (format-at format) size))) ≤ length (now out)) ⌝ }
+    ensures { λ _. ⌜ now (out .exit) ≡ splice at (join (replicate n (null (format-at format) size))) (now (out .entry)) ⌝ }
+{
+    if format == PACKED {
+        write_packed_nulls(n, size, out, at);
+        return;
+    }
+    buffer::fill(
+        out,
+        at,
+        n * null_length(format, size),
+        null_byte(format, size),
+    );
+}
+
 // Null, to out from at on.
 pub fn write_null(format: usize, size: usize, out: &mut [u8], at: usize)
     requires { ⌜ (format < 5) × (Rules.allowed (format-at format) size ≡ true) × (at + length (null (format-at format) size) ≤ length (now out)) ⌝ }
     ensures { λ _. ⌜ now (out .exit) ≡ splice at (null (format-at format) size) (now (out .entry)) ⌝ }
 {
-    if size == 0 {
-        out[at] = 1;
-    } else {
-        if format == PACKED {
-            write_packed_null(size, out, at);
-        } else {
-            buffer::fill(out, at, size, NULLS[format]);
-        }
-    }
+    write_nulls(1, format, size, out, at);
 }
 
 // Whether s, the content of a value without its length byte, is in normal form.

@@ -32,7 +32,7 @@ returns-2 : tie.Need-returns-2
 returns-2 c =
     let a = c .before .before .before .before .before .before .before .args in
     item-written (a .end - a .at) (a .at) (replicate (a .n) space) (a .out .now) (a .write) _ (c .before .before .before .before .if2 .taken)
-    (omega (arith, length-replicate (a .n) space)) (omega (arith, length-replicate (a .n) space)) (c .before .before .fill .ensures)
+    (omega (arith, length-replicate (a .n) space)) (omega (arith, length-replicate (a .n) space)) (omega (arith, length-replicate (a .n) space)) (c .before .before .fill .ensures)
 
 add-t6 : tie.Need-add-t6
 add-t6 c = search needs

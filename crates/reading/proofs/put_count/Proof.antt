@@ -26,7 +26,7 @@ same-length c = search needs
 returns-2 : tie.Need-returns-2
 returns-2 c =
     let a = c .before .before .args in
-    item-written (a .end - a .at) (a .at) (a .count ∷ []) (a .out .now) (a .write) _ (c .if2 .taken) (omega arith) refl
+    item-written (a .end - a .at) (a .at) (a .count ∷ []) (a .out .now) (a .write) _ (c .if2 .taken) (omega arith) (omega arith) refl
     (set-splice (a .out .now) (a .at) (a .count) (omega arith))
 
 add-t9 : tie.Need-add-t9

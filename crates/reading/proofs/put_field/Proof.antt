@@ -2,7 +2,7 @@
 use mathlib.Core.Path.{refl}
 use Rattle.tables.specs.Entries.{entries-of}
 use Rattle.uses.proofs.Fields.{group-known, field-known}
-use Rattle.reading.proofs.Running.{sound-as, fills-as, fills-none}
+use Rattle.reading.proofs.Running.{fills-as, fills-none}
 use Rattle.reading.proofs.Values.{own-askable}
 use Rattle.reading.proofs.Spans.{one-group, own-items}
 use borrow.Author.Needs.{needs}
@@ -18,7 +18,7 @@ returns c =
     let a = s .args in
     let e = c .before .before .entry-at in
     let g = group-known (entries-of (a .t .now)) (a .j) (e .result) (e .ensures) (c .if1 .taken) in
-    fills-none (entries-of (a .t .now)) (a .b .now) (a .places .now) refl (a .at) (a .end) (a .write) (one-group (entries-of (a .t .now)) (a .o) (a .low) (a .high) (a .j) (s .pre .1) g) (s .pre .6) (s .pre .7) (s .pre .8) (s .pre .9)
+    fills-none (entries-of (a .t .now)) (a .b .now) (a .places .now) refl (a .at) (a .end) (a .write) (one-group (entries-of (a .t .now)) (a .o) (a .low) (a .high) (a .j) (s .pre .1) g) (s .pre .7) (s .pre .8) (s .pre .9)
 
 cast-put-values : tie.Need-cast-put-values
 cast-put-values c = search needs
@@ -31,8 +31,7 @@ put-values-requires c κs =
     let s = c .before .before .before .before .before .before .before .before .before in
     let a = s .args in
     let e = c .before .before .before .before .before .entry-at in
-    let g = field-known (entries-of (a .t .now)) (a .j) (e .result) (e .ensures) (c .before .before .before .if1 .left) in
-    let x = own-items (a .t .now) (s .pre .0) (a .j) (s .pre .1) g (e .result) (e .ensures) (a .o) (a .low) (a .high) in (
+    let g = field-known (entries-of (a .t .now)) (a .j) (e .result) (e .ensures) (c .before .before .before .if1 .left) in (
       s .pre .0,
       own-askable (a .t .now) (s .pre .0) (s .pre .1) g (e .result) (e .ensures) (a .o) (s .pre .2) (s .pre .3),
       s .pre .4,
@@ -40,7 +39,7 @@ put-values-requires c κs =
       s .pre .6,
       s .pre .7,
       s .pre .8,
-      sound-as (entries-of (a .t .now)) (a .b .now) (a .places .now) x (a .at) (a .end) (a .write) (s .pre .9),
+      s .pre .9,
     )
 
 same-length : tie.Need-same-length

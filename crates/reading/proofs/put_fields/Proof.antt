@@ -3,7 +3,7 @@ use Prim.Native.Nat.{_+_, _-_, _≤_}
 use native.Mathlib.Omega.{arith}
 use Rattle.tables.specs.Entries.{entries-of}
 use Rattle.reading.specs.Runs.{field-items}
-use Rattle.reading.proofs.Running.{Running, run-start, run-sound, run-on, run-off, run-end, run-same}
+use Rattle.reading.proofs.Running.{Running, run-start, run-on, run-off, run-end, run-same}
 use Rattle.reading.proofs.Spans.{first-entry, no-fields-left}
 use borrow.Author.Needs.{needs}
 use Rattle.reading.proofs.put_fields.Statement.{statement}
@@ -21,12 +21,11 @@ loop-holds : tie.Need-loop-holds Inv-loop μ-loop
 loop-holds c =
     let s = c .before .before .before in
     let a = s .args in
-    (run-start (entries-of (a .t .now)) (a .b .now) (a .places .now) (a .end) _ (a .at) (a .write) (a .out .now) (s .pre .7) (s .pre .8) (s .pre .9) (s .pre .10), omega arith)
+    (run-start (entries-of (a .t .now)) (a .b .now) (a .places .now) (a .end) _ (a .at) (a .write) (a .out .now) (s .pre .8) (s .pre .9) (s .pre .10), omega arith)
 
 put-field-requires : tie.Need-put-field-requires Inv-loop μ-loop
 put-field-requires c κs =
     let s = c .before .before .before .before .before .before in
-    let a = s .args in
     let l = c .before .before .loop in (
       s .pre .0,
       omega arith,
@@ -35,10 +34,9 @@ put-field-requires c κs =
       s .pre .5,
       s .pre .6,
       s .pre .7,
+      s .pre .8,
       l .inv .0 .fits,
       l .inv .0 .room,
-      run-sound (l .inv .0) (field-items (entries-of (a .t .now)) (l .j) (l .j + 1) (a .o) (a .low) (a .high)) (field-items (entries-of (a .t .now)) (l .j + 1) (a .stop) (a .o) (a .low) (a .high))
-          (first-entry (entries-of (a .t .now)) (a .o) (a .low) (a .high) (l .j) (omega arith) (a .stop) (c .before .loop-test .taken) (s .pre .2)),
     )
 
 enum-known-next : tie.Need-enum-known-next Inv-loop μ-loop

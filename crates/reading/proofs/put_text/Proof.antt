@@ -25,7 +25,7 @@ returns-2 : tie.Need-returns-2
 returns-2 c =
     let a = c .before .before .before .before .before .before .before .before .args in
     item-written (a .end - a .at) (a .at) (a .text .now) (a .out .now) (a .write) _ (c .before .before .before .before .if2 .taken)
-    (omega arith) (c .before .before .put .ensures .0) (c .before .before .put .ensures .1)
+    (omega arith) (omega arith) (c .before .before .put .ensures .0) (c .before .before .put .ensures .1)
 
 add-t7 : tie.Need-add-t7
 add-t7 c = search needs

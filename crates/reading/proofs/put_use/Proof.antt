@@ -3,7 +3,7 @@ use mathlib.Core.Path.{subst}
 use native.Mathlib.Omega.{arith}
 use Rattle.tables.specs.Entries.{entries-of}
 use Rattle.uses.specs.Meant.{Use-held}
-use Rattle.reading.proofs.Elements.{use-blanks, use-text, use-group-count, use-value-count, span-sound, use-span}
+use Rattle.reading.proofs.Elements.{use-blanks, use-text, use-group-count, use-value-count, use-span}
 use borrow.Author.Needs.{needs}
 use Rattle.reading.proofs.put_use.Statement.{statement}
 use Rattle.reading.proofs.put_use.Tie as tie
@@ -81,7 +81,7 @@ put-span-requires c κs =
     let a = s .args in
     let v = c .before .before .u5 .given in
     let w = subst (Use-held (entries-of (a .t .now)) (a .f .now)) (v .1) (s .pre .1) in
-    (s .pre .0, w, s .pre .2, s .pre .3, s .pre .4, span-sound (entries-of (a .t .now)) (a .b .now) (a .places .now) (a .f .now) (a .at) (a .end) (a .write) _ (v .1) (s .pre .5))
+    (s .pre .0, w, s .pre .2, s .pre .3, s .pre .4)
 
 same-length : tie.Need-same-length
 same-length c = search needs

@@ -50,7 +50,7 @@ returns-2 c =
     let a = c .before .before .before .before .before .before .before .before .before .before .before .before .args in
     let o = carried (format-at (a .own)) (format-at (a .format)) (a .size) (a .s .now) in
     let e = ap fitted (sym (c .before .before .before .before .before .before .before .fit2 .given .1)) ∙ c .before .before .before .before .before .before .before .before .before .fits2 .ensures in
-    value-written o (a .end - a .at) (a .at) (a .out .now) (a .write) _ (fit-bytes o _ e) (c .before .before .before .before .if2 .taken) (omega (arith, c .before .before .before .before .before .if1 .left)) (c .before .before .carry .ensures)
+    value-written o (a .end - a .at) (a .at) (a .out .now) (a .write) _ (fit-bytes o _ e) (c .before .before .before .before .if2 .taken) (omega (arith, c .before .before .before .before .before .if1 .left)) (omega (arith, c .before .before .before .before .before .if1 .left)) (c .before .before .carry .ensures)
 
 add-t13 : tie.Need-add-t13
 add-t13 c = search needs

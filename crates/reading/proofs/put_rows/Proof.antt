@@ -1,4 +1,4 @@
--- `reading::put_span` meets its contract: the occurrences that are left fill the buffer as all of them do from the start. Assumes nothing.
+-- `reading::put_rows` meets its contract: the occurrences that are left fill the buffer as all of them do from the start. Assumes nothing.
 use mathlib.Core.Bool.{false}
 use Prim.Native.Nat.{_+_, _-_, _≤_}
 use native.Mathlib.Omega.{arith}
@@ -7,11 +7,12 @@ use Rattle.tables.specs.Entries.{entries-of}
 use Rattle.formats.specs.Elements.{range}
 use Rattle.uses.specs.Meant.{asked-of}
 use Rattle.reading.specs.Runs.{row-items, span-items}
-use Rattle.reading.proofs.Running.{Running, run-start, run-sound, run-on, run-off, run-end, run-same}
+use Rattle.reading.proofs.Running.{Running, run-start, run-on, run-off, run-end, run-same, fills-as}
+use Rattle.reading.proofs.Columns.{row-stored}
 use Rattle.reading.proofs.Spans.{bounds}
 use borrow.Author.Needs.{needs}
-use Rattle.reading.proofs.put_span.Statement.{statement}
-use Rattle.reading.proofs.put_span.Tie as tie
+use Rattle.reading.proofs.put_rows.Statement.{statement}
+use Rattle.reading.proofs.put_rows.Tie as tie
 
 abbrev Inv-loop : tie.InvT-loop
 Inv-loop t b places s out₀ at end write p₀ o₀ out p o =
@@ -25,23 +26,26 @@ loop-holds : tie.Need-loop-holds Inv-loop μ-loop
 loop-holds c =
     let s = c .before .before .before in
     let a = s .args in
-    (run-start (entries-of (a .t .now)) (a .b .now) (a .places .now) (a .end) _ (a .at) (a .write) (a .out .now) (s .pre .2) (s .pre .3) (s .pre .4) (s .pre .5), bounds (a .s .from) (a .s .upto) (s .pre .1 .occurrences) .0)
+    (run-start (entries-of (a .t .now)) (a .b .now) (a .places .now) (a .end) _ (a .at) (a .write) (a .out .now) (s .pre .3) (s .pre .4) (s .pre .5), bounds (a .s .from) (a .s .upto) (s .pre .1 .occurrences) .0)
 
-put-row-requires : tie.Need-put-row-requires Inv-loop μ-loop
-put-row-requires c κs =
+put-fields-requires : tie.Need-put-fields-requires Inv-loop μ-loop
+put-fields-requires c κs =
     let s = c .before .before .before .before .before .before .before in
     let a = s .args in
     let l = c .before .before .before .loop in
-    let h = c .before .if1 .taken in (
+    let h = c .before .if1 .taken in
+    let v = bounds (a .s .«value_from») (a .s .«value_upto») (s .pre .1 .values) in (
       s .pre .0,
-      s .pre .1,
+      s .pre .1 .ordered,
+      s .pre .1 .upto,
       l .inv .1,
       λ j m n k. (let u = s .pre .1 .only j m n k in omega arith),
-      s .pre .2,
+      v .0,
+      v .1,
+      v .2,
+      s .pre .3,
       l .inv .0 .fits,
       l .inv .0 .room,
-      run-sound (l .inv .0) (row-items (entries-of (a .t .now)) (a .s) (l .o)) (span-items (entries-of (a .t .now)) (a .s) (l .o + 1))
-          (first-occurrence (asked-of (entries-of (a .t .now)) (a .s)) (range (a .s .«value_from») (a .s .«value_upto»)) false (l .o) (a .s .upto) (c .before .if1 .taken)),
     )
 
 enum-known-next : tie.Need-enum-known-next Inv-loop μ-loop
@@ -55,8 +59,9 @@ returns c =
     let s = c .before .before .before .before .before .before .before .before .before .before .before .before .before in
     let a = s .args in
     let l = c .before .before .before .before .before .before .before .before .before .loop in
+    let f = fills-as (entries-of (a .t .now)) (a .b .now) (a .places .now) (row-stored (entries-of (a .t .now)) (a .s) (s .pre .2) (l .o)) (l .p) (a .end) (a .write) (c .before .before .before .before .before .put-fields .ensures) in
     run-off (l .inv .0) (row-items (entries-of (a .t .now)) (a .s) (l .o)) (span-items (entries-of (a .t .now)) (a .s) (l .o + 1))
-    (first-occurrence (asked-of (entries-of (a .t .now)) (a .s)) (range (a .s .«value_from») (a .s .«value_upto»)) false (l .o) (a .s .upto) (c .before .before .before .before .before .before .before .if1 .taken)) (c .before .before .before .before .before .put-row .ensures) _ (c .before .next .given .1)
+    (first-occurrence (asked-of (entries-of (a .t .now)) (a .s)) (range (a .s .«value_from») (a .s .«value_upto»)) false (l .o) (a .s .upto) (c .before .before .before .before .before .before .before .if1 .taken)) f _ (c .before .next .given .1)
 
 enum-known-next-2 : tie.Need-enum-known-next-2 Inv-loop μ-loop
 enum-known-next-2 c = search needs
@@ -75,9 +80,10 @@ loop-again : tie.Need-loop-again Inv-loop μ-loop
 loop-again c =
     let s = c .before .before .before .before .before .before .before .before .before .before .before .before .before in
     let a = s .args in
-    let l = c .before .before .before .before .before .before .before .before .before .loop in (
+    let l = c .before .before .before .before .before .before .before .before .before .loop in
+    let f = fills-as (entries-of (a .t .now)) (a .b .now) (a .places .now) (row-stored (entries-of (a .t .now)) (a .s) (s .pre .2) (l .o)) (l .p) (a .end) (a .write) (c .before .before .before .before .before .put-fields .ensures) in (
       run-on (l .inv .0) (row-items (entries-of (a .t .now)) (a .s) (l .o)) (span-items (entries-of (a .t .now)) (a .s) (l .o + 1))
-          (first-occurrence (asked-of (entries-of (a .t .now)) (a .s)) (range (a .s .«value_from») (a .s .«value_upto»)) false (l .o) (a .s .upto) (c .before .before .before .before .before .before .before .if1 .taken)) (c .before .before .before .before .before .put-row .ensures) _ (c .before .next2 .given .1),
+          (first-occurrence (asked-of (entries-of (a .t .now)) (a .s)) (range (a .s .«value_from») (a .s .«value_upto»)) false (l .o) (a .s .upto) (c .before .before .before .before .before .before .before .if1 .taken)) f _ (c .before .next2 .given .1),
       omega arith,
     )
 
@@ -91,5 +97,5 @@ returns-2 c =
     let l = c .before .before .loop in
     run-end (l .inv .0) (no-occurrence (asked-of (entries-of (a .t .now)) (a .s)) (range (a .s .«value_from») (a .s .«value_upto»)) false (l .o) (a .s .upto) (c .if1 .left))
 
-pub put-span-spec : {M : Type 1} → statement M
-put-span-spec = tie.close (tie.spec Inv-loop μ-loop loop-holds put-row-requires enum-known-next same-length returns enum-known-next-2 add-o loop-less loop-again same-length-2 returns-2)
+pub put-rows-spec : {M : Type 1} → statement M
+put-rows-spec = tie.close (tie.spec Inv-loop μ-loop loop-holds put-fields-requires enum-known-next same-length returns enum-known-next-2 add-o loop-less loop-again same-length-2 returns-2)

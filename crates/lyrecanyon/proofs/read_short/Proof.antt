@@ -1,0 +1,103 @@
+-- `lyrecanyon::read_short` meets its contract: what is made in the work area is put to the buffer, a refusal there is the buffer's unless for want of room, and then the rest is left to `read_long`. Assumes nothing.
+use mathlib.Core.Path.{sym}
+use Prim.Native.Nat.{_≤_}
+use native.Mathlib.Omega.{arith}
+use lib.Seq.{length-take-le}
+use Rattle.lyrecanyon.specs.declared.Refusal.the-variants.{BeyondBuffer}
+use Rattle.lyrecanyon.proofs.Readings.{Ready, refused-between, all-refused, less-refused, made-within, short-read}
+use borrow.Author.Needs.{needs}
+use Rattle.lyrecanyon.proofs.read_short.Statement.{statement}
+use Rattle.lyrecanyon.proofs.read_short.Tie as tie
+
+ready : (c : tie.After-scan)
+    → Ready (c .before .before .before .before .before .before .before .before .args .table .now) (c .before .before .before .before .before .before .before .before .args .stored .now) (c .before .before .before .before .before .before .before .before .args .places .now) (c .before .before .before .before .before .before .before .before .args .format .now) (c .before .before .before .before .before .before .before .before .args .buffer .now) (c .before .before .before .least .result)
+ready c = let p = c .before .before .before .before .before .before .before .before .pre in record { valid = p .0; holds = p .1; room = c .before .before .before .least .ensures }
+
+less : (c : tie.After-scan) → c .before .before .least2 .result ≤ c .before .before .before .least .result
+less c = omega (arith, c .before .before .least2 .ensures)
+
+least-requires : tie.Need-least-requires
+least-requires c κs = search needs
+
+least-requires-2 : tie.Need-least-requires-2
+least-requires-2 c κs = search needs
+
+slice-aggregate-scan : tie.Need-slice-aggregate-scan
+slice-aggregate-scan c = search needs
+
+scan-requires : tie.Need-scan-requires
+scan-requires c κs = search needs
+
+enum-known-next : tie.Need-enum-known-next
+enum-known-next c = search needs
+
+refusal-of-requires : tie.Need-refusal-of-requires
+refusal-of-requires c κs =
+    let s = c .before .before .before .before .before in
+    let n = refused-between (ready s) _ (s .scan .ensures) (c .before .before .next .given .1) in
+    (omega (arith, n .0), omega (arith, n .1))
+
+returns : tie.Need-returns
+returns c =
+    let s = c .before .before .before .before .before .before in
+    less-refused (ready s) _ (s .scan .ensures) (c .before .before .before .next .given .1) (less s) (λ z. omega (arith, z, c .before .if1 .taken)) _ (c .refusal-of .ensures)
+
+read-long-requires : tie.Need-read-long-requires
+read-long-requires c κs = search needs
+
+same-length : tie.Need-same-length
+same-length c = search needs
+
+returns-2 : tie.Need-returns-2
+returns-2 c = search needs
+
+enum-known-next-2 : tie.Need-enum-known-next-2
+enum-known-next-2 c = search needs
+
+array-share-prefix-area : tie.Need-array-share-prefix-area
+array-share-prefix-area c =
+    let s = c .before .before .before .before in
+    omega (arith, made-within (ready s) _ (s .scan .ensures) (c .before .next2 .given .1), s .before .before .least2 .ensures)
+
+slice-aggregate-put : tie.Need-slice-aggregate-put
+slice-aggregate-put c = sym (length-take-le _ (c .before .before .before .before .before .scan .last .1 .1 .1 .1 .0) (array-share-prefix-area (c .before)))
+
+put-requires : tie.Need-put-requires
+put-requires c κs =
+    let s = c .before .before .before .before .before .before in
+    omega (arith, slice-aggregate-put (c .before), made-within (ready s) _ (s .scan .ensures) (c .before .before .before .next2 .given .1), less s, ready s .room)
+
+returns-3 : tie.Need-returns-3
+returns-3 c =
+    let s = c .before .before .before .before .before .before in
+    all-refused (ready s) _ (s .scan .ensures) (c .before .before .before .next .given .1) (omega (arith, less s, c .if2 .left)) BeyondBuffer (omega (arith, c .before .if1 .left))
+
+same-length-2 : tie.Need-same-length-2
+same-length-2 c = search needs
+
+returns-4 : tie.Need-returns-4
+returns-4 c =
+    let s = c .before .before .before .before .before .before .before .before .before in
+    short-read (ready s) _ (s .scan .ensures) (c .before .before .before .before .before .before .next2 .given .1) (less s) (c .before .before .put .ensures .1)
+
+pub read-short-spec : {M : Type 1} → statement M
+read-short-spec =
+    tie.close
+    (tie.spec
+    least-requires
+    least-requires-2
+    slice-aggregate-scan
+    scan-requires
+    enum-known-next
+    refusal-of-requires
+    returns
+    read-long-requires
+    same-length
+    returns-2
+    enum-known-next-2
+    array-share-prefix-area
+    slice-aggregate-put
+    put-requires
+    returns-3
+    same-length-2
+    returns-4)

@@ -1,0 +1,114 @@
+-- A loop over values that stand in the bytes, each carried: what is left of them, from where it stands, ends and writes as all of them do.
+use mathlib.Core.Path.{_≡_, sym, _∙_, ap, subst}
+use mathlib.Core.Bool.{Bool, true}
+use mathlib.Core.List.{List, [], _∷_, map}
+use Prim.Native.Nat.{ℕ, suc, _+_, _-_, _≤_, _<_}
+use native.Mathlib.Nat.{sub-zero}
+use native.Mathlib.Omega.{arith}
+use lib.ListN.{length, take, drop, length-take, length-drop}
+use Rattle.rules.specs.Outcome.{Outcome, done}
+use Rattle.rules.specs.Lists.{Bytes}
+use Rattle.rules.specs.Values.{allowed, carried, first-value}
+use Rattle.rules.specs.Record.{times, stored-value}
+use Rattle.rules.proofs.Steps.{from-done}
+use Rattle.kinds.specs.Formats.{format-at}
+use Rattle.values.specs.Places.{Found}
+use Rattle.values.specs.declared.First.{First}
+use Rattle.values.specs.declared.First.the-variants.{Value, Refused as Bad}
+use Rattle.records.specs.Places.{Content-of}
+use Rattle.records.proofs.Cells.{times-first, times-none, value-first}
+use Rattle.records.proofs.Contents.{content-found, content-none}
+use Rattle.records.proofs.Normals.{first-at}
+use Rattle.reading.specs.Filling.{within, Filling}
+use Rattle.reading.specs.Runs.{together, Wants, carried-to, Stand}
+use Rattle.reading.specs.declared.Next.{Next}
+use Rattle.reading.specs.declared.Next.the-variants.{At, Refused}
+use Rattle.reading.specs.declared.Wanted.{Wanted}
+use Rattle.reading.proofs.Going.{Going, going-start, going-end, turn, turn-within, stop}
+use Rattle.reading.proofs.Together.{together-one}
+
+pub record Carrying (w : Wanted) (b : Bytes) (end n : ℕ) (us : List Bytes) (i q start at : ℕ) (write : Bool) (out₀ out : Bytes) : Type 0 where
+  pub left : List Bytes
+  pub stand : Stand w b q (n - i) left
+  pub place : q ≤ length b
+  pub fits : at ≤ end
+  pub room : end ≤ length out
+  pub going : Going (together (end - start) (map (carried-to w) us)) (together (end - at) (map (carried-to w) left)) start at write out₀ out
+
+pub carry-start : (w : Wanted) (b : Bytes) (end n : ℕ) (us : List Bytes) (q at : ℕ) (write : Bool) (out : Bytes) → Stand w b q n us → q ≤ length b → at ≤ end → end ≤ length out
+    → Carrying w b end n us 0 q at at write out out
+carry-start w b end n us q at write out s h f r = record {
+  left = us;
+  stand = subst (λ (k : ℕ). Stand w b q k us) (sym (sub-zero n)) s;
+  place = h;
+  fits = f;
+  room = r;
+  going = going-start (together (end - at) (map (carried-to w) us)) at write out;
+}
+
+-- The value that stands first of those that are left, between two places, and those behind it.
+pub record Ahead (w : Wanted) (b : Bytes) (us : List Bytes) (n from next : ℕ) : Type 0 where
+  pub value : Bytes
+  pub others : List Bytes
+  pub is : us ≡ value ∷ others
+  pub content : Content-of (format-at (w .own)) (w .standard) b value from next
+  pub stand : Stand w b next n others
+
+module _ {w : Wanted} (h : Wants w) {b : Bytes} {end n : ℕ} {us : List Bytes} {i q start at : ℕ} {write : Bool} {out₀ out : Bytes}
+    (g : Carrying w b end n us i q start at write out₀ out) where
+  module _ (more : i < n) {first : First} (f : Found b q (first-value (w .standard) (drop q b)) first) where
+    next-there : {C : Type 0} → ((v mid : Bytes) (vs : List Bytes) → g .left ≡ v ∷ vs → stored-value (format-at (w .own)) (w .standard) (drop q b) ≡ done (v, mid)
+        → times (n - (i + 1)) (stored-value (format-at (w .own)) (w .standard)) mid ≡ done (vs, g .stand .0) → C) → C
+    next-there k =
+        let e : n - i ≡ suc (n - (i + 1)) = omega arith in
+        times-first (stored-value (format-at (w .own)) (w .standard)) (n - (i + 1)) (drop q b) (rw e at (g .stand .1)) λ v vs mid l p t. k v mid vs l p t
+
+    pub carry-ahead : {from next : ℕ} → first ≡ Value from next → Ahead w b (g .left) (n - (i + 1)) from next
+    carry-ahead {from} {next} e = next-there λ v mid vs l p t.
+        value-first (format-at (w .own)) (w .standard) (drop q b) p λ c c₂ c₃ c₄ c₅ c₆.
+        from-done (sym c₂ ∙ first-at f e .0) λ same behind. record {
+          value = v;
+          others = vs;
+          is = l;
+          content = content-found b q (w .standard) f (format-at (w .own)) v mid (h .standard) p e;
+          stand = (g .stand .0, rw (← behind) t);
+        }
+
+    pub carry-none : {k : ℕ} → first ≡ Bad k → ⊥
+    carry-none e = next-there λ v mid vs l p t. content-none b q (w .standard) f (format-at (w .own)) v mid (h .standard) p e
+
+  module _ {from next : ℕ} (x : Ahead w b (g .left) (n - (i + 1)) from next) where
+    pub value-long : allowed (format-at (w .own)) (length (take (next - from) (drop from b))) ≡ true
+    value-long =
+        let y = x .content in
+        let e : length (take (next - from) (drop from b)) ≡ next - from = simp (length-take, length-drop) (omega (arith, y .ordered, y .inside)) in
+        ap (allowed (format-at (w .own))) e ∙ y .long
+
+    module _ {out′ : Bytes} {m : Next} (f : Filling (within (end - at) (carried (format-at (w .own)) (format-at (w .format)) (w .size) (take (next - from) (drop from b)))) at write out out′ m) where
+      put : Filling (together (end - at) (carried-to w (x .value) ∷ [])) at write out out′ m
+      put = subst (λ (o : Outcome Bytes). Filling o at write out out′ m)
+          (ap (λ (v : Bytes). within (end - at) (carried (format-at (w .own)) (format-at (w .format)) (w .size) v)) (sym (x .content .is)) ∙ sym (together-one (end - at) (carried-to w (x .value)))) f
+
+      parted : Going (together (end - start) (map (carried-to w) us)) (together (end - at) (carried-to w (x .value) ∷ map (carried-to w) (x .others))) start at write out₀ out
+      parted = subst (λ (vs : List Bytes). Going (together (end - start) (map (carried-to w) us)) (together (end - at) (map (carried-to w) vs)) start at write out₀ out) (x .is) (g .going)
+
+      pub carry-on : (at′ : ℕ) → m ≡ At at′ → Carrying w b end n us (i + 1) next start at′ write out₀ out′
+      carry-on at′ e =
+          let t = turn end (carried-to w (x .value) ∷ []) (map (carried-to w) (x .others)) parted put (g .fits) (g .room) at′ e in
+          record {
+            left = x .others;
+            stand = x .stand;
+            place = x .content .inside;
+            fits = turn-within end (carried-to w (x .value) ∷ []) (map (carried-to w) (x .others)) parted put (g .fits) (g .room) at′ e .1;
+            room = omega (arith, t .same, g .going .same, g .room);
+            going = t;
+          }
+
+      pub carry-off : (k : ℕ) → m ≡ Refused k → Filling (together (end - start) (map (carried-to w) us)) start write out₀ out′ (Refused k)
+      carry-off k e = stop end (carried-to w (x .value) ∷ []) (map (carried-to w) (x .others)) parted put (g .fits) (g .room) k e
+
+  pub carry-end : n ≤ i → Filling (together (end - start) (map (carried-to w) us)) start write out₀ out (At at)
+  carry-end over =
+      let z : n - i ≡ 0 = omega arith in
+      let e = times-none (stored-value (format-at (w .own)) (w .standard)) (drop q b) (rw z at (g .stand .1)) .0 in
+      going-end (end - at) (subst (λ (vs : List Bytes). Going (together (end - start) (map (carried-to w) us)) (together (end - at) (map (carried-to w) vs)) start at write out₀ out) e (g .going))
