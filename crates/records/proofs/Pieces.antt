@@ -20,7 +20,7 @@ use Rattle.tables.specs.Groups.{field-at}
 use Rattle.tables.specs.Places.{inside-at, inside-before}
 use Rattle.records.specs.Walk.{rest-of, bytes-left, behind, start-of}
 use Rattle.records.specs.Where.{inside-from, field-of, fields-of}
-use Rattle.records.specs.Places.{Held, values-of, Outside, Piece-of}
+use Rattle.records.specs.Places.{Held, values-of, Outside, Celled, Piece-of}
 use Rattle.records.specs.declared.places.Content.the-variants.{At}
 use Rattle.records.proofs.Entries.{never}
 use Rattle.records.proofs.Cells.{counted-once}
@@ -113,4 +113,5 @@ module _ {es : List Entry} {b : Bytes} {places : List ℕ} {r : Record} (held : 
       let d : drop p b ≡ vs ++ drop q b = dp ∙ chain (end - first) first end (omega arith) h out ∙ ap (λ (bs : Bytes). vs ++ bs) (sym dq) in
       let l = ap length d ∙ length-append vs (drop q b) in
       let n : length vs ≡ q - p = omega (arith, l, length-drop p b, length-drop q b) in
-      (omega (arith, l, length-drop p b, length-drop q b), hq, ap (take (q - p)) d ∙ take-at vs (drop q b) (q - p) n)
+      let cells : Celled es first end 1 r = λ j low high g. let c = cell-outside held named j 1 (omega arith) g (out j low high .0) refl in (drop (getD places j 0) b, c .1, c .2) in
+      (omega (arith, l, length-drop p b, length-drop q b), hq, ap (take (q - p)) d ∙ take-at vs (drop q b) (q - p) n, cells)

@@ -21,7 +21,7 @@ use Rattle.tables.proofs.Nesting.{members-inside}
 use Rattle.records.specs.Walk.{rest-of, Walked, occurrence}
 use Rattle.records.specs.Where.{field-of, fields-of}
 use Rattle.records.specs.Paths.{lengths}
-use Rattle.records.specs.Places.{Held, values-of, Piece-of}
+use Rattle.records.specs.Places.{Held, values-of, Celled, Piece-of}
 use Rattle.records.specs.declared.Step.the-variants as S
 use Rattle.records.specs.declared.places.Content.the-variants.{At}
 use Rattle.records.proofs.Entries.{never}
@@ -31,7 +31,7 @@ use Rattle.records.proofs.Ends.{each-single, group-within}
 use Rattle.records.proofs.Groups.{fields-split}
 use Rattle.records.proofs.Skips.{plain-both, fields-skipped}
 use Rattle.records.proofs.Widths.{plains-append, lengths-append}
-use Rattle.records.proofs.Placed.{field-is, cell-missing, cell-stands}
+use Rattle.records.proofs.Placed.{field-is, cell-missing, cell-there, cell-stands}
 use Rattle.records.proofs.Pieces.{once-bytes, values-append, inside-group}
 
 both-true : {C : Type 0} (x y : Bool) → (x && y) ≡ true → (x ≡ true → y ≡ true → C) → C
@@ -39,10 +39,10 @@ both-true true y h k = k refl h
 both-true false y h k = absurd (never refl h)
 
 -- The fields among entries are the first one's and the others.
-abbrev own : List Entry → ℕ → List Field
+abbrev pub own : List Entry → ℕ → List Field
 own es i = field-of (getD es i blank .name) (getD es i blank .what)
 
-first-own : (es : List Entry) (i j : ℕ) → i < j → j ≤ length es → fields-of (slice i j es) ≡ own es i ++ fields-of (slice (suc i) j es)
+pub first-own : (es : List Entry) (i j : ℕ) → i < j → j ≤ length es → fields-of (slice i j es) ≡ own es i ++ fields-of (slice (suc i) j es)
 unfolding fields-of
 first-own es i j less most = rw (slice-cons i j es blank less most) refl
 
@@ -141,4 +141,6 @@ module _ (t : Bytes) (valid : Valid t) {b : Bytes} {places : List ℕ} {r : Reco
         let vs = values-of es r o (fields-of (slice first end es)) in
         let x = chain-in (end - first) first end q (omega arith) k h c before in
         let n : length vs ≡ q + w - q = omega (arith, ap length (x .1), length-append vs (drop (q + w) b), length-drop q b, length-drop (q + w) b, x .0) in
-        (omega arith, x .0, ap (take (q + w - q)) (x .1) ∙ take-at vs (drop (q + w) b) (q + w - q) n)
+        let cells : Celled es first end o r = λ j low high e.
+          cell-there held (valid-names t valid) j g o (omega (arith, group-within es g there .1)) e some (home-in j (omega arith) (omega arith)) many λ one cell next h₁ h₂ h₃. (cell, next, h₃) in
+        (omega arith, x .0, ap (take (q + w - q)) (x .1) ∙ take-at vs (drop (q + w) b) (q + w - q) n, cells)

@@ -10,7 +10,7 @@ use Rattle.rules.specs.Lists.{Bytes, join}
 use Rattle.rules.specs.Values.{Format, content, allowed}
 use Rattle.rules.specs.Table.{Entry, Field, parts}
 use Rattle.rules.specs.Record.{Record, times, each, stored-cell, stored, group-count-at, values-at}
-use Rattle.tables.specs.Entries.{blank, is-multiple}
+use Rattle.tables.specs.Entries.{blank, is-group, is-multiple}
 use Rattle.tables.specs.Groups.{field-at}
 use Rattle.tables.specs.Places.{inside-at}
 use Rattle.records.specs.Walk.{rest-of, Walked, occurrence, Starts, Rows}
@@ -73,7 +73,13 @@ values-of es r o (f ∷ fs) = join (values-at (parts es) r (f .name) o) ++ value
 abbrev pub Outside : List Entry → ℕ → ℕ → Type 0
 Outside es first end = (j : ℕ) → first ≤ j → j < end → (inside-at es j ≡ false) × (is-multiple (getD es j blank .what) ≡ false)
 
--- The piece of a record that the fields among the entries from first to end are, in occurrence o.
+-- Each of the fields among the entries from first to end has its cell in occurrence o.
+abbrev pub Celled : List Entry → ℕ → ℕ → ℕ → Record → Type 0
+Celled es first end o r = (j : ℕ) → first ≤ j → j < end → is-group (getD es j blank .what) ≡ false
+    → (bs : Bytes) × (rest : Bytes) × (stored-cell (field-at es j) bs ≡ done (values-at (parts es) r (getD es j blank .name) o, rest))
+
+-- The piece of a record that those fields are; or there is no such occurrence.
 abbrev pub Piece-of : List Entry → Bytes → ℕ → ℕ → ℕ → Record → Content → Type 0
-Piece-of es b first end o r (Lies from upto) = (from ≤ upto) × (upto ≤ length b) × (take (upto - from) (drop from b) ≡ values-of es r o (fields-of (slice first end es)))
+Piece-of es b first end o r (Lies from upto) =
+    (from ≤ upto) × (upto ≤ length b) × (take (upto - from) (drop from b) ≡ values-of es r o (fields-of (slice first end es))) × Celled es first end o r
 Piece-of es b first end o r Absent = values-of es r o (fields-of (slice first end es)) ≡ []
