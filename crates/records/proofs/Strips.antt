@@ -142,5 +142,5 @@ module _ (t : Bytes) (valid : Valid t) {b : Bytes} {places : List ℕ} {r : Reco
         let x = chain-in (end - first) first end q (omega arith) k h c before in
         let n : length vs ≡ q + w - q = omega (arith, ap length (x .1), length-append vs (drop (q + w) b), length-drop q b, length-drop (q + w) b, x .0) in
         let cells : Celled es first end o r = λ j low high e.
-          cell-there held (valid-names t valid) j g o (omega (arith, group-within es g there .1)) e some (home-in j (omega arith) (omega arith)) many λ one cell next h₁ h₂ h₃. (cell, next, h₃) in
+        cell-there held (valid-names t valid) j g o (omega (arith, group-within es g there .1)) e some (home-in j (omega arith) (omega arith)) many λ one cell next h₁ h₂ h₃. (cell, next, h₃) in
         (omega arith, x .0, ap (take (q + w - q)) (x .1) ∙ take-at vs (drop (q + w) b) (q + w - q) n, cells)
