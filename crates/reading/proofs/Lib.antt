@@ -13,3 +13,4 @@ pub mod Together
 pub mod Turns
 pub mod Unbare
 pub mod Values
+pub mod Pieces

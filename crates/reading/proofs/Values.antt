@@ -41,7 +41,7 @@ unfolding field-by
 name-by n (field f s m) = refl
 name-by n (group p) = refl
 
-name-at : (es : List Entry) (i : ℕ) → field-at es i .name ≡ getD es i blank .name
+pub name-at : (es : List Entry) (i : ℕ) → field-at es i .name ≡ getD es i blank .name
 unfolding field-at
 name-at es i = name-by (getD es i blank .name) (getD es i blank .what)
 

@@ -5,6 +5,7 @@ use mathlib.Core.List.{List, [], _∷_, _++_, map}
 use Prim.Native.Nat.{ℕ, pred, _+_, _-_, _≤_, _<_}
 use lib.Dec.{leb}
 use lib.ListN.{length, take, drop, getD}
+use lib.Seq.{slice}
 use Rattle.rules.specs.Outcome.{Outcome, done, _>>=_, need}
 use Rattle.rules.specs.Limits.{highest-index}
 use Rattle.rules.specs.Lists.{Bytes}
@@ -20,7 +21,10 @@ use Rattle.tables.specs.Groups.{field-at}
 use Rattle.formats.specs.Elements.{range}
 use Rattle.uses.specs.Meant.{fields-from, asked-of}
 use Rattle.uses.specs.declared.Span.{Span}
+use Rattle.records.specs.Where.{fields-of}
+use Rattle.records.specs.Paths.{Wide, Leads}
 use Rattle.records.specs.Places.{Held}
+use Rattle.records.specs.declared.paths.Path.{Path}
 use Rattle.records.specs.declared.places.Cell.{Cell}
 use Rattle.records.specs.declared.places.Cell.the-variants as cell
 use Rattle.reading.specs.Filling.{Filling}
@@ -112,3 +116,9 @@ row-items es s o = value-items (asked-of es s) (just o) (range (s .«value_from�
 
 abbrev pub span-items : List Entry → Span → ℕ → List Item
 span-items es s o = value-items (asked-of es s) (range o (s .upto)) (range (s .«value_from») (s .«value_upto»)) false
+
+-- The way to the first entry of a span, and where that lies in a periodic group, the width of the span's fields.
+pub record Way (es : List Entry) (s : Span) (path : Path) (width : ℕ) : Type 0 where
+  pub entry : path .entry ≡ s .first
+  pub leads : Leads es path
+  pub wide : path .inside ≡ true → Wide (fields-of (slice (s .first) (s .end) es)) width

@@ -4,25 +4,32 @@ ghost use mathlib.Core.List.{_∷_, [], List, map};
 ghost use mathlib.Core.Bool.{true, false};
 ghost use Prim.Native.Nat.{_+_, _-_, _≤_, _<_};
 ghost use lib.ListN.{length, replicate, drop};
+ghost use lib.Seq.{slice};
 ghost use Rattle.rules.specs.Outcome.{done};
 ghost use Rattle.rules.specs.Characters.{space};
 ghost use Rattle.rules.specs.Values.{allowed, null, carried};
 ghost use Rattle.rules.specs.Limits.{highest-index};
-ghost use Rattle.rules.specs.Lists.{Bytes, join};
-ghost use Rattle.rules.specs.Use.{value-items, just, items-of};
+ghost use Rattle.rules.specs.Lists.{Bytes, all, join};
+ghost use Rattle.rules.specs.Use.{plain, value-items, just, items-of};
+ghost use Rattle.rules.specs.Record.{Record};
 ghost use Rattle.kinds.specs.Formats.{format-at};
 ghost use Rattle.tables.specs.Entries.{Valid, entries-of};
 ghost use Rattle.tables.specs.Places.{inside-at};
 ghost use Rattle.formats.specs.Elements.{range};
 ghost use Rattle.formats.specs.Syntax.{parsed};
 ghost use Rattle.uses.specs.Meant.{Span-held, Use-held, use-meant};
-ghost use Rattle.records.specs.Places.{Holds};
+ghost use Rattle.records.specs.Where.{fields-of};
+ghost use Rattle.records.specs.Paths.{Wide};
+ghost use Rattle.records.specs.Places.{Held, Holds, Piece-of};
 ghost use Rattle.reading.specs.Filling.{Filling, within};
-ghost use Rattle.reading.specs.Runs.{Fills, together, Wants, carried-to, wanted, Stand, Exist, wanted-at, Cell-holds, asked-at, Askable, Only, field-items, span-items};
+ghost use Rattle.reading.specs.Runs.{Fills, together, Wants, carried-to, wanted, Stand, Exist, wanted-at, Cell-holds, asked-at, Askable, Only, Way, field-items, row-items, span-items};
 ghost use Rattle.reading.specs.Turns.{Turned, Unless-used, unless, Scans};
 ghost use Rattle.records.specs.declared.places.Cell.the-variants.{At};
 use formats::syntax::Step;
+use records::paths::Path;
 use records::places::Cell;
+use records::places::Content;
+use tables::Found;
 use uses::Meant;
 use uses::Span;
 use uses::Use;
@@ -409,7 +416,62 @@ fn put_fields(
     Next::At(p)
 }
 
-// A span of fields as they are stored, occurrence by occurrence.
+// The bytes of a span's fields together, where all are of fixed length and none is MU.
+fn width(t: &[u8], s: Span) -> usize
+    requires { ⌜ Valid (now t) × Span-held (entries-of (now t)) s ⌝ }
+    ensures { λ w. ⌜ (all plain (fields-of (slice (s .first) (s .end) (entries-of (now (t .entry))))) ≡ true → Wide (fields-of (slice (s .first) (s .end) (entries-of (now (t .entry))))) w) ⌝ }
+{
+    let found = records::paths::width_of(t, s.first, s.end);
+    match found {
+        Found::At(w) => w,
+        Found::Nothing => 0,
+    }
+}
+
+// Where the fields of a span stand in occurrence o, one behind the other, by the way to the first and their width.
+fn piece(
+    t: &[u8],
+    b: &[u8],
+    places: &[u16; records::DIRECTORY],
+    s: Span,
+    path: Path,
+    width: usize,
+    o: usize,
+) -> Content
+    requires { ⌜ Valid (now t) × Span-held (entries-of (now t)) s × (s .standard ≡ true) × Way (entries-of (now t)) s path width × (1 ≤ o) × (o ≤ s .upto) × Holds (entries-of (now t)) (now b) (now places) ⌝ }
+    ensures { λ c. ⌜ ((r : Record) → Held (entries-of (now (t .entry))) (now (b .entry)) (now (places .entry)) r → Piece-of (entries-of (now (t .entry))) (now (b .entry)) (s .first) (s .end) o r c) ⌝ }
+{
+    if path.inside {
+        return records::places::piece_inside(t, b, places, path, s.end, width, o);
+    }
+    records::places::piece_outside(t, b, places, s.first, s.end)
+}
+
+// A span of fields as they are stored, in occurrence o: copied in one piece, or null for each where there is no such occurrence.
+fn put_row(
+    t: &[u8],
+    b: &[u8],
+    places: &[u16; records::DIRECTORY],
+    s: Span,
+    path: Path,
+    width: usize,
+    o: usize,
+    out: &mut [u8],
+    at: usize,
+    end: usize,
+    write: bool,
+) -> Next
+    requires { ⌜ Valid (now t) × Span-held (entries-of (now t)) s × (s .standard ≡ true) × Way (entries-of (now t)) s path width × (1 ≤ o) × (o ≤ s .upto) × Holds (entries-of (now t)) (now b) (now places) × (at ≤ end) × (end ≤ length (now out)) ⌝ }
+    ensures { λ r. ⌜ Fills (entries-of (now (t .entry))) (now (b .entry)) (now (places .entry)) (row-items (entries-of (now (t .entry))) s o) at end write (now (out .entry)) (now (out .exit)) r ⌝ }
+{
+    let found = piece(t, b, places, s, path, width, o);
+    match found {
+        Content::At(from, upto) => put_text(&b[from..upto], out, at, end, write),
+        Content::Nothing => put_fields(t, b, places, s.first, s.end, o, 1, 1, out, at, end, write),
+    }
+}
+
+// A span of fields as they are stored, occurrence by occurrence; the way to them is found once.
 fn put_rows(
     t: &[u8],
     b: &[u8],
@@ -423,23 +485,12 @@ fn put_rows(
     requires { ⌜ Valid (now t) × Span-held (entries-of (now t)) s × (s .standard ≡ true) × Holds (entries-of (now t)) (now b) (now places) × (at ≤ end) × (end ≤ length (now out)) ⌝ }
     ensures { λ r. ⌜ Fills (entries-of (now (t .entry))) (now (b .entry)) (now (places .entry)) (span-items (entries-of (now (t .entry))) s (s .from)) at end write (now (out .entry)) (now (out .exit)) r ⌝ }
 {
+    let path = records::paths::path_to(t, s.first);
+    let width = width(t, s);
     let mut p = at;
     let mut o = s.from;
     while o <= s.upto {
-        let next = put_fields(
-            t,
-            b,
-            places,
-            s.first,
-            s.end,
-            o,
-            s.value_from,
-            s.value_upto,
-            out,
-            p,
-            end,
-            write,
-        );
+        let next = put_row(t, b, places, s, path, width, o, out, p, end, write);
         match next {
             Next::Refused(n) => {
                 return Next::Refused(n);

@@ -3,12 +3,11 @@ use mathlib.Core.Path.{_≡_, refl, sym, _∙_, ap}
 use mathlib.Core.Bool.{true, false}
 use mathlib.Core.List.{List, [], _∷_, _++_}
 use mathlib.Core.Option.{none}
-use Prim.Native.Nat.{ℕ, zero, suc, _*_, _≤_, _<_}
-use native.Mathlib.Nat.{not-suc-le-zero, le-of-suc-le-suc, zero-mul, suc-mul, add-comm}
+use Prim.Native.Nat.{ℕ, zero, suc, _≤_, _<_}
+use native.Mathlib.Nat.{not-suc-le-zero, le-of-suc-le-suc}
 use native.Mathlib.Omega.{arith}
 use lib.Dec.{eqb, leb, leb→le}
 use lib.ListN.{length, take, drop, getD}
-use lib.Seq.{drop-at, drop-drop}
 use Rattle.rules.specs.Outcome.{Outcome, done, _>>=_}
 use Rattle.rules.specs.Limits.{highest-index}
 use Rattle.rules.specs.Lists.{Bytes}
@@ -122,15 +121,8 @@ value-first f n bs {v} {rest} p c =
     from-done k₂ λ e g.
     c (r .0) (h ∙ rw g refl) (T-true (in-normal-form f n (r .0)) t) (sym e) (ap (content n) (sym e) ∙ content-back n (r .0)) (value-sound f n bs v rest p)
 
--- Values of a fixed length: each is as long, and so many of them end at a place that is reckoned.
+-- A value of a fixed length is as long.
 module _ (f : Format) (m : ℕ) where
   pub value-length : (bs : Bytes) {v rest : Bytes} → stored-value f (suc m) bs ≡ done (v, rest) → length v ≡ suc m
   unfolding first-value with-length-byte
   value-length bs {v} {rest} p = value-first f (suc m) bs p λ c h t e b s. rw e (cut-sound 7 (suc m) bs c rest h .0)
-
-  pub values-end : (k : ℕ) (bs : Bytes) {xs : List Bytes} {mid : Bytes} → times k (stored-value f (suc m)) bs ≡ done (xs, mid) → mid ≡ drop (k * suc m) bs
-  values-end zero bs p = rw zero-mul (sym (times-none (stored-value f (suc m)) bs p .1))
-  values-end (suc k) bs p = times-first (stored-value f (suc m)) k bs p λ x ys mid e h t.
-      value-first f (suc m) bs h λ c h₁ n₁ e₁ b s.
-      let behind : drop (suc m) bs ≡ mid = rw s (drop-at x mid (suc m) (value-length bs h)) in
-      values-end k mid t ∙ ap (drop (k * suc m)) (sym behind) ∙ drop-drop (k * suc m) (suc m) bs ∙ rw (add-comm (suc m) (k * suc m), suc-mul k (suc m)) refl

@@ -14,12 +14,12 @@ use Rattle.rules.specs.Table.{Entry, is-inside, parts}
 use Rattle.rules.specs.Record.{stored}
 use Rattle.buffer.proofs.Cases.{by-order}
 use Rattle.tables.specs.Entries.{blank}
-use Rattle.records.specs.Walk.{Walked, behind, is-headed, directory, occurrence, rows-of, Kept, Keeps, Rows, Checked}
+use Rattle.records.specs.Walk.{Walked, behind, is-headed, directory, occurrence, rows-of, Kept, Rows, Checked}
 use Rattle.records.specs.declared.Step.{Step}
 use Rattle.records.specs.declared.Step.the-variants.{At, Bad}
 use Rattle.records.proofs.Entries.{never}
 use Rattle.records.proofs.Walks.{walked-at, walked-bad}
-use Rattle.records.proofs.Checking.{Checking, start, turn, bad, over}
+use Rattle.records.proofs.Checking.{Checking, turn, bad, over}
 use Rattle.records.proofs.Heads.{stored-headless, stored-bad, stored-over}
 
 refuses : (es : List Entry) (b : Bytes) (places : List ℕ) (ok : Bool) → is-done (stored (parts es) b) ≡ false → ok ≡ false → Checked es b places ok

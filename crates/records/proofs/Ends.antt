@@ -50,7 +50,7 @@ module _ {X : Type 0} (one : Reader X) (b : Bytes) (at : ℕ) where
       (count-missing one b at)
 
 -- One reader alone.
-each-single : {X Y : Type 0} (one : Y → Reader X) (y : Y) (bs : Bytes) → rest-of (each one (y ∷ []) bs) ≡ rest-of (one y bs)
+pub each-single : {X Y : Type 0} (one : Y → Reader X) (y : Y) (bs : Bytes) → rest-of (each one (y ∷ []) bs) ≡ rest-of (one y bs)
 unfolding each
 each-single one y bs = by-outcome (rest-of (one y bs)) (λ cs h. each-turn one y [] bs h ∙ sym h) (λ k h. each-stop one y [] bs h ∙ sym h)
 

@@ -3,13 +3,13 @@ use mathlib.Core.Path.{_≡_, refl, sym, _∙_, ap}
 use mathlib.Core.Bool.{Bool, true}
 use mathlib.Core.List.{List, [], _∷_, _++_, append-assoc}
 use mathlib.Core.Option.{none, some}
-use Prim.Native.Nat.{ℕ, zero, suc, _≤_, _<_}
+use Prim.Native.Nat.{ℕ, zero, suc, _+_, _≤_, _<_}
 use native.Mathlib.Nat.{not-suc-le-zero, le-of-suc-le-suc}
 use native.Mathlib.Omega.{arith}
 use borrow.Author.Tests.{le-leb}
 use lib.Dec.{eqb}
 use lib.ListN.{length, take, drop, getD}
-use lib.Seq.{slice}
+use lib.Seq.{slice, slice-cons, slice-empty}
 use Rattle.rules.specs.Outcome.{done}
 use Rattle.rules.specs.Lists.{Bytes}
 use Rattle.rules.specs.Values.{Format}
@@ -37,6 +37,14 @@ split-below [] d g j o l h = absurd (not-suc-le-zero l)
 split-below (e ∷ es) d g zero o l h = absurd (not-suc-le-zero o)
 split-below (e ∷ es) d zero (suc j) o l h = split-first es d j (le-of-suc-le-suc l) (λ k q. h (suc k) (omega arith) (omega arith))
 split-below (e ∷ es) d (suc g) (suc j) o l h = split-below es d g j (le-of-suc-le-suc o) (le-of-suc-le-suc l) (λ k p q. h (suc k) (omega arith) (omega arith))
+
+-- The fields among entries, in two runs.
+pub fields-split : (es : List Entry) (d : Entry) (n i k j : ℕ) → i + n ≡ k → k ≤ j → j ≤ length es → fields-of (slice i j es) ≡ fields-of (slice i k es) ++ fields-of (slice k j es)
+unfolding fields-of
+fields-split es d zero i k j e h l = let z : i ≡ k = omega arith in rw (z, slice-empty k es) refl
+fields-split es d (suc n) i k j e h l = rw (slice-cons i j es d (omega arith) l, slice-cons i k es d (omega arith) (omega arith))
+    (ap (λ (fs : List Field). field-of (getD es i d .name) (getD es i d .what) ++ fs) (fields-split es d n (suc i) k j (omega arith) h l)
+    ∙ sym (append-assoc (field-of (getD es i d .name) (getD es i d .what)) (fields-of (slice (suc i) k es)) (fields-of (slice k j es))))
 
 -- Before the first entry with a name there is no field with it.
 pub none-between : (n : ℕ) (es : List Entry) (g j : ℕ) → First n es j → member n (fields-of (slice g j es)) ≡ none

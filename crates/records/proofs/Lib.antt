@@ -18,3 +18,5 @@ pub mod Placed
 pub mod Contents
 pub mod Skips
 pub mod Widths
+pub mod Pieces
+pub mod Strips

@@ -14,7 +14,7 @@ use Rattle.rules.specs.Lists.{Bytes, same, nothing}
 use Rattle.rules.specs.Values.{Format}
 use Rattle.rules.specs.Table.{What, field, group, Entry, Part, is-inside, fields-below, names, differ, parts}
 use Rattle.rules.specs.Record.{Record, Occurrence, record-head, times, counted, each, stored-value, stored-cell, stored-part, stored, group-count-at, values-at, value-count-at}
-use Rattle.rules.proofs.Steps.{from-bind, from-need, done-inj, true-T, by-outcome}
+use Rattle.rules.proofs.Steps.{from-bind, from-need, nothing-eq, done-inj, not-done, true-T, by-outcome}
 use Rattle.buffer.proofs.Cases.{by-order}
 use Rattle.tables.specs.Entries.{blank, is-group, is-multiple, is-periodic, size-of, format-at, format-number}
 use Rattle.tables.specs.Places.{inside-at, inside-before, Home}
@@ -23,12 +23,15 @@ use Rattle.tables.proofs.Rows.{number-back}
 use Rattle.tables.proofs.Nesting.{run-levels}
 use Rattle.records.specs.Walk.{rest-of, Walked, Ends, directory, occurrence, Checked}
 use Rattle.records.specs.Where.{inside-from, First, Deeper, fields-of}
-use Rattle.records.specs.Places.{Held, Holds, Cell-of}
+use Rattle.records.specs.Places.{Held, Holds, Entered, Cell-of}
 use Rattle.records.specs.declared.Step.the-variants as S
+use Rattle.records.specs.declared.places.Cell.{Cell}
 use Rattle.records.specs.declared.places.Cell.the-variants.{At, Nothing}
 use Rattle.records.proofs.Cells.{cell-many, byte-there, times-at}
 use Rattle.records.proofs.Entries.{never, differ-first, inside-first, inside-next}
-use Rattle.records.proofs.Ends.{group-fields, rows-some}
+use Rattle.records.proofs.Ends.{group-fields, group-within, rows-some}
+use Rattle.records.proofs.Checking.{each-off}
+use Rattle.records.proofs.Groups.{fields-split}
 use Rattle.records.proofs.Lookups.{Grouped, outside, grouped}
 use Rattle.records.proofs.Occurrences.{occurrences, values-missing, values-there}
 
@@ -39,21 +42,24 @@ holds es b places ok c t = by-outcome (stored (parts es) b)
     (λ n h. absurd (never (c .answer ∙ ap is-done h) t))
 
 -- The body of a record is what its parts read.
-body : {C : Type 0} (ps : List Part) (b : Bytes) (r : Record) → stored ps b ≡ done r → ((rest : Bytes) → each stored-part ps (drop 5 b) ≡ done (r, rest) → C) → C
+pub whole-body : {C : Type 0} (ps : List Part) (b : Bytes) (r : Record) → stored ps b ≡ done r → ((rest : Bytes) → each stored-part ps (drop 5 b) ≡ done (r, rest) → rest ≡ [] → C) → C
 unfolding stored
-body ps b r p k =
+whole-body ps b r p k =
     from-need (leb (length b) longest-record) 2 _ p λ t k₁.
     from-need (same (take 5 b) record-head) 2 _ k₁ λ t₂ k₂.
     from-bind (each stored-part ps (drop 5 b)) _ k₂ λ x h k₃.
     from-need (nothing (x .1)) 2 _ k₃ λ t₃ k₄.
-    k (x .1) (h ∙ rw (done-inj k₄) refl)
+    k (x .1) (h ∙ rw (done-inj k₄) refl) (nothing-eq (x .1) t₃)
+
+body : {C : Type 0} (ps : List Part) (b : Bytes) (r : Record) → stored ps b ≡ done r → ((rest : Bytes) → each stored-part ps (drop 5 b) ≡ done (r, rest) → C) → C
+body ps b r p k = whole-body ps b r p λ rest h z. k rest h
 
 -- An entry that is no group is a field.
 pub by-field : {C : Type 0} (w : What) → is-group w ≡ false → ((f : Format) (s : ℕ) (mu : Bool) → w ≡ field f s mu → C) → C
 by-field (field f s mu) h k = k f s mu refl
 by-field (group p) h k = absurd (never h refl)
 
-field-is : (es : List Entry) (i : ℕ) (f : Format) (s : ℕ) (mu : Bool) → getD es i blank .what ≡ field f s mu
+pub field-is : (es : List Entry) (i : ℕ) (f : Format) (s : ℕ) (mu : Bool) → getD es i blank .what ≡ field f s mu
     → field-at es i ≡ record { name = getD es i blank .name; format = f; size = s; multiple = mu }
 unfolding field-at field-by
 field-is es i f s mu w = ap (field-by (getD es i blank .name)) w
@@ -66,7 +72,7 @@ unfolding stored-cell
 cell-numbers es i bs h = by-field (getD es i blank .what) h λ f s mu w. rw (field-is es i f s mu w, w, number-back f) refl
 
 -- Both ways to say that an entry lies in a periodic group.
-inside-same : (es : List Entry) (i : ℕ) → i < length es → inside-from false es i ≡ inside-at es i
+pub inside-same : (es : List Entry) (i : ℕ) → i < length es → inside-from false es i ≡ inside-at es i
 unfolding inside-at inside-before
 inside-same es zero h = inside-first false es blank h
 inside-same es (suc i) h = inside-next false es blank i h ∙ ap (λ (p : Bool). is-inside p (getD es (suc i) blank)) (inside-same es i (omega arith))
@@ -77,9 +83,17 @@ home-deeper es i g home k p q =
     let l = run-levels 1 (drop (suc g) es) (k - suc g) (omega (arith, home .within)) in
     rw (getD-drop (suc g) es (k - suc g) blank, z) at l
 
--- A field in a periodic group stands behind it.
-pub home-before : (es : List Entry) (i g : ℕ) → is-group (getD es i blank .what) ≡ false → Home es i g → g < i
-home-before es i g what home = by-order g i (λ l. l) (λ l. let z : g ≡ i = omega (arith, home .upto) in absurd (never (rw (← z) at what) (ap is-group (home .periodic))))
+-- What lies in a periodic group stands behind it.
+pub home-before : (es : List Entry) (i g : ℕ) → is-periodic (getD es i blank .what) ≡ false → Home es i g → g < i
+home-before es i g what home = by-order g i (λ l. l) (λ l. let z : g ≡ i = omega (arith, home .upto) in absurd (never (rw (← z) at what) (ap is-periodic (home .periodic))))
+
+pub field-periodic : (w : What) → is-group w ≡ false → is-periodic w ≡ false
+field-periodic (field f s mu) h = refl
+field-periodic (group p) h = absurd (never h refl)
+
+pub home-end : (es : List Entry) (i g : ℕ) → Home es i g → i ≤ group-end es g
+unfolding group-end
+home-end es i g home = rw (home .level) (omega (arith, home .within))
 
 -- Bytes that hold a record by a table's entries, of which each is the first with its name.
 module _ {es : List Entry} {b : Bytes} {places : List ℕ} {r : Record} (held : Held es b places r) (named : differ (names es) ≡ true) where
@@ -118,6 +132,24 @@ module _ {es : List Entry} {b : Bytes} {places : List ℕ} {r : Record} (held : 
         times-at (each stored-cell (fields-below 1 (drop (suc g) es))) [] (length os) k tail (omega (arith, c .1)) s λ one after h₁ h₂.
         (one, rw (← group-fields es g level, add-one (getD places g 0), ← c .2) (ap rest-of h₁))
 
+    -- The occurrence that stands at p, and its fields up to an entry, come to an end.
+    module _ (level : getD es g blank .level ≡ 1) (o : ℕ) (some : 1 ≤ o) (many : o ≤ group-count-at (parts es) r (getD es g blank .name)) (p : ℕ)
+        (row : Walked b (rest-of (times (o - 1) (occurrence es g) (drop (getD places g 0 + 1) b))) (S.At p)) where
+      row-whole : Ends (rest-of (each stored-cell (fields-of (slice (g + 1) (group-end es g) es)) (drop p b)))
+      unfolding occurrence parts
+      row-whole = group-there λ os mid q.
+          occurrences q λ tail h most s.
+          let c = byte-there b (getD places g 0) (held .starts g less .1 ∙ h) in
+          times-at (each stored-cell (fields-below 1 (drop (suc g) es))) [] (length os) (o - 1) tail (omega (arith, q .count (getD es g blank .name) (own-name g less))) s λ one after h₁ h₂.
+          let e : one ≡ drop p b = done-inj (sym (ap rest-of h₁) ∙ rw (group-fields es g level, c .2, ← add-one (getD places g 0)) (sym (row .answer))) in
+          (after, rw (e, group-fields es g level) at (ap rest-of h₂))
+
+      pub members-end : (i : ℕ) → g < i → i ≤ group-end es g → Ends (rest-of (each stored-cell (fields-of (slice (g + 1) i es)) (drop p b)))
+      members-end i l m = by-outcome (rest-of (each stored-cell (fields-of (slice (g + 1) i es)) (drop p b)))
+          (λ cs h. (cs, h))
+          (λ k h. absurd (not-done (sym (each-off stored-cell (fields-of (slice i (group-end es g) es)) (fields-of (slice (g + 1) i es)) (drop p b) k h)
+          ∙ rw (fields-split es blank (i - (g + 1)) (g + 1) i (group-end es g) (omega arith) m (group-within es g less .1)) at (row-whole .1))))
+
     pub row-kept : (k : ℕ) → k < getD b (getD places g 0) 0 → getD places (64 + g) 0 + k < directory
         → Walked b (rest-of (times k (occurrence es g) (drop (getD places g 0 + 1) b))) (S.At (getD places (getD places (64 + g) 0 + k) 0))
     row-kept k some room = held .rows g less k (rw (rows-some (getD es g blank .what) (getD b (getD places g 0) 0) (ap is-periodic what)) some) room
@@ -125,7 +157,7 @@ module _ {es : List Entry} {b : Bytes} {places : List ℕ} {r : Record} (held : 
   -- Entry i, a field in the periodic group that entry g is, in occurrence o.
   module _ (i g o : ℕ) (less : i < length es) (what : is-group (getD es i blank .what) ≡ false) (some : 1 ≤ o) (home : Home es i g) where
     group-before : g < i
-    group-before = home-before es i g what home
+    group-before = home-before es i g (field-periodic (getD es i blank .what) what) home
 
     pub cell-missing : group-count-at (parts es) r (getD es g blank .name) < o → values-at (parts es) r (getD es i blank .name) o ≡ []
     unfolding parts
@@ -158,13 +190,15 @@ module _ {es : List Entry} {b : Bytes} {places : List ℕ} {r : Record} (held : 
           let e : one ≡ drop p b = done-inj (sym h₁ ∙ sym (row .answer)) in
           k cell next (rw e at h₂) h₃
 
-      pub members-end : Ends (rest-of (each stored-cell (fields-of (slice (g + 1) i es)) (drop p b)))
-      members-end = row-there λ cell next h₁ h₂. (cell, h₁)
-
       pub cell-stands : (q : ℕ) → Walked b (rest-of (each stored-cell (fields-of (slice (g + 1) i es)) (drop p b))) (S.At q) → Cell-of es b i o r (At q)
       cell-stands q w = row-there λ cell next h₁ h₂.
           let d : drop q b ≡ cell = done-inj (w .answer ∙ h₁) in
           (w .place, next, ap (stored-cell (field-at es i)) d ∙ h₂)
+
+  -- What is found of a field in a periodic group is its cell.
+  pub cell-entered : (i g o : ℕ) → i < length es → is-group (getD es i blank .what) ≡ false → 1 ≤ o → Home es i g → (c : Cell) → Entered es b places g i o r c → Cell-of es b i o r c
+  cell-entered i g o less what some home (At q) e = cell-stands i g o less what some home (e .1 .many) (e .0) (e .1 .row) q (e .1 .before)
+  cell-entered i g o less what some home Nothing e = cell-missing i g o less what some home e
 
 -- An MU field is a field, and its count is the byte at its cell's place; 0 where it has no cell.
 by-multiple : {C : Type 0} (w : What) → is-multiple w ≡ true → ((f : Format) (s : ℕ) → w ≡ field f s true → C) → C

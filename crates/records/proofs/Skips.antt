@@ -91,7 +91,7 @@ sized-walked f zero some b p h e = absurd (not-suc-le-zero some)
 sized-walked f (suc m) some b p h e = value-walked f (suc m) b p (suc m) h e (λ v rest q. value-length f m (drop p b) q)
 
 -- The cells of plain fields.
-plain-both : {C : Type 0} (mu : Bool) (size : ℕ) (more : Bool) → ((not mu && leb 1 size) && more) ≡ true → (mu ≡ false → 1 ≤ size → more ≡ true → C) → C
+pub plain-both : {C : Type 0} (mu : Bool) (size : ℕ) (more : Bool) → ((not mu && leb 1 size) && more) ≡ true → (mu ≡ false → 1 ≤ size → more ≡ true → C) → C
 plain-both true size more h k = absurd (never refl h)
 plain-both false size more h k = by-test (leb 1 size) (λ t. k refl (leb-true 1 size t) (rw t at h)) (λ t. absurd (never (ap (λ u. u && more) t) h))
 

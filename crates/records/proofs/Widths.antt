@@ -2,12 +2,11 @@
 use mathlib.Core.Path.{_≡_, refl, sym, _∙_, ap}
 use mathlib.Core.Bool.{Bool, true, false, _&&_}
 use mathlib.Core.List.{List, [], _∷_, _++_}
-use Prim.Native.Nat.{ℕ, zero, suc, _+_, _*_, _≤_, _<_}
+use Prim.Native.Nat.{ℕ, _+_, _*_, _≤_, _<_}
 use native.Mathlib.Nat.{zero-add}
 use native.Mathlib.Numerals.{add-one}
 use native.Mathlib.Omega.{arith}
 use borrow.Author.Tests.{le-leb}
-use lib.Dec.{leb}
 use lib.ListN.{length, getD}
 use lib.Seq.{slice, slice-cons, slice-empty}
 use Rattle.rules.specs.Lists.{all}
@@ -17,7 +16,7 @@ use Rattle.tables.specs.Entries.{format-number, size-of, is-multiple}
 use Rattle.tables.specs.declared.Found.{Found}
 use Rattle.tables.specs.declared.Found.the-variants.{At, Nothing}
 use Rattle.records.specs.Where.{field-of, fields-of}
-use Rattle.records.specs.Paths.{lengths, Wide, Width}
+use Rattle.records.specs.Paths.{lengths, Width}
 use Rattle.records.proofs.Entries.{never}
 use Rattle.records.proofs.EmptyRows.{row-group}
 
@@ -46,12 +45,12 @@ and-more : (t x y z : Bool) → x ≡ (y && z) → (t && x) ≡ ((t && y) && z)
 and-more true x y z h = h
 and-more false x y z h = refl
 
-plains-append : (xs ys : List Field) → all plain (xs ++ ys) ≡ (all plain xs && all plain ys)
+pub plains-append : (xs ys : List Field) → all plain (xs ++ ys) ≡ (all plain xs && all plain ys)
 unfolding all
 plains-append [] ys = refl
 plains-append (x ∷ xs) ys = and-more (plain x) (all plain (xs ++ ys)) (all plain xs) (all plain ys) (plains-append xs ys)
 
-lengths-append : (xs ys : List Field) → lengths (xs ++ ys) ≡ lengths xs + lengths ys
+pub lengths-append : (xs ys : List Field) → lengths (xs ++ ys) ≡ lengths xs + lengths ys
 unfolding lengths
 lengths-append [] ys = sym (zero-add (lengths ys))
 lengths-append (x ∷ xs) ys = rw (lengths-append xs ys) (omega arith)

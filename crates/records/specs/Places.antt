@@ -1,17 +1,21 @@
 -- Where the values of a stored record lie, by the place of each entry's part.
 use mathlib.Core.Path.{_≡_}
 use mathlib.Core.Bool.{true, false}
-use mathlib.Core.List.{List, []}
-use Prim.Native.Nat.{ℕ, _-_, _≤_, _<_}
+use mathlib.Core.List.{List, [], _∷_, _++_}
+use Prim.Native.Nat.{ℕ, _+_, _-_, _≤_, _<_}
 use lib.ListN.{length, take, drop, getD}
+use lib.Seq.{slice}
 use Rattle.rules.specs.Outcome.{done}
-use Rattle.rules.specs.Lists.{Bytes}
+use Rattle.rules.specs.Lists.{Bytes, join}
 use Rattle.rules.specs.Values.{Format, content, allowed}
-use Rattle.rules.specs.Table.{Entry, parts}
-use Rattle.rules.specs.Record.{Record, stored-cell, stored, values-at}
-use Rattle.tables.specs.Entries.{blank}
+use Rattle.rules.specs.Table.{Entry, Field, parts}
+use Rattle.rules.specs.Record.{Record, times, each, stored-cell, stored, group-count-at, values-at}
+use Rattle.tables.specs.Entries.{blank, is-group, is-multiple}
 use Rattle.tables.specs.Groups.{field-at}
-use Rattle.records.specs.Walk.{Starts, Rows}
+use Rattle.tables.specs.Places.{inside-at}
+use Rattle.records.specs.Walk.{rest-of, Walked, occurrence, Starts, Rows}
+use Rattle.records.specs.Where.{fields-of}
+use Rattle.records.specs.declared.Step.the-variants as Step
 use Rattle.records.specs.declared.places.Cell.{Cell}
 use Rattle.records.specs.declared.places.Cell.the-variants.{At, Nothing}
 use Rattle.records.specs.declared.places.Content.{Content}
@@ -26,6 +30,17 @@ pub record Held (es : List Entry) (b : Bytes) (places : List ℕ) (r : Record) :
 -- They hold some record.
 abbrev pub Holds : List Entry → Bytes → List ℕ → Type 0
 Holds es b places = (r : Record) × Held es b places r
+
+-- Entry i's place in occurrence o of the periodic group that entry g is: the occurrence stands at p, and there the fields before the entry.
+pub record Stands (es : List Entry) (b : Bytes) (places : List ℕ) (g i o : ℕ) (r : Record) (p q : ℕ) : Type 0 where
+  pub many : o ≤ group-count-at (parts es) r (getD es g blank .name)
+  pub row : Walked b (rest-of (times (o - 1) (occurrence es g) (drop (getD places g 0 + 1) b))) (Step.At p)
+  pub before : Walked b (rest-of (each stored-cell (fields-of (slice (g + 1) i es)) (drop p b))) (Step.At q)
+
+-- The same of the code's answer: or there is no such occurrence.
+abbrev pub Entered : List Entry → Bytes → List ℕ → ℕ → ℕ → ℕ → Record → Cell → Type 0
+Entered es b places g i o r (At q) = (p : ℕ) × Stands es b places g i o r p q
+Entered es b places g i o r Nothing = group-count-at (parts es) r (getD es g blank .name) < o
 
 -- The cell of entry i in occurrence o of a record: from a place on, or there is none.
 abbrev pub Cell-of : List Entry → Bytes → ℕ → ℕ → Record → Cell → Type 0
@@ -48,3 +63,23 @@ Contained f size b v Absent = ⊥
 abbrev pub Value-of : Format → ℕ → Bytes → List Bytes → ℕ → Content → Type 0
 Value-of f size b vs k (Lies from upto) = (k ≤ length vs) × Content-of f size b (getD vs (k - 1) []) from upto
 Value-of f size b vs k Absent = length vs < k
+
+-- The values of some fields in occurrence o, one behind the other.
+unfoldable pub values-of : List Entry → Record → ℕ → List Field → Bytes
+values-of es r o [] = []
+values-of es r o (f ∷ fs) = join (values-at (parts es) r (f .name) o) ++ values-of es r o fs
+
+-- The entries from first to end lie outside periodic groups, and none is MU.
+abbrev pub Outside : List Entry → ℕ → ℕ → Type 0
+Outside es first end = (j : ℕ) → first ≤ j → j < end → (inside-at es j ≡ false) × (is-multiple (getD es j blank .what) ≡ false)
+
+-- Each of the fields among the entries from first to end has its cell in occurrence o.
+abbrev pub Celled : List Entry → ℕ → ℕ → ℕ → Record → Type 0
+Celled es first end o r = (j : ℕ) → first ≤ j → j < end → is-group (getD es j blank .what) ≡ false
+    → (bs : Bytes) × (rest : Bytes) × (stored-cell (field-at es j) bs ≡ done (values-at (parts es) r (getD es j blank .name) o, rest))
+
+-- The piece of a record that those fields are; or there is no such occurrence.
+abbrev pub Piece-of : List Entry → Bytes → ℕ → ℕ → ℕ → Record → Content → Type 0
+Piece-of es b first end o r (Lies from upto) =
+    (from ≤ upto) × (upto ≤ length b) × (take (upto - from) (drop from b) ≡ values-of es r o (fields-of (slice first end es))) × Celled es first end o r
+Piece-of es b first end o r Absent = values-of es r o (fields-of (slice first end es)) ≡ []

@@ -4,7 +4,7 @@ ghost use mathlib.Core.Bool.{false};
 ghost use Prim.Native.Nat.{_≤_, _<_};
 ghost use lib.ListN.{length, getD};
 ghost use lib.Seq.{slice};
-ghost use Rattle.tables.specs.Entries.{Valid, entries-of, blank, is-group};
+ghost use Rattle.tables.specs.Entries.{Valid, entries-of, blank, is-periodic};
 ghost use Rattle.tables.specs.Places.{Home};
 ghost use Rattle.records.specs.Where.{field-of, fields-of};
 ghost use Rattle.records.specs.Paths.{Width, Leads};
@@ -84,9 +84,9 @@ fn path_in(t: &[u8], g: usize, i: usize) -> Path
     }
 }
 
-// The way to entry i, a field.
+// The way to entry i, which is no periodic group.
 pub fn path_to(t: &[u8], i: usize) -> Path
-    requires { ⌜ Valid (now t) × (i < length (entries-of (now t))) × (is-group (getD (entries-of (now t)) i blank .what) ≡ false) ⌝ }
+    requires { ⌜ Valid (now t) × (i < length (entries-of (now t))) × (is-periodic (getD (entries-of (now t)) i blank .what) ≡ false) ⌝ }
     ensures { λ p. ⌜ (p .entry ≡ i) × Leads (entries-of (now (t .entry))) p ⌝ }
 {
     let home = tables::periodic_group(t, i);

@@ -4,16 +4,19 @@ ghost use mathlib.Core.Bool.{true, false};
 ghost use mathlib.Core.List.{List};
 ghost use Prim.Native.Nat.{_+_, _-_, _≤_, _<_};
 ghost use lib.ListN.{length, drop, getD};
+ghost use lib.Seq.{slice};
 ghost use Rattle.rules.specs.Outcome.{done};
 ghost use Rattle.rules.specs.Lists.{Bytes};
 ghost use Rattle.rules.specs.Values.{Format, allowed};
 ghost use Rattle.rules.specs.Table.{group, parts};
-ghost use Rattle.rules.specs.Record.{Record, times, counted, stored-value, group-count-at, value-count-at};
+ghost use Rattle.rules.specs.Record.{Record, times, each, counted, stored-value, stored-cell, group-count-at, value-count-at};
 ghost use Rattle.tables.specs.Entries.{Valid, entries-of, blank, is-group, is-multiple, format-at};
 ghost use Rattle.tables.specs.Places.{inside-at};
-ghost use Rattle.records.specs.Places.{Held, Holds, Cell-of, Contained, Value-of};
-ghost use Rattle.records.specs.Walk.{directory, rest-of, Walked, Ends, occurrence};
-ghost use Rattle.records.specs.Paths.{Leads};
+ghost use Rattle.tables.specs.Groups.{group-end};
+ghost use Rattle.records.specs.Places.{Held, Holds, Entered, Cell-of, Contained, Value-of, Outside, Piece-of};
+ghost use Rattle.records.specs.Walk.{directory, rest-of, Walked, Ends, start-of, occurrence};
+ghost use Rattle.records.specs.Paths.{Wide, Leads};
+ghost use Rattle.records.specs.Where.{fields-of};
 ghost use Rattle.records.specs.declared.Step.the-variants.{At};
 use crate::DIRECTORY;
 use crate::behind;
@@ -69,20 +72,28 @@ fn row_at(t: &[u8], b: &[u8], places: &[u16; DIRECTORY], g: usize, o: usize) -> 
     behind::behind_occurrences(t, b, place_of(places, g) + 1, o - 1, g + 1, end)
 }
 
-// The cell of a field in a periodic group.
-fn cell_in(t: &[u8], b: &[u8], places: &[u16; DIRECTORY], path: Path, o: usize) -> Cell
-    requires { ⌜ Valid (now t) × (path .entry < length (entries-of (now t))) × (is-group (getD (entries-of (now t)) (path .entry) blank .what) ≡ false) × (1 ≤ o) × Leads (entries-of (now t)) path × (path .inside ≡ true) × Holds (entries-of (now t)) (now b) (now places) ⌝ }
-    ensures { λ c. ⌜ ((r : Record) → Held (entries-of (now (t .entry))) (now (b .entry)) (now (places .entry)) r → Cell-of (entries-of (now (t .entry))) (now (b .entry)) (path .entry) o r c) ⌝ }
+// The place of an entry in the occurrence that stands at a place: behind the fields before it there.
+fn place_in(t: &[u8], b: &[u8], path: Path, row: usize) -> usize
+    requires { ⌜ Valid (now t) × (path .group < path .entry) × (path .entry ≤ length (entries-of (now t))) × Leads (entries-of (now t)) path × (row ≤ length (now b)) × Ends (rest-of (each stored-cell (fields-of (slice (path .group + 1) (path .entry) (entries-of (now t)))) (drop row (now b)))) ⌝ }
+    ensures { λ r. ⌜ Walked (now (b .entry)) (rest-of (each stored-cell (fields-of (slice (path .group + 1) (path .entry) (entries-of (now (t .entry))))) (drop row (now (b .entry))))) (At r) ⌝ }
+{
+    if path.fixed {
+        return row + path.offset;
+    }
+    behind::behind_members(t, b, row, path.group + 1, path.entry)
+}
+
+// The place of an entry in an occurrence of the periodic group that it lies in.
+fn entry_in(t: &[u8], b: &[u8], places: &[u16; DIRECTORY], path: Path, o: usize) -> Cell
+    requires { ⌜ Valid (now t) × (path .group < path .entry) × (path .entry < length (entries-of (now t))) × (1 ≤ o) × Leads (entries-of (now t)) path × (path .inside ≡ true) × Holds (entries-of (now t)) (now b) (now places) ⌝ }
+    ensures { λ c. ⌜ ((r : Record) → Held (entries-of (now (t .entry))) (now (b .entry)) (now (places .entry)) r → Entered (entries-of (now (t .entry))) (now (b .entry)) (now (places .entry)) (path .group) (path .entry) o r c) ⌝ }
 {
     let g = path.group;
     if (group_count(t, b, places, g) as usize) < o {
         return Cell::Nothing;
     }
     let row = row_at(t, b, places, g, o);
-    if path.fixed {
-        return Cell::At(row + path.offset);
-    }
-    Cell::At(behind::behind_members(t, b, row, g + 1, path.entry))
+    Cell::At(place_in(t, b, path, row))
 }
 
 // The cell of a field in occurrence o, by the way to it; outside periodic groups there is occurrence 1.
@@ -91,7 +102,7 @@ pub fn cell_by(t: &[u8], b: &[u8], places: &[u16; DIRECTORY], path: Path, o: usi
     ensures { λ c. ⌜ ((r : Record) → Held (entries-of (now (t .entry))) (now (b .entry)) (now (places .entry)) r → Cell-of (entries-of (now (t .entry))) (now (b .entry)) (path .entry) o r c) ⌝ }
 {
     if path.inside {
-        return cell_in(t, b, places, path, o);
+        return entry_in(t, b, places, path, o);
     }
     Cell::At(place_of(places, path.entry))
 }
@@ -158,4 +169,51 @@ pub fn value_at(
         return Content::Nothing;
     }
     content_at(b, cell, size)
+}
+
+// The place behind the parts of the entries before entry i.
+fn place_behind(t: &[u8], b: &[u8], places: &[u16; DIRECTORY], i: usize) -> usize
+    requires { ⌜ Valid (now t) × (i ≤ length (entries-of (now t))) × Holds (entries-of (now t)) (now b) (now places) ⌝ }
+    ensures { λ p. ⌜ (p ≤ length (now (b .entry))) × (drop p (now (b .entry)) ≡ start-of false (entries-of (now (t .entry))) (drop 5 (now (b .entry))) i) ⌝ }
+{
+    if i < tables::count(t) {
+        return place_of(places, i);
+    }
+    b.len()
+}
+
+// Where the fields among the entries from first to end stand, all outside periodic groups and none MU.
+pub fn piece_outside(
+    t: &[u8],
+    b: &[u8],
+    places: &[u16; DIRECTORY],
+    first: usize,
+    end: usize,
+) -> Content
+    requires { ⌜ Valid (now t) × (first ≤ end) × (end ≤ length (entries-of (now t))) × Outside (entries-of (now t)) first end × Holds (entries-of (now t)) (now b) (now places) ⌝ }
+    ensures { λ c. ⌜ ((r : Record) → Held (entries-of (now (t .entry))) (now (b .entry)) (now (places .entry)) r → Piece-of (entries-of (now (t .entry))) (now (b .entry)) first end 1 r c) ⌝ }
+{
+    let from = place_behind(t, b, places, first);
+    Content::At(from, place_behind(t, b, places, end))
+}
+
+// The same of entries that all lie in the periodic group to which the way to the first leads, in occurrence o; their fields are of
+// fixed length, and so many bytes together.
+pub fn piece_inside(
+    t: &[u8],
+    b: &[u8],
+    places: &[u16; DIRECTORY],
+    path: Path,
+    end: usize,
+    width: usize,
+    o: usize,
+) -> Content
+    requires { ⌜ Valid (now t) × (path .group < path .entry) × (path .entry < end) × (end ≤ length (entries-of (now t))) × (end ≤ group-end (entries-of (now t)) (path .group)) × (1 ≤ o) × Leads (entries-of (now t)) path × (path .inside ≡ true) × Wide (fields-of (slice (path .entry) end (entries-of (now t)))) width × Holds (entries-of (now t)) (now b) (now places) ⌝ }
+    ensures { λ c. ⌜ ((r : Record) → Held (entries-of (now (t .entry))) (now (b .entry)) (now (places .entry)) r → Piece-of (entries-of (now (t .entry))) (now (b .entry)) (path .entry) end o r c) ⌝ }
+{
+    let first = entry_in(t, b, places, path, o);
+    match first {
+        Cell::Nothing => Content::Nothing,
+        Cell::At(from) => Content::At(from, from + width),
+    }
 }

@@ -10,3 +10,4 @@ pub mod Sharing
 pub mod Ahead
 pub mod Keeping
 pub mod Seen
+pub mod Together

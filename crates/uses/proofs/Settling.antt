@@ -9,7 +9,7 @@ use native.Mathlib.Omega.{arith}
 use lib.ListN.{length, getD, take, drop}
 use lib.Seq.{drop-cons}
 use Rattle.rules.specs.Outcome.{Outcome, done, refused, is-done}
-use Rattle.rules.specs.Lists.{absent, all}
+use Rattle.rules.specs.Lists.{Bytes, absent, all}
 use Rattle.rules.specs.Values.{allowed, converts}
 use Rattle.rules.specs.Table.{What, field, group, Field, Entry, fields-below}
 use Rattle.rules.specs.Format.{Range}
@@ -17,7 +17,7 @@ use Rattle.rules.specs.Use as rules
 use Rattle.rules.specs.Use.{Found, Spread, Asked, spread, asked, plain, just, as-stored, in-order, fields-to, use-of-field, use-of-group, use-of-count, use-of-series, values, one, group-count, value-count}
 use Rattle.rules.proofs.Steps.{T-true}
 use Rattle.rules.proofs.Uses.{spread-in-order}
-use Rattle.tables.specs.Entries.{blank, is-group, is-multiple, is-periodic}
+use Rattle.tables.specs.Entries.{Valid, entries-of, blank, is-group, is-multiple, is-periodic}
 use Rattle.tables.specs.Places.{inside-at, found-at}
 use Rattle.tables.specs.Groups.{field-at, fields-in, group-end}
 use Rattle.tables.proofs.Bools.{clash}
@@ -28,7 +28,8 @@ use Rattle.uses.specs.declared.Spreads.the-variants as spreads
 use Rattle.uses.specs.declared.Effect.the-variants as effect
 use Rattle.uses.specs.declared.Use.the-variants as code
 use Rattle.uses.specs.declared.Meant.the-variants as meant
-use Rattle.uses.proofs.Spreading.{one-ordered, upto-one}
+use Rattle.uses.proofs.Spreading.{one-ordered, upto-one, value-one}
+use Rattle.uses.proofs.Together.{field-periodic, group-some, group-begins, group-inside, group-together, series-outside}
 use Rattle.uses.proofs.Effects.{asked-right}
 use Rattle.uses.proofs.Fields.{group-fields, group-upto, plain-none-multiple, series-none-multiple, series-five}
 
@@ -170,13 +171,19 @@ module _ (es : List Entry) (i last : ℕ) (n : Named) (h : i < length es) (g : i
           single = λ e. clash (sym e);
           alone = λ e. record { next = refl; field = g; format = b; allowed = a .0; converts = a .1 };
           only = λ j low high e. let z : j ≡ i = omega arith in upto-one (inside-at es i) (field-at es i .multiple) last (occurrences n) (bracket n) _ (sym p) (rw z at e);
+          begins = field-periodic (getD es i blank .what) g;
+          once = λ e. clash (sym e);
+          together = λ e. clash (sym e);
+          outside = λ e. clash (sym e);
         };
       }
 
 -- The span of a group.
-module _ (es : List Entry) (i : ℕ) (n : Named) (h : i < length es) (z : n .sized ≡ false) (l : n .lettered ≡ false)
-    (a : all plain (fields-below (getD es i blank .level) (drop (suc i) es)) ≡ true)
-    (m : (j : ℕ) → i ≤ j → j < group-end es i → inside-at es j ≡ inside-at es i) where
+module _ (t : Bytes) (v : Valid t) (i : ℕ) (n : Named) (h : i < length (entries-of t)) (g : is-group (getD (entries-of t) i blank .what) ≡ true)
+    (z : n .sized ≡ false) (l : n .lettered ≡ false) (a : all plain (fields-below (getD (entries-of t) i blank .level) (drop (suc i) (entries-of t))) ≡ true) where
+  abbrev es : List Entry
+  es = entries-of t
+
   pub group-as : (r : Ranges) → spread-of (spreads.Over r) ≡ spread (inside-at es i) false 0 (occurrences n) (bracket n)
       → Settles es (group-use es i n) (meant.As (code.Values (stored-span (i + 1) (group-end es i) r)))
   unfolding found-at
@@ -186,28 +193,36 @@ module _ (es : List Entry) (i : ℕ) (n : Named) (h : i < length es) (z : n .siz
       record {
         answer = λ f. rw (z, l, ← fs) (sym (group-done (found-at es i) (occurrences n) (bracket n) a _ (sym p)));
         held = λ f. record {
-          ordered = group-upto es i h .0;
+          ordered = group-some t v i h g;
           upto = group-upto es i h .1;
           occurrences = T-true _ (o .0);
           values = T-true _ (o .1);
           single = λ e. rw (← fs) (plain-none-multiple _ a);
           alone = λ e. clash e;
-          only = λ j low high e. upto-one (inside-at es i) false 0 (occurrences n) (bracket n) _ (sym p) (sym (m j (omega arith) high) ∙ e);
+          only = λ j low high e. upto-one (inside-at es i) false 0 (occurrences n) (bracket n) _ (sym p) (sym (group-inside t v i h g j (omega arith) high) ∙ e);
+          begins = group-begins t v i h g;
+          once = λ e. let one = value-one (inside-at es i) 0 (occurrences n) (bracket n) _ (sym p) in (ap (λ (x : Range). x .from) one, ap (λ (x : Range). x .upto) one);
+          together = λ e k home. (group-together t v i h g k home, rw (← fs) a);
+          outside = λ e out j low high. group-inside t v i h g j (omega arith) high ∙ sym (group-inside t v i h g (i + 1) (omega arith) (group-some t v i h g)) ∙ out;
         };
       }
 
 -- The span of a series.
-module _ (es : List Entry) (i j : ℕ) (h : i < length es) (k : j < length es) (g : is-group (getD es i blank .what) ≡ false) (o : inside-at es i ≡ false) where
-  opened : drop i es ≡ getD es i blank ∷ drop (suc i) es
-  opened = drop-cons es i blank h
+module _ (t : Bytes) (v : Valid t) (i j : ℕ) (h : i < length (entries-of t)) (k : j < length (entries-of t)) (g : is-group (getD (entries-of t) i blank .what) ≡ false)
+    (o : inside-at (entries-of t) i ≡ false) where
+  abbrev entries : List Entry
+  entries = entries-of t
+
+  opened : drop i entries ≡ getD entries i blank ∷ drop (suc i) entries
+  opened = drop-cons entries i blank h
 
   pub series-as : (r : Ranges) → r ≡ record { from = 1; upto = 1; «value_from» = 1; «value_upto» = 1; bare = false } → i ≤ j
-      → fields-to (getD es j blank .name) (drop i es) ≡ done (fields-in (take (suc j - i) (drop i es)))
-      → Settles es (series-use es i j) (meant.As (code.Values (stored-span i (j + 1) r)))
+      → fields-to (getD entries j blank .name) (drop i entries) ≡ done (fields-in (take (suc j - i) (drop i entries)))
+      → Settles entries (series-use entries i j) (meant.As (code.Values (stored-span i (j + 1) r)))
   unfolding found-at fields-from
   series-as r q u d =
       rw (q, add-one j) (record {
-        answer = λ f. sym (series-done (found-at es i) _ g o _ (ap (fields-to (getD es j blank .name)) (sym opened) ∙ d));
+        answer = λ f. sym (series-done (found-at entries i) _ g o _ (ap (fields-to (getD entries j blank .name)) (sym opened) ∙ d));
         held = λ f. record {
           ordered = omega arith;
           upto = omega arith;
@@ -216,9 +231,13 @@ module _ (es : List Entry) (i j : ℕ) (h : i < length es) (k : j < length es) (
           single = λ e. series-none-multiple _ _ _ d;
           alone = λ e. clash e;
           only = λ k low high e. refl;
+          begins = field-periodic (getD entries i blank .what) g;
+          once = λ e. (refl, refl);
+          together = λ e m home. clash (sym (home .inside) ∙ o);
+          outside = λ e out m low high. series-outside t v i j h k o _ d m low (omega arith);
         };
       })
 
-  pub series-fails : is-done (fields-to (getD es j blank .name) (drop i es)) ≡ false → series-use es i j ≡ refused 5
+  pub series-fails : is-done (fields-to (getD entries j blank .name) (drop i entries)) ≡ false → series-use entries i j ≡ refused 5
   unfolding found-at
-  series-fails d = series-broken (found-at es i) _ g o (series-five _ _ (rw opened at d))
+  series-fails d = series-broken (found-at entries i) _ g o (series-five _ _ (rw opened at d))

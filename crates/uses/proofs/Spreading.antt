@@ -93,3 +93,13 @@ outside-alone false last (some os) none s p = absurd (not-done p)
 
 pub upto-one : (inside mu : Bool) (last : ℕ) (os vs : Option Range) (s : Spread) → spread inside mu last os vs ≡ done s → inside ≡ false → s .occurrences .upto ≡ 1
 upto-one inside mu last os vs s p e = ap (λ (r : Range). r .upto) (outside-alone mu last os vs s (rw e at p))
+
+-- What is not MU has value 1 alone.
+pub value-one : (inside : Bool) (last : ℕ) (os vs : Option Range) (s : Spread) → spread inside false last os vs ≡ done s → s .values ≡ just 1
+unfolding spread
+value-one true last none vs s p = absurd (not-done p)
+value-one true last (some os) none s p = from-need (in-order os) 5 _ p λ t k. rw (← done-inj k) refl
+value-one true last (some os) (some vs) s p = absurd (not-done p)
+value-one false last os (some vs) s p = absurd (not-done p)
+value-one false last none none s p = rw (← done-inj p) refl
+value-one false last (some os) none s p = absurd (not-done p)

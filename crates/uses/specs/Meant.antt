@@ -8,16 +8,16 @@ use lib.Dec.{ltb}
 use lib.ListN.{length, take, drop, getD}
 use Rattle.rules.specs.Outcome.{Outcome, done, refused, _>>=_, need}
 use Rattle.rules.specs.Limits.{highest-index, longest-text}
-use Rattle.rules.specs.Lists.{Bytes, filter}
+use Rattle.rules.specs.Lists.{Bytes, all, filter}
 use Rattle.rules.specs.Values.{Format, allowed, converts}
 use Rattle.rules.specs.Table.{Field, Entry, group}
 use Rattle.rules.specs.Format.{Range, elements}
 use Rattle.rules.specs.Use as rules
-use Rattle.rules.specs.Use.{Asked, Spread, as-stored, in-order, spread, Indexes, last-index, format-in-effect, length-in-effect, asked, use-of}
+use Rattle.rules.specs.Use.{Asked, Spread, plain, as-stored, in-order, spread, Indexes, last-index, format-in-effect, length-in-effect, asked, use-of}
 use Rattle.kinds.specs.Formats.{format-at}
-use Rattle.tables.specs.Entries.{blank, is-group, is-multiple}
-use Rattle.tables.specs.Places.{inside-at, found-at}
-use Rattle.tables.specs.Groups.{field-at, fields-in}
+use Rattle.tables.specs.Entries.{blank, is-group, is-multiple, is-periodic}
+use Rattle.tables.specs.Places.{inside-at, found-at, Home}
+use Rattle.tables.specs.Groups.{group-end, field-at, fields-in}
 use Rattle.formats.specs.Part.{part}
 use Rattle.formats.specs.Elements.{optional, range, element-of, sound}
 use Rattle.formats.specs.declared.Named.{Named}
@@ -123,7 +123,7 @@ pub record One-field (es : List Entry) (s : Span) : Type 0 where
 
 -- What is known of a span, beside what it means: its entries and indexes lie in their bounds, and fields at their standard are not MU.
 pub record Span-held (es : List Entry) (s : Span) : Type 0 where
-  pub ordered : s .first ≤ s .end
+  pub ordered : s .first < s .end
   pub upto : s .end ≤ length es
   pub occurrences : in-order (range (s .from) (s .upto)) ≡ true
   pub values : in-order (range (s .«value_from») (s .«value_upto»)) ≡ true
@@ -131,6 +131,14 @@ pub record Span-held (es : List Entry) (s : Span) : Type 0 where
   pub alone : s .standard ≡ false → One-field es s
   -- What lies outside periodic groups has occurrence 1 alone.
   pub only : (j : ℕ) → s .first ≤ j → j < s .end → inside-at es j ≡ false → s .upto ≡ 1
+  -- A span does not begin with a periodic group itself.
+  pub begins : is-periodic (getD es (s .first) blank .what) ≡ false
+  -- Fields at their standard have value 1 alone.
+  pub once : s .standard ≡ true → (s .«value_from» ≡ 1) × (s .«value_upto» ≡ 1)
+  -- Where the first entry lies in a periodic group, all do, in the same, and their fields are of fixed length.
+  pub together : s .standard ≡ true → (g : ℕ) → Home es (s .first) g → (s .end ≤ group-end es g) × (all plain (fields-from es (s .first) (s .end)) ≡ true)
+  -- Where it lies outside, all do.
+  pub outside : s .standard ≡ true → inside-at es (s .first) ≡ false → (j : ℕ) → s .first ≤ j → j < s .end → inside-at es j ≡ false
 
 abbrev pub Use-held : List Entry → Bytes → Use → Type 0
 Use-held es f (code.Blanks n) = n < 256

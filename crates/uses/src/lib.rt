@@ -279,7 +279,7 @@ fn use_of_field(t: &[u8], i: usize, last: usize, n: Named) -> Meant
 
 // The fields of group i: it takes no length and no format.
 fn use_of_group(t: &[u8], i: usize, n: Named) -> Meant
-    requires { ⌜ Valid (now t) × (i < length (entries-of (now t))) ⌝ }
+    requires { ⌜ Valid (now t) × (i < length (entries-of (now t))) × (is-group (getD (entries-of (now t)) i blank .what) ≡ true) ⌝ }
     ensures { λ r. ⌜ Settles (entries-of (now (t .entry))) (group-use (entries-of (now (t .entry))) i n) r ⌝ }
 {
     if n.sized {

@@ -35,7 +35,7 @@ path-to-requires : tie.Need-path-to-requires Inv-loop μ-loop
 path-to-requires c κs =
     let s = c .before .before .before .before in
     let one = s .pre .1 .alone (s .pre .2) in
-    (s .pre .0, omega (arith, one .next, s .pre .1 .upto), one .field)
+    (s .pre .0, omega (arith, one .next, s .pre .1 .upto), s .pre .1 .begins)
 
 loop-holds : tie.Need-loop-holds Inv-loop μ-loop
 loop-holds c =

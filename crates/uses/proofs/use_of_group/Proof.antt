@@ -10,8 +10,7 @@ use Rattle.rules.specs.Table.{fields-below}
 use Rattle.rules.specs.Use.{plain, spread}
 use Rattle.tables.specs.Entries.{entries-of, blank}
 use Rattle.tables.specs.Places.{found-at, inside-at}
-use Rattle.tables.proofs.Tables.{valid-most, valid-levels, valid-sound}
-use Rattle.tables.proofs.Nesting.{level-range, members-inside}
+use Rattle.tables.proofs.Tables.{valid-most}
 use Rattle.uses.specs.Meant.{spread-of, occurrences, bracket}
 use Rattle.uses.proofs.Settling.{refuse, group-sized, group-lettered, group-unnamed, group-astray, group-as}
 use borrow.Author.Needs.{needs}
@@ -65,10 +64,8 @@ returns-3 : tie.Need-returns-3
 returns-3 c =
     let s = c .before .before .before .before .before .before .before .before .before .before .before .before in
     let t = s .args .t .now in
-    let v = s .pre .0 in
     rw (c .stored .ensures, c .before .group-end .ensures)
-    (group-as (entries-of t) (s .args .i) (s .args .n) (s .pre .1) (c .before .before .before .before .before .before .before .before .before .before .if1 .left) (c .before .before .before .before .before .before .before .before .before .if2 .left) (all-plain (c .before .before .before .before .before .before .before))
-    (members-inside (entries-of t) (valid-sound t v) (s .args .i) (level-range (entries-of t) (valid-levels t v) (s .args .i) (s .pre .1) .0))
+    (group-as t (s .pre .0) (s .args .i) (s .args .n) (s .pre .1) (s .pre .2) (c .before .before .before .before .before .before .before .before .before .before .if1 .left) (c .before .before .before .before .before .before .before .before .before .if2 .left) (all-plain (c .before .before .before .before .before .before .before))
     _ (sym (ap spread-of (c .before .before .before .s .given .1)) ∙ spread-known (c .before .before .before .before .before)))
 
 returns-4 : tie.Need-returns-4

@@ -27,7 +27,7 @@ group-at-requires : tie.Need-group-at-requires
 group-at-requires c κs = (c .before .before .before .before .before .pre, found-at-entry (c .before) .0)
 
 use-of-group-requires : tie.Need-use-of-group-requires
-use-of-group-requires c κs = (c .before .before .before .before .before .before .before .pre, found-at-entry (c .before .before .before) .0)
+use-of-group-requires c κs = (c .before .before .before .before .before .before .before .pre, found-at-entry (c .before .before .before) .0, sym (c .before .group-at .ensures) ∙ c .if1 .taken)
 
 returns : tie.Need-returns
 returns c =

@@ -49,12 +49,12 @@ returns-3 c =
     let r = c .before .before .series .ensures in
     let t = c .before .if3 .taken in
     rw (c .stored .ensures)
-    (series-as (entries-of (s .args .t .now)) (s .args .i) (s .args .j) (s .pre .1) (s .pre .2) (first-field (c .before .before .before .before .before)) (sym (c .before .before .before .before .inside .ensures) ∙ c .before .before .before .if2 .left) _ refl (r .upto t) (r .fields t))
+    (series-as (s .args .t .now) (s .pre .0) (s .args .i) (s .args .j) (s .pre .1) (s .pre .2) (first-field (c .before .before .before .before .before)) (sym (c .before .before .before .before .inside .ensures) ∙ c .before .before .before .if2 .left) _ refl (r .upto t) (r .fields t))
 
 returns-4 : tie.Need-returns-4
 returns-4 c =
     let s = c .before .before .before .before .before .before .before in
-    refuse _ _ (series-fails (entries-of (s .args .t .now)) (s .args .i) (s .args .j) (s .pre .1) (s .pre .2) (first-field (c .before .before .before .before)) (sym (c .before .before .before .inside .ensures) ∙ c .before .before .if2 .left)
+    refuse _ _ (series-fails (s .args .t .now) (s .pre .0) (s .args .i) (s .args .j) (s .pre .1) (s .pre .2) (first-field (c .before .before .before .before)) (sym (c .before .before .before .inside .ensures) ∙ c .before .before .if2 .left)
     (sym (c .before .series .ensures .answer) ∙ c .if3 .left))
 
 pub use-of-series-spec : {M : Type 1} → statement M

@@ -6,12 +6,14 @@ use lib.ListN.{length, getD}
 use Rattle.tables.specs.Entries.{entries-of, blank, is-group}
 use Rattle.tables.specs.Places.{inside-at}
 use Rattle.records.specs.Places.{Cell-of}
-use borrow.Author.Needs.{needs}
+use Rattle.records.proofs.Placed.{field-periodic}
 use Rattle.records.proofs.places.cell_at.Statement.{statement}
 use Rattle.records.proofs.places.cell_at.Tie as tie
 
 path-to-requires : tie.Need-path-to-requires
-path-to-requires c κs = search needs
+path-to-requires c κs =
+    let s = c .before .before in
+    (s .pre .0, s .pre .1, field-periodic (getD (entries-of (s .args .t .now)) (s .args .i) blank .what) (s .pre .2))
 
 cell-by-requires : tie.Need-cell-by-requires
 cell-by-requires c κs =

@@ -1,6 +1,5 @@
 -- `records::places::row_at` meets its contract: an occurrence stands where it is kept, or behind those before it. Assumes nothing.
-use mathlib.Core.Path.{_≡_}
-use Prim.Native.Nat.{_-_, _<_}
+use Prim.Native.Nat.{_-_}
 use native.Mathlib.Omega.{arith}
 use lib.ListN.{getD}
 use Rattle.tables.specs.Entries.{entries-of}
