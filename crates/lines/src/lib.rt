@@ -137,9 +137,10 @@ pub fn next(input: &mut [u8], l: Line) -> Line
     }
 }
 
-// The used bytes of out are written.
+// The used bytes of out are written: none that lies beyond it.
 pub fn write(out: &[u8], used: usize)
     requires { ⌜ used ≤ length (now out) ⌝ }
+    ensures { λ _. ⌜ used ≤ length (now (out .entry)) ⌝ }
 {
     if io::write_all(libc::STDOUT_FILENO, &out[..used]) {
         return;

@@ -9,9 +9,10 @@ ghost use Rattle.records.specs.Places.{Holds};
 ghost use Rattle.lyrecanyon.specs.Answers.{Settled, Exported, refusal-number, answer-number, answer-length};
 use reading::Next;
 
-// Answers up to so many bytes are made in a work area first, so that one pass over the format is enough. A long format gets a larger area, whose clearing is little beside its reading.
+// Answers up to so many bytes are made in a work area first, so that one pass over the format is enough.
 const SHORT: usize = 1024;
 
+// The same for formats of more than so many bytes: clearing the larger area is little beside their reading.
 const LARGE: usize = 4096;
 
 const SHORT_FORMAT: usize = 64;
