@@ -44,7 +44,7 @@ fn main() {
     println!("|---|---|---|---|---|---|");
     for call in rows() {
         let (mut rust, mut lyrecanyon) = (f64::MAX, f64::MAX);
-        for _ in 0..3 {
+        for _ in 0..12 {
             let (answer, nanoseconds) = time(&call, service::read);
             let (other, others) = time(&call, proved);
             assert_eq!(answer, other, "the services differ on {}", call.row);
