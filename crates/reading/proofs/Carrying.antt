@@ -19,12 +19,12 @@ use Rattle.records.specs.Places.{Content-of}
 use Rattle.records.proofs.Cells.{times-first, times-none, value-first}
 use Rattle.records.proofs.Contents.{content-found, content-none}
 use Rattle.records.proofs.Normals.{first-at}
-use Rattle.reading.specs.Filling.{within, Filling}
+use Rattle.reading.specs.Filling.{within, Filling, Going}
 use Rattle.reading.specs.Runs.{together, Wants, carried-to, Stand}
 use Rattle.reading.specs.declared.Next.{Next}
 use Rattle.reading.specs.declared.Next.the-variants.{At, Refused}
 use Rattle.reading.specs.declared.Wanted.{Wanted}
-use Rattle.reading.proofs.Going.{Going, going-start, going-end, turn, turn-within, stop}
+use Rattle.reading.proofs.Going.{going-start, going-end, turn, turn-within, stop}
 use Rattle.reading.proofs.Together.{together-one}
 
 pub record Carrying (w : Wanted) (b : Bytes) (end n : ℕ) (us : List Bytes) (i q start at : ℕ) (write : Bool) (out₀ out : Bytes) : Type 0 where

@@ -23,13 +23,13 @@ use Rattle.values.proofs.Meant.{null-carried, carried-itself}
 use Rattle.kinds.specs.Formats.{format-at}
 use Rattle.buffer.proofs.Cases.{by-order}
 use Rattle.records.proofs.Cells.{times-first, times-none, times-length, value-first}
-use Rattle.reading.specs.Filling.{within, Filling}
+use Rattle.reading.specs.Filling.{within, Filling, Going}
 use Rattle.reading.specs.Runs.{together, Wants, carried-to, wanted, existing, Stand, Exist}
 use Rattle.reading.specs.declared.Next.{Next}
 use Rattle.reading.specs.declared.Next.the-variants.{At, Refused}
 use Rattle.reading.specs.declared.Run.{Run}
 use Rattle.reading.specs.declared.Wanted.{Wanted}
-use Rattle.reading.proofs.Going.{Going, going-start, going-last, turn, turn-within, stop}
+use Rattle.reading.proofs.Going.{going-start, going-last, turn, turn-within, stop}
 use Rattle.reading.proofs.Together.{together-done, together-copies}
 
 -- Values by their numbers from one on: those that the list has, and then one value for the others.

@@ -17,7 +17,7 @@ use Rattle.rules.specs.Services.{item-bytes, filled}
 use Rattle.rules.proofs.Steps.{from-bind, from-need, need-true, done-inj, not-done, by-test, by-outcome, not-both}
 use Rattle.buffer.specs.Splice.{splice}
 use Rattle.buffer.proofs.Laws.{splice-nil, splice-then}
-use Rattle.reading.specs.Filling.{placed, left-as, Counts, Filling}
+use Rattle.reading.specs.Filling.{placed, left-as, Counts, Filling, Going}
 use Rattle.reading.specs.Runs.{together}
 use Rattle.reading.specs.declared.Next.{Next}
 use Rattle.reading.specs.declared.Next.the-variants.{At, Refused}
@@ -92,13 +92,6 @@ module _ (ps : List Part) (r : Record) where
 pub room-left : (end at at′ n : ℕ) → at + n ≡ at′ → at′ ≤ end → end - at - n ≡ end - at′
 room-left end at at′ n e l = omega arith
 
--- A loop over outcomes: it began at `start` and stands at `at`, with `rest` still to come of the `whole`.
-pub record Going (whole rest : Outcome Bytes) (start at : ℕ) (write : Bool) (out₀ out : Bytes) : Type 0 where
-  pub answer : placed at rest ≡ placed start whole
-  pub alike : is-done rest ≡ is-done whole
-  pub same : length out ≡ length out₀
-  pub bytes : Counts write rest → left-as write at rest out ≡ left-as write start whole out₀
-
 pub going-start : (whole : Outcome Bytes) (at : ℕ) (write : Bool) (out : Bytes) → Going whole whole at at write out out
 going-start whole at write out = record { answer = refl; alike = refl; same = refl; bytes = λ h. refl }
 
@@ -125,6 +118,28 @@ refused-inj p = cc
 
 pub no-at : {m k : ℕ} → _≡_ {A = Next} (At m) (Refused k) → ⊥
 no-at p = let z : _≡_ {A = ℕ} 0 1 = cc in omega arith
+
+-- Both are refused alike, and nothing is written where nothing is to be.
+pub going-both-off : {whole rest : Outcome Bytes} {start at : ℕ} {write : Bool} {out₀ out : Bytes} (k : ℕ) → whole ≡ refused k → rest ≡ refused k → length out ≡ length out₀
+    → (write ≡ false → out ≡ out₀) → Going whole rest start at write out₀ out
+going-both-off {start = start} {at} {write} {out₀} {out} k w r l u = record {
+  answer = ap (placed at) r ∙ sym (ap (placed start) w);
+  alike = ap is-done r ∙ sym (ap is-done w);
+  same = l;
+  bytes = λ c. by-test write
+      (λ t. absurd (not-both (sym (ap is-done r) ∙ c t)))
+      (λ t. rw t (u t));
+}
+
+-- A walk that goes on from where another stands.
+pub going-then : {whole rest left : Outcome Bytes} {start at at′ : ℕ} {write : Bool} {out₀ out out′ : Bytes} → Going whole rest start at write out₀ out → Going rest left at at′ write out out′
+    → Going whole left start at′ write out₀ out′
+going-then g h = record {
+  answer = h .answer ∙ g .answer;
+  alike = h .alike ∙ g .alike;
+  same = h .same ∙ g .same;
+  bytes = λ c. h .bytes c ∙ g .bytes (λ w. sym (h .alike) ∙ c w);
+}
 
 module _ {whole rest : Outcome Bytes} {start at : ℕ} {write : Bool} {out₀ out out′ : Bytes} (g : Going whole rest start at write out₀ out) (same : length out′ ≡ length out) where
   -- A turn: some bytes come off the front of what is left.

@@ -12,11 +12,11 @@ use Rattle.rules.specs.Record.{Record}
 use Rattle.rules.specs.Use.{Item}
 use Rattle.rules.specs.Services.{item-bytes, filled}
 use Rattle.records.specs.Places.{Held, Holds}
-use Rattle.reading.specs.Filling.{Filling, within}
+use Rattle.reading.specs.Filling.{Filling, within, Going}
 use Rattle.reading.specs.Runs.{Fills, together}
 use Rattle.reading.specs.declared.Next.{Next}
 use Rattle.reading.specs.declared.Next.the-variants.{At, Refused}
-use Rattle.reading.proofs.Going.{Going, going-start, going-end, turn, turn-within, stop, filled-together}
+use Rattle.reading.proofs.Going.{going-start, going-end, turn, turn-within, stop, filled-together}
 use Rattle.reading.proofs.Together.{together-one}
 
 pub record Running (es : List Entry) (b : Bytes) (places : List ℕ) (end : ℕ) (whole rest : List Item) (start at : ℕ) (write : Bool) (out₀ out : Bytes) : Type 0 where

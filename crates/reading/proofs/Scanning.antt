@@ -1,137 +1,106 @@
--- The elements of a format, one at a time: what is left of them, from where the buffer stands, ends and writes as the whole format does from the front.
+-- The elements of a format, one at a time: what is left of them, from where the scan stands, ends and writes as the whole format does from the front.
 use mathlib.Core.Path.{_≡_, refl, sym, ap, subst, _∙_}
-use mathlib.Core.Bool.{Bool}
-use mathlib.Core.List.{List, [], _∷_, _++_}
-use Prim.Native.Nat.{ℕ, _-_, _≤_, _<_}
+use mathlib.Core.Bool.{Bool, true, false}
+use mathlib.Core.List.{List, []}
+use Prim.Native.Nat.{ℕ, _+_, _-_, _≤_, _<_}
 use native.Mathlib.Nat.{sub-zero}
 use native.Mathlib.Omega.{arith}
-use lib.ListN.{length, getD, replicate}
+use lib.Dec.{eqb}
+use lib.ListN.{length, getD, drop, replicate}
 use Rattle.rules.specs.Outcome.{Outcome, done, refused, _>>=_}
 use Rattle.rules.specs.Limits.{longest-format}
-use Rattle.rules.specs.Lists.{Bytes, join}
-use Rattle.rules.specs.Table.{Part, Entry, parts}
+use Rattle.rules.specs.Characters.{period}
+use Rattle.rules.specs.Lists.{Bytes}
+use Rattle.rules.specs.Table.{Entry, parts}
 use Rattle.rules.specs.Record.{Record}
-use Rattle.rules.specs.Use.{Use as Meaning, Item, Indexes, indexes-after, uses, items-of, items}
+use Rattle.rules.specs.Format as rules
+use Rattle.rules.specs.Use.{Use as Meaning, Indexes, uses, items}
 use Rattle.rules.specs.Services.{filled}
+use Rattle.formats.specs.Syntax.{parsed, behind, before, Stepped}
+use Rattle.formats.specs.Elements.{element-of}
+use Rattle.formats.specs.declared.Element.{Element}
+use Rattle.formats.specs.declared.syntax.Step.the-variants as step
 use Rattle.formats.proofs.StepLaws.{elements-parsed, elements-long}
 use Rattle.records.specs.Places.{Held, Holds}
-use Rattle.uses.specs.Meant.{use-meant, Remembers, uses-of}
-use Rattle.uses.specs.declared.Use.{Use}
+use Rattle.uses.specs.Meant.{Remembers, uses-of}
 use Rattle.uses.proofs.Testing.{no-index, zeros}
-use Rattle.reading.specs.Runs.{Fills}
-use Rattle.reading.specs.Turns.{uses-from, unless, Unless-used, Turned, Scans}
-use Rattle.reading.specs.declared.Next.{Next}
-use Rattle.reading.specs.declared.Next.the-variants.{At, Refused}
-use Rattle.reading.specs.declared.Turn.the-variants as turn
-use Rattle.reading.proofs.Going.{before, Going, going-start, going-on, going-off, going-end, items-on, put-off, put-unwritten, filled-on, filled-off, filled-together, room-left}
+use Rattle.reading.specs.Filling.{Filling, Going}
+use Rattle.reading.specs.Turns.{place-of, answer-of, left-of, Puts, Scans}
+use Rattle.reading.specs.declared.Next.the-variants as next
+use Rattle.reading.specs.declared.Standing.{Standing}
+use Rattle.reading.specs.declared.Standing.the-variants.{At, NoItem, NoUse}
+use Rattle.reading.proofs.Going.{going-start, going-then, going-off, going-end, filled-together}
+use Rattle.reading.proofs.Turns.{no-items, no-uses, left-bad}
 
-no-items : items [] ≡ []
-unfolding items join
-no-items = refl
+-- All that a format asks for in so much room.
+abbrev whole : List Entry → Bytes → Record → ℕ → Outcome Bytes
+whole es f r end = uses-of es f >>= λ us. filled (parts es) r end (items us)
 
-first-items : (u : Meaning) (us : List Meaning) → items (u ∷ us) ≡ items-of u ++ items us
-unfolding items join
-first-items u us = refl
+whole-left : (es : List Entry) (f : Bytes) (r : Record) (end : ℕ) → length f ≤ longest-format → whole es f r end ≡ left-of es r end [] (parsed (drop 0 f)) (At 0)
+unfolding uses-of left-of
+whole-left es f r end h = ap (λ o. o >>= uses es [] >>= λ us. filled (parts es) r end (items us)) (elements-parsed f h)
+    ∙ ap (λ n. parsed f >>= uses es [] >>= λ us. filled (parts es) r n (items us)) (sym (sub-zero end))
 
--- The items of some uses, where they are not refused.
-abbrev used : List Part → Record → ℕ → Outcome (List Meaning) → Outcome Bytes
-used ps r room o = o >>= λ us. filled ps r room (items us)
-
--- A use before some more.
-module _ (ps : List Part) (r : Record) (room : ℕ) (u : Meaning) where
-  used-on : (o : Outcome (List Meaning)) (a : Bytes) → filled ps r room (items-of u) ≡ done a → used ps r room (o >>= λ us. done (u ∷ us)) ≡ before a (used ps r (room - length a) o)
-  used-on (done us) a h = ap (filled ps r room) (first-items u us) ∙ filled-on ps r room (items-of u) (items us) a h
-  used-on (refused k) a h = refl
-
-  used-off : (o : Outcome (List Meaning)) (k : ℕ) → filled ps r room (items-of u) ≡ refused k → used ps r room (o >>= λ us. done (u ∷ us)) ≡ refused (unless o k)
-  used-off (done us) k h = ap (filled ps r room) (first-items u us) ∙ filled-off ps r room (items-of u) (items us) k h
-  used-off (refused j) k h = refl
-
--- All the uses of a format, which is not too long.
-all-uses : (es : List Entry) (f : Bytes) → length f ≤ longest-format → uses-from es f [] 0 ≡ uses-of es f
-unfolding uses-from uses-of
-all-uses es f h = ap (λ o. o >>= uses es []) (sym (elements-parsed f h))
-
-long-uses : (es : List Entry) (f : Bytes) → longest-format < length f → uses-of es f ≡ refused 3
+pub scan-long : (es : List Entry) (b : Bytes) (places : List ℕ) (f : Bytes) (end : ℕ) (write : Bool) (out : Bytes) → longest-format < length f → Scans es b places f end write out out (next.Refused 3)
 unfolding uses-of
-long-uses es f h = ap (λ o. o >>= uses es []) (elements-long f h)
+scan-long es b places f end write out h r p = going-off (going-start (whole es f r end) 0 write out) refl 3 (ap (λ o. o >>= uses es [] >>= λ us. filled (parts es) r end (items us)) (elements-long f h)) (λ w. refl)
 
-pub record Scanning (es : List Entry) (b : Bytes) (places : List ℕ) (f : Bytes) (end : ℕ) (write : Bool) (out₀ : Bytes) (last : List ℕ) (at p : ℕ) (out : Bytes) : Type 0 where
+-- The scan stands somewhere, with some elements left.
+pub record Scanning (es : List Entry) (b : Bytes) (places : List ℕ) (f : Bytes) (end : ℕ) (write : Bool) (out₀ : Bytes) (last : List ℕ) (xs : Outcome (List rules.Element)) (s : Standing) (out : Bytes) : Type 0 where
   pub indexes : Indexes
   pub remembers : Remembers es last indexes
-  pub holds : Holds es b places
-  pub fits : p ≤ end
-  pub room : end ≤ length out
-  pub going : (r : Record) → Held es b places r
-      → Going (used (parts es) r end (uses-of es f)) (used (parts es) r (end - p) (uses-from es f indexes at)) 0 p write out₀ out
-
-pub scan-long : (es : List Entry) (b : Bytes) (places : List ℕ) (f : Bytes) (end : ℕ) (write : Bool) (out : Bytes) → longest-format < length f → Scans es b places f end write out out (Refused 3)
-scan-long es b places f end write out h r p = going-off (going-start (used (parts es) r end (uses-of es f)) 0 write out) refl 3 (ap (used (parts es) r end) (long-uses es f h)) (λ w. refl)
+  pub fits : place-of s ≤ end
+  pub same : length out ≡ length out₀
+  pub going : (r : Record) → Held es b places r → Going (whole es f r end) (left-of es r end indexes xs s) 0 (place-of s) write out₀ out
 
 module _ {es : List Entry} {b : Bytes} {places : List ℕ} {f : Bytes} {end : ℕ} {write : Bool} {out₀ : Bytes} where
-  pub scan-start : Holds es b places → end ≤ length out₀ → length f ≤ longest-format → Scanning es b places f end write out₀ (replicate 64 0) 0 0 out₀
-  scan-start h l s = record {
+  pub scan-start : length f ≤ longest-format → Scanning es b places f end write out₀ (replicate 64 0) (parsed (drop 0 f)) (At 0) out₀
+  scan-start s = record {
     indexes = [];
     remembers = λ i k. zeros 64 i ∙ sym (no-index (getD es i _ .name));
-    holds = h;
     fits = omega arith;
-    room = l;
-    going = λ r p.
-        subst (λ (x : Outcome Bytes). Going (used (parts es) r end (uses-of es f)) x 0 0 write out₀ out₀)
-        (ap (used (parts es) r end) (sym (all-uses es f s)) ∙ ap (λ m. used (parts es) r m (uses-from es f [] 0)) (sym (sub-zero end)))
-        (going-start (used (parts es) r end (uses-of es f)) 0 write out₀);
+    same = refl;
+    going = λ r p. subst (λ (o : Outcome Bytes). Going (whole es f r end) o 0 0 write out₀ out₀) (whole-left es f r end s) (going-start (whole es f r end) 0 write out₀);
   }
 
-  module _ {last : List ℕ} {at p : ℕ} {out : Bytes} (w : Scanning es b places f end write out₀ last at p out) where
-    pub scan-same : length out ≡ length out₀
-    scan-same = w .going (w .holds .0) (w .holds .1) .same
+  module _ {last : List ℕ} {xs : Outcome (List rules.Element)} {s : Standing} {out : Bytes} (w : Scanning es b places f end write out₀ last xs s out) where
+    -- The same elements in other words.
+    pub scan-as : (ys : Outcome (List rules.Element)) → xs ≡ ys → Scanning es b places f end write out₀ last ys s out
+    scan-as ys e = subst (λ (o : Outcome (List rules.Element)). Scanning es b places f end write out₀ last o s out) e w
 
-    pub scan-refused : {after : List ℕ} {k : ℕ} → Turned es f at last after (turn.Refused k) → Scans es b places f end write out₀ out (Refused k)
-    scan-refused {k = k} t r h = going-off (w .going r h) refl k (ap (used (parts es) r (end - p)) (t .answer (w .indexes) (w .remembers))) (λ e. refl)
+    pub scan-bad : xs ≡ refused 3 → Scans es b places f end write out₀ out (next.Refused 3)
+    scan-bad e r p = going-off (w .going r p) refl 3 (ap (λ o. left-of es r end (w .indexes) o s) e ∙ left-bad es r end (w .indexes) s 3) (λ k. refl)
 
-    -- A use before some more, of which a callee says where its items end and what it left in the buffer.
-    module _ (u : Meaning) (more : Outcome (List Meaning)) (e : uses-from es f (w .indexes) at ≡ (more >>= λ us. done (u ∷ us)))
-        {out′ : Bytes} {m : Next} (g : Fills es b places (items-of u) p end write out out′ m) where
-      first-on : (p′ : ℕ) → m ≡ At p′ → (r : Record) → Held es b places r → Going (used (parts es) r end (uses-of es f)) (used (parts es) r (end - p′) more) 0 p′ write out₀ out′
-      first-on p′ q r h = items-on (parts es) r end (items-of u) (g r h) (w .fits) p′ q λ a k n l c.
-          let o = ap (used (parts es) r (end - p)) e ∙ used-on (parts es) r (end - p) u more a k ∙ ap (λ x. before a (used (parts es) r x more)) (room-left end p p′ (length a) n l) in
-          going-on (w .going r h) (g r h .same) a (used (parts es) r (end - p′) more) p′ o n (omega (arith, w .room)) c
+  scan-on : {last last′ : List ℕ} {s s′ : Standing} {out out′ : Bytes} (e : Element) (xs : Outcome (List rules.Element))
+      → Scanning es b places f end write out₀ last (before (element-of f e) xs) s out → Puts es b places f end write e last last′ s out out′ s′ → Scanning es b places f end write out₀ last′ xs s′ out′
+  scan-on e xs w p = let n = p .going (w .indexes) (w .remembers) in record {
+    indexes = n .0;
+    remembers = n .1;
+    fits = p .fits;
+    same = p .kept ∙ w .same;
+    going = λ r h. going-then (w .going r h) (n .2 r h xs);
+  }
 
-      first-within : (p′ : ℕ) → m ≡ At p′ → p′ ≤ end
-      first-within p′ q = items-on (parts es) (w .holds .0) end (items-of u) (g (w .holds .0) (w .holds .1)) (w .fits) p′ q λ a k n l c. l
+  -- Nothing is left.
+  scan-end : {last : List ℕ} (s : Standing) {out : Bytes} → Scanning es b places f end write out₀ last (done []) s out → Scans es b places f end write out₀ out (answer-of s)
+  unfolding left-of
+  scan-end (At p) {out} w r h = going-end (end - p)
+      (subst (λ (o : Outcome Bytes). Going (whole es f r end) o 0 p write out₀ out)
+      (ap (λ o. o >>= λ us. filled (parts es) r (end - p) (items us)) (no-uses es (w .indexes)) ∙ ap (filled (parts es) r (end - p)) no-items ∙ filled-together (parts es) r [] (end - p))
+      (w .going r h))
+  scan-end (NoItem n) w r h = going-off (w .going r h) refl n (ap (λ (o : Outcome (List Meaning)). o >>= λ us. refused n) (no-uses es (w .indexes))) (λ k. refl)
+  scan-end (NoUse n) w r h = going-off (w .going r h) refl n refl (λ k. refl)
 
-      first-off : (k : ℕ) → m ≡ Refused k → Scans es b places f end write out₀ out′ (Refused (unless more k))
-      first-off k q r h =
-          let o = ap (used (parts es) r (end - p)) e ∙ used-off (parts es) r (end - p) u more k (put-off (g r h) k q) in
-          going-off (w .going r h) (g r h .same) (unless more k) o (put-unwritten (g r h))
+  -- The element at a place is put.
+  module _ {at : ℕ} {e : Element} {stop : ℕ} (t : Stepped f at (parsed (drop at f)) (step.At e stop)) {last last′ : List ℕ} {s s′ : Standing} {out out′ : Bytes}
+      (w : Scanning es b places f end write out₀ last (parsed (drop at f)) s out) (p : Puts es b places f end write e last last′ s out out′ s′) where
+    behind-element : Scanning es b places f end write out₀ last′ (behind f stop) s′ out′
+    behind-element = scan-on e (behind f stop) (scan-as w (before (element-of f e) (behind f stop)) (t .answer)) p
 
-    module _ {after : List ℕ} {u : Use} {place : ℕ} (t : Turned es f at last after (turn.More u place)) where
-      abbrev behind : Indexes
-      behind = indexes-after (use-meant es f u) (w .indexes)
+    pub scan-last : eqb (getD f stop 0) period ≡ true → Scans es b places f end write out₀ out′ (answer-of s′)
+    unfolding behind
+    scan-last q = scan-end s′ (scan-as behind-element (done []) (rw q refl))
 
-      remembered : Remembers es after behind
-      remembered = t .known .3 .indexes f (w .indexes) (w .remembers)
-
-      module _ {out′ : Bytes} {m : Next} (g : Fills es b places (items-of (use-meant es f u)) p end write out out′ m) where
-        pub more-on : (p′ : ℕ) → m ≡ At p′ → Scanning es b places f end write out₀ after place p′ out′
-        more-on p′ q = record {
-          indexes = behind;
-          remembers = remembered;
-          holds = w .holds;
-          fits = first-within (use-meant es f u) (uses-from es f behind place) (t .answer (w .indexes) (w .remembers)) g p′ q;
-          room = omega (arith, g (w .holds .0) (w .holds .1) .same, w .room);
-          going = first-on (use-meant es f u) (uses-from es f behind place) (t .answer (w .indexes) (w .remembers)) g p′ q;
-        }
-
-        pub more-off : (k : ℕ) → m ≡ Refused k → {j : ℕ} → Unless-used es f after place k j → Scans es b places f end write out₀ out′ (Refused j)
-        more-off k q {j} n =
-            subst (λ (i : ℕ). Scans es b places f end write out₀ out′ (Refused i)) (sym (n behind remembered))
-            (first-off (use-meant es f u) (uses-from es f behind place) (t .answer (w .indexes) (w .remembers)) g k q)
-
-    pub last-fills : {after : List ℕ} {u : Use} → Turned es f at last after (turn.Last u) → {out′ : Bytes} (m : Next)
-        → Fills es b places (items-of (use-meant es f u)) p end write out out′ m → Scans es b places f end write out₀ out′ m
-    last-fills {u = u} t {out′} (At p′) g r h = going-end (end - p′)
-        (subst (λ (o : Outcome Bytes). Going (used (parts es) r end (uses-of es f)) o 0 p′ write out₀ out′)
-        (ap (filled (parts es) r (end - p′)) no-items ∙ filled-together (parts es) r [] (end - p′))
-        (first-on (use-meant es f u) (done []) (t .answer (w .indexes) (w .remembers)) g p′ refl r h))
-    last-fills {u = u} t (Refused k) g r h = first-off (use-meant es f u) (done []) (t .answer (w .indexes) (w .remembers)) g k refl r h
+    pub scan-more : eqb (getD f stop 0) period ≡ false → Scanning es b places f end write out₀ last′ (parsed (drop (stop + 1) f)) s′ out′
+    unfolding behind
+    scan-more q = scan-as behind-element (parsed (drop (stop + 1) f)) (rw q refl)

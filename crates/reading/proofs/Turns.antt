@@ -1,44 +1,49 @@
--- The uses of the elements from a place on, by the element at the place: where its use is refused, bad syntax behind it comes before that.
-use mathlib.Core.Path.{_≡_, refl, sym, ap, subst, _∙_}
-use mathlib.Core.List.{List, [], _∷_}
-use Prim.Native.Nat.{ℕ}
-use lib.ListN.{drop}
+-- What is left of a format behind its first element, by what the element means: a refusal stands unless what is left is refused before it, and items come off the front.
+use mathlib.Core.Path.{_≡_, refl, sym, ap, _∙_}
+use mathlib.Core.Bool.{Bool, false}
+use mathlib.Core.List.{List, [], _∷_, _++_}
+use Prim.Native.Nat.{ℕ, _-_, _≤_}
+use native.Mathlib.Omega.{arith}
+use lib.ListN.{length}
 use Rattle.rules.specs.Outcome.{Outcome, done, refused, _>>=_}
-use Rattle.rules.specs.Lists.{Bytes}
-use Rattle.rules.specs.Table.{Entry}
+use Rattle.rules.specs.Lists.{Bytes, join}
+use Rattle.rules.specs.Table.{Part, Entry, parts}
+use Rattle.rules.specs.Record.{Record}
 use Rattle.rules.specs.Format as rules
-use Rattle.rules.specs.Use.{Use as Meaning, Indexes, indexes-after, use-of, uses}
-use Rattle.formats.specs.Elements.{element-of}
-use Rattle.formats.specs.Syntax.{parsed, before, Stepped}
-use Rattle.formats.specs.declared.Element.{Element}
-use Rattle.formats.specs.declared.syntax.Step.the-variants as step
-use Rattle.uses.specs.Meant.{use-meant, Means, Remembered}
-use Rattle.uses.specs.declared.Use.{Use}
-use Rattle.uses.specs.declared.Meant.the-variants as meant
-use Rattle.reading.specs.Turns.{uses-from, unless, Unless-used, Turned}
-use Rattle.reading.specs.declared.Turn.{Turn}
-use Rattle.reading.specs.declared.Turn.the-variants.{More, Last, Refused}
+use Rattle.rules.specs.Use.{Use as Meaning, Indexes, indexes-after, use-of, uses, items-of, items}
+use Rattle.rules.specs.Services.{filled}
+use Rattle.rules.proofs.Steps.{by-outcome}
+use Rattle.formats.specs.Syntax.{before}
+use Rattle.reading.specs.Filling.{Filling, Going}
+use Rattle.reading.specs.Turns.{place-of, left-of}
+use Rattle.reading.specs.declared.Next.{Next}
+use Rattle.reading.specs.declared.Next.the-variants as next
+use Rattle.reading.specs.declared.Standing.{Standing}
+use Rattle.reading.specs.declared.Standing.the-variants.{At, NoItem, NoUse}
+use Rattle.reading.proofs.Going.{before as put-before, going-start, going-on, going-both-off, items-on, put-off, put-unwritten, filled-on, filled-off, room-left}
 
-pub turned-as : {es : List Entry} {f : Bytes} {at : ℕ} {before after : List ℕ} {r s : Turn} → r ≡ s → Turned es f at before after r → Turned es f at before after s
-turned-as {es} {f} {at} {before} {after} e h = subst (Turned es f at before after) e h
+pub no-items : items [] ≡ []
+unfolding items join
+no-items = refl
 
--- What follows does not change which refusal stands.
+first-items : (u : Meaning) (us : List Meaning) → items (u ∷ us) ≡ items-of u ++ items us
+unfolding items join
+first-items u us = refl
+
+-- A refusal n stands, unless there is one before it; what is done to what is not refused does not change that.
+abbrev unless : {A : Type 0} → Outcome A → ℕ → ℕ
+unless (done a) n = n
+unless (refused k) n = k
+
 unless-then : {A B : Type 0} (o : Outcome A) (g : A → B) (n : ℕ) → unless (o >>= λ a. done (g a)) n ≡ unless o n
 unless-then (done a) g n = refl
 unless-then (refused k) g n = refl
 
--- The syntax from a place on, by the element there.
-module _ {f : Bytes} {at : ℕ} (n : ℕ) where
-  pub syntax-more : {e : Element} {place : ℕ} → Stepped f at (parsed (drop at f)) (step.More e place) → unless (parsed (drop place f)) n ≡ unless (parsed (drop at f)) n
-  syntax-more {e} {place} s = sym (unless-then (parsed (drop place f)) (λ xs. element-of f e ∷ xs) n) ∙ ap (λ o. unless o n) (sym (s .answer))
+refused-then : {A B : Type 0} (o : Outcome A) (n : ℕ) → _≡_ {A = Outcome B} (o >>= λ a. refused n) (refused (unless o n))
+refused-then (done a) n = refl
+refused-then (refused k) n = refl
 
-  pub syntax-last : {e : Element} → Stepped f at (parsed (drop at f)) (step.Last e) → n ≡ unless (parsed (drop at f)) n
-  syntax-last s = ap (λ o. unless o n) (sym (s .answer))
-
-  pub syntax-bad : Stepped f at (parsed (drop at f)) step.Bad → 3 ≡ unless (parsed (drop at f)) n
-  syntax-bad s = ap (λ o. unless o n) (sym (s .answer))
-
--- The uses of elements, by the use of the first.
+-- The uses of an element before some more.
 module _ (es : List Entry) (ls : Indexes) (x : rules.Element) where
   first-done : (xs : List rules.Element) (u : Meaning) → done u ≡ use-of es ls x → uses es ls (x ∷ xs) ≡ (uses es (indexes-after u ls) xs >>= λ us. done (u ∷ us))
   unfolding uses
@@ -57,56 +62,85 @@ module _ (es : List Entry) (ls : Indexes) (x : rules.Element) where
   before-refused (done xs) n e = first-refused xs n e
   before-refused (refused k) n e = refl
 
-no-uses : (es : List Entry) (ls : Indexes) → uses es ls [] ≡ done []
+pub no-uses : (es : List Entry) (ls : Indexes) → uses es ls [] ≡ done []
 unfolding uses
 no-uses es ls = refl
 
-module _ {es : List Entry} {f : Bytes} {at : ℕ} {before after : List ℕ} where
-  pub turn-bad : Stepped f at (parsed (drop at f)) step.Bad → Turned es f at before after (Refused 3)
-  unfolding uses-from
-  turn-bad s = record { answer = λ ls m. ap (λ o. o >>= uses es ls) (s .answer); known = tt }
+-- The items of a use before those of some more.
+module _ (ps : List Part) (r : Record) (room : ℕ) (u : Meaning) where
+  used-on : (o : Outcome (List Meaning)) (a : Bytes) → filled ps r room (items-of u) ≡ done a
+      → (o >>= (λ us. done (u ∷ us)) >>= λ us. filled ps r room (items us)) ≡ put-before a (o >>= λ us. filled ps r (room - length a) (items us))
+  used-on (done us) a h = ap (filled ps r room) (first-items u us) ∙ filled-on ps r room (items-of u) (items us) a h
+  used-on (refused k) a h = refl
 
-  module _ {e : Element} where
-    pub turn-last : Stepped f at (parsed (drop at f)) (step.Last e) → {u : Use} → Means es before e (meant.As u) → Turned es f at before after (Last u)
-    unfolding uses-from
-    turn-last s {u} m = record {
-      answer = λ ls q.
-          ap (λ o. o >>= uses es ls) (s .answer) ∙ first-done es ls (element-of f e) [] (use-meant es f u) (m .answer f ls q)
-          ∙ ap (λ o. o >>= λ us. done (use-meant es f u ∷ us)) (no-uses es (indexes-after (use-meant es f u) ls));
-      known = m .held f (s .place);
-    }
+  used-off : (o : Outcome (List Meaning)) (k : ℕ) → filled ps r room (items-of u) ≡ refused k
+      → (o >>= (λ us. done (u ∷ us)) >>= λ us. filled ps r room (items us)) ≡ refused (unless o k)
+  used-off (done us) k h = ap (filled ps r room) (first-items u us) ∙ filled-off ps r room (items-of u) (items us) k h
+  used-off (refused j) k h = refl
 
-    pub last-refused : Stepped f at (parsed (drop at f)) (step.Last e) → {n : ℕ} → Means es before e (meant.Refused n) → Turned es f at before after (Refused n)
-    unfolding uses-from
-    last-refused s {n} m = record {
-      answer = λ ls q. ap (λ o. o >>= uses es ls) (s .answer) ∙ first-refused es ls (element-of f e) [] n (m .answer f ls q);
-      known = tt;
-    }
+-- What is left, where something is refused.
+module _ (es : List Entry) (r : Record) (end : ℕ) (ls : Indexes) where
+  left-unused : (xs : Outcome (List rules.Element)) (n : ℕ) → left-of es r end ls xs (NoUse n) ≡ refused (unless xs n)
+  unfolding left-of
+  left-unused xs n = refused-then xs n
 
-    module _ {place : ℕ} (s : Stepped f at (parsed (drop at f)) (step.More e place)) where
-      pub more-refused : {n k : ℕ} → Means es before e (meant.Refused n) → k ≡ unless (parsed (drop place f)) n → Turned es f at before after (Refused k)
-      unfolding uses-from
-      more-refused {n} m b = record {
-        answer = λ ls q. ap (λ o. o >>= uses es ls) (s .answer) ∙ before-refused es ls (element-of f e) (parsed (drop place f)) n (m .answer f ls q) ∙ ap refused (sym b);
-        known = tt;
-      }
+  left-unfilled : (xs : Outcome (List rules.Element)) (n : ℕ) → left-of es r end ls xs (NoItem n) ≡ refused (unless (xs >>= uses es ls) n)
+  unfolding left-of
+  left-unfilled xs n = refused-then (xs >>= uses es ls) n
 
-      pub turn-more : {u : Use} → Means es before e (meant.As u) → Remembered es u before after → Turned es f at before after (More u place)
-      unfolding uses-from
-      turn-more {u} m k = record {
-        answer = λ ls q. ap (λ o. o >>= uses es ls) (s .answer) ∙ before-done es ls (element-of f e) (parsed (drop place f)) (use-meant es f u) (m .answer f ls q);
-        known = (s .place .0, s .place .1, m .held f (s .place .2), k);
-      }
+  pub left-bad : (s : Standing) (n : ℕ) → left-of es r end ls (refused n) s ≡ refused n
+  unfolding left-of
+  left-bad (At p) n = refl
+  left-bad (NoItem k) n = refl
+  left-bad (NoUse k) n = refl
 
-  -- A refusal n, by the turn at a place.
-  module _ (n : ℕ) where
-    pub behind-last : {u : Use} → Turned es f at before after (Last u) → Unless-used es f before at n n
-    behind-last w ls q = ap (λ o. unless o n) (sym (w .answer ls q))
+  -- The element x comes first, and the elements xs behind it.
+  module _ (x : rules.Element) (xs : Outcome (List rules.Element)) where
+    -- One that is not looked at, since one before it is refused.
+    pub passed : (n : ℕ) {write : Bool} {out : Bytes} → Going (left-of es r end ls (before x xs) (NoUse n)) (left-of es r end ls xs (NoUse n)) 0 0 write out out
+    passed n = going-both-off (unless xs n) (left-unused (before x xs) n ∙ ap refused (unless-then xs (λ ys. x ∷ ys) n)) (left-unused xs n) refl (λ e. refl)
 
-    pub behind-refused : {k : ℕ} → Turned es f at before after (Refused k) → Unless-used es f before at n k
-    behind-refused w ls q = ap (λ o. unless o n) (sym (w .answer ls q))
+    -- One that is refused.
+    module _ (n : ℕ) (h : refused n ≡ use-of es ls x) where
+      before-off : (s : Standing) → ((k : ℕ) → s ≡ NoUse k → ⊥) → left-of es r end ls (before x xs) s ≡ refused (unless xs n)
+      unfolding left-of
+      before-off (At p) k = ap (λ o. o >>= λ us. filled (parts es) r (end - p) (items us)) (before-refused es ls x xs n h)
+      before-off (NoItem m) k = ap (λ (o : Outcome (List Meaning)). o >>= λ us. refused m) (before-refused es ls x xs n h)
+      before-off (NoUse m) k = absurd (k m refl)
 
-    pub behind-more : {u : Use} {place : ℕ} → Turned es f at before after (More u place) → {r : ℕ} → Unless-used es f after place n r → Unless-used es f before at n r
-    behind-more {u} {place} w h ls q =
-        h (indexes-after (use-meant es f u) ls) (w .known .3 .indexes f ls q)
-        ∙ sym (unless-then (uses-from es f (indexes-after (use-meant es f u) ls) place) (λ us. use-meant es f u ∷ us) n) ∙ ap (λ o. unless o n) (sym (w .answer ls q))
+      pub refused-use : (s : Standing) → ((k : ℕ) → s ≡ NoUse k → ⊥) → (ls′ : Indexes) {write : Bool} {out : Bytes}
+          → Going (left-of es r end ls (before x xs) s) (left-of es r end ls′ xs (NoUse n)) (place-of s) 0 write out out
+      unfolding left-of
+      refused-use s k ls′ = going-both-off (unless xs n) (before-off s k) (refused-then xs n) refl (λ e. refl)
+
+    -- One that means u.
+    module _ (u : Meaning) (h : done u ≡ use-of es ls x) where
+      abbrev more : Outcome (List Meaning)
+      more = xs >>= uses es (indexes-after u ls)
+
+      -- Behind an item that is refused.
+      pub used-behind : (n : ℕ) {write : Bool} {out : Bytes} → Going (left-of es r end ls (before x xs) (NoItem n)) (left-of es r end (indexes-after u ls) xs (NoItem n)) 0 0 write out out
+      unfolding left-of
+      used-behind n =
+          going-both-off (unless more n)
+          (refused-then (before x xs >>= uses es ls) n ∙ ap (λ o. refused (unless o n)) (before-done es ls x xs u h) ∙ ap refused (unless-then more (λ us. u ∷ us) n))
+          (refused-then more n) refl (λ e. refl)
+
+      before-used : (p : ℕ) → left-of es r end ls (before x xs) (At p) ≡ (more >>= (λ us. done (u ∷ us)) >>= λ us. filled (parts es) r (end - p) (items us))
+      unfolding left-of
+      before-used p = ap (λ o. o >>= λ us. filled (parts es) r (end - p) (items us)) (before-done es ls x xs u h)
+
+      module _ {p : ℕ} {write : Bool} {out out′ : Bytes} {m : Next} (g : Filling (filled (parts es) r (end - p) (items-of u)) p write out out′ m) (fits : p ≤ end) (room : end ≤ length out) where
+        pub used-at : (p′ : ℕ) → m ≡ next.At p′ → Going (left-of es r end ls (before x xs) (At p)) (left-of es r end (indexes-after u ls) xs (At p′)) p p′ write out out′
+        unfolding left-of
+        used-at p′ q = items-on (parts es) r end (items-of u) g fits p′ q λ a k n l c.
+            let o = before-used p ∙ used-on (parts es) r (end - p) u more a k ∙ ap (λ w. put-before a (more >>= λ us. filled (parts es) r w (items us))) (room-left end p p′ (length a) n l) in
+            going-on (going-start (left-of es r end ls (before x xs) (At p)) p write out) (g .same) a (left-of es r end (indexes-after u ls) xs (At p′)) p′ o n (omega arith) c
+
+        pub used-within : (p′ : ℕ) → m ≡ next.At p′ → p′ ≤ end
+        used-within p′ q = items-on (parts es) r end (items-of u) g fits p′ q λ a k n l c. l
+
+        pub used-refused : (k : ℕ) → m ≡ next.Refused k → Going (left-of es r end ls (before x xs) (At p)) (left-of es r end (indexes-after u ls) xs (NoItem k)) p 0 write out out′
+        unfolding left-of
+        used-refused k q =
+            going-both-off (unless more k) (before-used p ∙ used-off (parts es) r (end - p) u more k (put-off g k q)) (refused-then more k) (g .same) (put-unwritten g)

@@ -35,3 +35,10 @@ pub record Filling (o : Outcome Bytes) (at : ℕ) (write : Bool) (entry exit : B
   pub answer : r ≡ placed at o
   pub same : length exit ≡ length entry
   pub bytes : Counts write o → exit ≡ left-as write at o entry
+
+-- A walk stands at a place with some of the outcomes left: those end and write from there as the whole does from its start.
+pub record Going (whole rest : Outcome Bytes) (start at : ℕ) (write : Bool) (out₀ out : Bytes) : Type 0 where
+  pub answer : placed at rest ≡ placed start whole
+  pub alike : is-done rest ≡ is-done whole
+  pub same : length out ≡ length out₀
+  pub bytes : Counts write rest → left-as write at rest out ≡ left-as write start whole out₀

@@ -1,53 +1,65 @@
--- The elements of a format, one at a time: the use of an element and those behind it, or the number that they are refused with.
+-- The elements of a format, one at a time: where a scan stands, and what is left to say from there on.
 use mathlib.Core.Path.{_≡_}
-use mathlib.Core.Bool.{Bool}
-use mathlib.Core.List.{List, [], _∷_}
-use Prim.Native.Nat.{ℕ, _<_, _≤_}
-use lib.ListN.{length, drop}
-use Rattle.rules.specs.Outcome.{Outcome, done, refused, _>>=_}
+use mathlib.Core.Bool.{Bool, true, false}
+use mathlib.Core.List.{List}
+use Prim.Native.Nat.{ℕ, _-_, _≤_}
+use lib.ListN.{length}
+use Rattle.rules.specs.Outcome.{Outcome, refused, _>>=_}
 use Rattle.rules.specs.Lists.{Bytes}
 use Rattle.rules.specs.Table.{Entry, parts}
 use Rattle.rules.specs.Record.{Record}
-use Rattle.rules.specs.Use as rules
-use Rattle.rules.specs.Use.{Indexes, indexes-after, uses, items}
+use Rattle.rules.specs.Format as rules
+use Rattle.rules.specs.Use.{Indexes, uses, items}
 use Rattle.rules.specs.Services.{filled}
-use Rattle.formats.specs.Syntax.{parsed}
-use Rattle.uses.specs.Meant.{use-meant, Use-held, Remembers, Remembered, uses-of}
+use Rattle.formats.specs.Elements.{element-of}
+use Rattle.formats.specs.Syntax.{before}
+use Rattle.formats.specs.declared.Element.{Element}
+use Rattle.uses.specs.Meant.{Remembers, uses-of}
 use Rattle.records.specs.Places.{Held}
-use Rattle.reading.specs.Filling.{Filling}
+use Rattle.reading.specs.Filling.{Filling, Going}
 use Rattle.reading.specs.declared.Next.{Next}
-use Rattle.reading.specs.declared.Turn.{Turn}
-use Rattle.reading.specs.declared.Turn.the-variants.{More, Last, Refused}
+use Rattle.reading.specs.declared.Next.the-variants as next
+use Rattle.reading.specs.declared.Standing.{Standing}
+use Rattle.reading.specs.declared.Standing.the-variants.{At, NoItem, NoUse}
 
--- The uses of the elements from a place on, behind the indexes so far.
-unfoldable pub uses-from : List Entry → Bytes → Indexes → ℕ → Outcome (List rules.Use)
-uses-from es f ls at = parsed (drop at f) >>= uses es ls
+-- Where a scan stands in the buffer; behind a refusal that does not matter.
+abbrev pub place-of : Standing → ℕ
+place-of (At p) = p
+place-of (NoItem n) = 0
+place-of (NoUse n) = 0
 
--- A refusal n stands, unless there is one before it.
-abbrev pub unless : {A : Type 0} → Outcome A → ℕ → ℕ
-unless (done a) n = n
-unless (refused k) n = k
+-- What a scan answers where it stands.
+abbrev pub answer-of : Standing → Next
+answer-of (At p) = next.At p
+answer-of (NoItem n) = next.Refused n
+answer-of (NoUse n) = next.Refused n
 
--- The same of those uses, whatever indexes are remembered.
-abbrev pub Unless-used : List Entry → Bytes → List ℕ → ℕ → ℕ → ℕ → Type 0
-Unless-used es f last at n r = (ls : Indexes) → Remembers es last ls → r ≡ unless (uses-from es f ls at) n
+-- Whether an element is refused; and where a scan stands behind items that end at a place or are refused.
+abbrev pub unused : Standing → Bool
+unused (At p) = false
+unused (NoItem n) = false
+unused (NoUse n) = true
 
--- Those uses by a turn of the code: a use and those behind it, the last use, or their refusal.
-abbrev pub by-turn : List Entry → Bytes → Indexes → Turn → Outcome (List rules.Use)
-by-turn es f ls (More u place) = uses-from es f (indexes-after (use-meant es f u) ls) place >>= λ us. done (use-meant es f u ∷ us)
-by-turn es f ls (Last u) = done (use-meant es f u ∷ [])
-by-turn es f ls (Refused n) = refused n
+abbrev pub standing-of : Next → Standing
+standing-of (next.At p) = At p
+standing-of (next.Refused n) = NoItem n
 
--- A next turn is at a later place, and what is known of a use holds.
-abbrev pub turn-known : List Entry → Bytes → ℕ → List ℕ → List ℕ → Turn → Type 0
-turn-known es f at before after (More u place) = (at < place) × (place ≤ length f) × Use-held es f u × Remembered es u before after
-turn-known es f at before after (Last u) = Use-held es f u
-turn-known es f at before after (Refused n) = Unit {0}
+-- What is left, by the elements that are left: their items; behind an item that is refused whether their uses are, and behind an
+-- element that is refused whether their syntax is bad, since either comes before it.
+unfoldable pub left-of : List Entry → Record → ℕ → Indexes → Outcome (List rules.Element) → Standing → Outcome Bytes
+left-of es r end ls xs (At p) = xs >>= uses es ls >>= λ us. filled (parts es) r (end - p) (items us)
+left-of es r end ls xs (NoItem n) = xs >>= uses es ls >>= λ us. refused n
+left-of es r end ls xs (NoUse n) = xs >>= λ ys. refused n
 
--- A turn was made.
-pub record Turned (es : List Entry) (f : Bytes) (at : ℕ) (before after : List ℕ) (r : Turn) : Type 0 where
-  pub answer : (ls : Indexes) → Remembers es before ls → uses-from es f ls at ≡ by-turn es f ls r
-  pub known : turn-known es f at before after r
+-- An element was put: whatever follows it is left from where the scan stands then.
+pub record Puts (es : List Entry) (b : Bytes) (places : List ℕ) (f : Bytes) (end : ℕ) (write : Bool) (e : Element) (last last′ : List ℕ)
+    (s : Standing) (entry exit : Bytes) (s′ : Standing) : Type 0 where
+  pub fits : place-of s′ ≤ end
+  pub same : length last′ ≡ length last
+  pub kept : length exit ≡ length entry
+  pub going : (ls : Indexes) → Remembers es last ls → (ls′ : Indexes) × Remembers es last′ ls′
+      × ((r : Record) → Held es b places r → (xs : Outcome (List rules.Element))
+        → Going (left-of es r end ls (before (element-of f e) xs) s) (left-of es r end ls′ xs s′) (place-of s) (place-of s′) write entry exit)
 
 -- The items of a format end and write as they are to, or the first refusal is the format's.
 abbrev pub Scans : List Entry → Bytes → List ℕ → Bytes → ℕ → Bool → Bytes → Bytes → Next → Type 0

@@ -15,16 +15,16 @@ ghost use Rattle.rules.specs.Record.{Record};
 ghost use Rattle.kinds.specs.Formats.{format-at};
 ghost use Rattle.tables.specs.Entries.{Valid, entries-of};
 ghost use Rattle.tables.specs.Places.{inside-at};
-ghost use Rattle.formats.specs.Elements.{range};
-ghost use Rattle.formats.specs.Syntax.{parsed};
+ghost use Rattle.formats.specs.Elements.{range, sound};
 ghost use Rattle.uses.specs.Meant.{Span-held, Use-held, use-meant};
 ghost use Rattle.records.specs.Where.{fields-of};
 ghost use Rattle.records.specs.Paths.{Wide};
 ghost use Rattle.records.specs.Places.{Held, Holds, Piece-of};
 ghost use Rattle.reading.specs.Filling.{Filling, within};
 ghost use Rattle.reading.specs.Runs.{Fills, together, Wants, carried-to, wanted, Stand, Exist, wanted-at, Cell-holds, asked-at, Askable, Only, Way, field-items, row-items, span-items};
-ghost use Rattle.reading.specs.Turns.{Turned, Unless-used, unless, Scans};
+ghost use Rattle.reading.specs.Turns.{place-of, answer-of, standing-of, unused, Puts, Scans};
 ghost use Rattle.records.specs.declared.places.Cell.the-variants.{At};
+use formats::Element;
 use formats::syntax::Step;
 use records::paths::Path;
 use records::places::Cell;
@@ -42,11 +42,11 @@ pub enum Next {
     Refused(u8),
 }
 
-// The use of an element and the place where the next element begins, the use of the last element, or the number of a refusal.
-enum Turn {
-    More(Use, usize),
-    Last(Use),
-    Refused(u8),
+// Where a scan of a format stands: the items so far end at a place, or the number of an item's refusal, or of an element's.
+enum Standing {
+    At(usize),
+    NoItem(u8),
+    NoUse(u8),
 }
 
 // What is wanted of a field: its values from first to last, which are stored at its own format and standard length, at a format and a
@@ -588,64 +588,65 @@ fn put_use(
     }
 }
 
-// A refusal n stands, unless the syntax of the elements from a place on is bad, which is 3.
-fn syntax_behind(f: &[u8], from: usize, n: u8) -> u8
-    requires { ⌜ from ≤ length (now f) ⌝ }
-    ensures { λ r. ⌜ r ≡ unless (parsed (drop from (now (f .entry)))) n ⌝ }
+// Whether an element is refused.
+fn is_unused(state: Standing) -> bool
+    ensures { λ r. ⌜ r ≡ unused state ⌝ }
 {
-    let mut at = from;
-    loop {
-        match formats::syntax::next(f, at) {
-            Step::More(_, place) => {
-                at = place;
-            }
-            Step::Last(_) => {
-                return n;
-            }
-            Step::Bad => {
-                return 3;
-            }
-        }
+    match state {
+        Standing::At(_) => false,
+        Standing::NoItem(_) => false,
+        Standing::NoUse(_) => true,
     }
 }
 
-// The use of the element at a place, or the number that the elements from there on are refused with.
-fn use_at(t: &[u8], f: &[u8], at: usize, last: &mut [u8; 64]) -> Turn
-    requires { ⌜ Valid (now t) × (at ≤ length (now f)) × (length (now last) ≡ 64) ⌝ }
-    ensures { λ r. ⌜ Turned (entries-of (now (t .entry))) (now (f .entry)) at (now (last .entry)) (now (last .exit)) r ⌝ }
+// Where a scan stands behind items that end at a place or are refused.
+fn standing(next: Next) -> Standing
+    ensures { λ r. ⌜ r ≡ standing-of next ⌝ }
 {
-    match formats::syntax::next(f, at) {
-        Step::More(e, place) => match uses::use_of(t, last, e) {
-            Meant::As(u) => {
-                uses::remember(t, last, u);
-                Turn::More(u, place)
-            }
-            Meant::Refused(n) => Turn::Refused(syntax_behind(f, place, n)),
-        },
-        Step::Last(e) => match uses::use_of(t, last, e) {
-            Meant::As(u) => Turn::Last(u),
-            Meant::Refused(n) => Turn::Refused(n),
-        },
-        Step::Bad => Turn::Refused(3),
+    match next {
+        Next::At(p) => Standing::At(p),
+        Next::Refused(n) => Standing::NoItem(n),
     }
 }
 
-// A refusal n of an item stands, unless the elements from a place on are refused.
-fn uses_behind(t: &[u8], f: &[u8], from: usize, last: &mut [u8; 64], n: u8) -> u8
-    requires { ⌜ Valid (now t) × (from ≤ length (now f)) × (length (now last) ≡ 64) ⌝ }
-    ensures { λ r. ⌜ Unless-used (entries-of (now (t .entry))) (now (f .entry)) (now (last .entry)) from n r ⌝ }
+// What a scan answers where it stands.
+fn answer(state: Standing) -> Next
+    ensures { λ r. ⌜ r ≡ answer-of state ⌝ }
 {
-    let mut at = from;
-    loop {
-        match use_at(t, f, at, last) {
-            Turn::More(_, place) => {
-                at = place;
-            }
-            Turn::Last(_) => {
-                return n;
-            }
-            Turn::Refused(k) => {
-                return k;
+    match state {
+        Standing::At(p) => Next::At(p),
+        Standing::NoItem(n) => Next::Refused(n),
+        Standing::NoUse(n) => Next::Refused(n),
+    }
+}
+
+// One element more. Behind an element that is refused only the syntax of the others matters, behind an item only their uses too.
+fn put_element(
+    t: &[u8],
+    b: &[u8],
+    places: &[u16; records::DIRECTORY],
+    f: &[u8],
+    e: Element,
+    last: &mut [u8; 64],
+    state: Standing,
+    out: &mut [u8],
+    end: usize,
+    write: bool,
+) -> Standing
+    requires { ⌜ Valid (now t) × sound (now f) e × (length (now last) ≡ 64) × Holds (entries-of (now t)) (now b) (now places) × (place-of state ≤ end) × (end ≤ length (now out)) ⌝ }
+    ensures { λ r. ⌜ Puts (entries-of (now (t .entry))) (now (b .entry)) (now (places .entry)) (now (f .entry)) end write e (now (last .entry)) (now (last .exit)) state (now (out .entry)) (now (out .exit)) r ⌝ }
+{
+    if is_unused(state) {
+        return state;
+    }
+    match uses::use_of(t, last, e) {
+        Meant::Refused(n) => Standing::NoUse(n),
+        Meant::As(u) => {
+            uses::remember(t, last, u);
+            match state {
+                Standing::At(p) => standing(put_use(t, b, places, f, u, out, p, end, write)),
+                Standing::NoItem(n) => Standing::NoItem(n),
+                Standing::NoUse(n) => Standing::NoUse(n),
             }
         }
     }
@@ -669,27 +670,19 @@ pub fn scan(
         return Next::Refused(3);
     }
     let mut last = [0u8; 64];
+    let mut state = Standing::At(0);
     let mut at = 0;
-    let mut p = 0;
     loop {
-        match use_at(t, f, at, &mut last) {
-            Turn::More(u, place) => {
-                let next = put_use(t, b, places, f, u, out, p, end, write);
-                match next {
-                    Next::Refused(n) => {
-                        return Next::Refused(uses_behind(t, f, place, &mut last, n));
-                    }
-                    Next::At(q) => {
-                        p = q;
-                    }
+        match formats::syntax::next(f, at) {
+            Step::Bad => {
+                return Next::Refused(3);
+            }
+            Step::At(e, stop) => {
+                state = put_element(t, b, places, f, e, &mut last, state, out, end, write);
+                if formats::syntax::is_last(f, stop) {
+                    return answer(state);
                 }
-                at = place;
-            }
-            Turn::Last(u) => {
-                return put_use(t, b, places, f, u, out, p, end, write);
-            }
-            Turn::Refused(n) => {
-                return Next::Refused(n);
+                at = stop + 1;
             }
         }
     }
