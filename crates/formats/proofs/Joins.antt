@@ -56,15 +56,15 @@ unfolding then
 then-comma t b bs e = rw (e, then) refl
 
 -- The piece of a text, put before what stands behind it.
-abbrev behind : Bytes → Outcome Pending → Outcome Pending
-behind t o = rules.piece (trim t) >>= λ q. o >>= put-before q
+abbrev joined : Bytes → Outcome Pending → Outcome Pending
+joined t o = rules.piece (trim t) >>= λ q. o >>= put-before q
 
-last-joins : (t : Bytes) → assembled (t ∷ []) ≡ behind t (done none-pending)
+last-joins : (t : Bytes) → assembled (t ∷ []) ≡ joined t (done none-pending)
 unfolding assembled
 last-joins t = refl
 
 -- Both ways of a refusal are the same, for it is 3.
-comma-joins : (t : Bytes) (m : Outcome (List Bytes)) → Only (Is 3) m → ((m >>= λ ts. done (t ∷ ts)) >>= assembled) ≡ behind t (m >>= assembled)
+comma-joins : (t : Bytes) (m : Outcome (List Bytes)) → Only (Is 3) m → ((m >>= λ ts. done (t ∷ ts)) >>= assembled) ≡ joined t (m >>= assembled)
 unfolding assembled
 comma-joins t (done ts) w = refl
 comma-joins t (refused n) w = both (rules.piece (trim t)) (piece-only (trim t))
@@ -103,9 +103,9 @@ module _ (f : Bytes) (at end : ℕ) (e : end ≡ at + extent false (drop at f)) 
     unfolding pending
     pending-some =
         rw (texts-at, drop-cons f end 0 h, ← p) (by-test (eqb (getD f end 0) period)
-        (λ d. rw (then-period (part f at end) (getD f end 0) (drop (suc end) f) d) (last-joins (part f at end) ∙ ap (behind (part f at end)) (sym (rest-period f end d))))
+        (λ d. rw (then-period (part f at end) (getD f end 0) (drop (suc end) f) d) (last-joins (part f at end) ∙ ap (joined (part f at end)) (sym (rest-period f end d))))
         (λ d. rw (then-comma (part f at end) (getD f end 0) (drop (suc end) f) d)
-        (comma-joins (part f at end) (texts false (drop (suc end) f)) (texts-only false (drop (suc end) f)) ∙ ap (behind (part f at end)) (sym (rest-texts f end d)))))
+        (comma-joins (part f at end) (texts false (drop (suc end) f)) (texts-only false (drop (suc end) f)) ∙ ap (joined (part f at end)) (sym (rest-texts f end d)))))
 
 pub trim-at : (f : Bytes) (at end first last : ℕ) → part f at last ≡ strip (part f at end) → part f first last ≡ skip-spaces (part f at last)
     → trim (part f at end) ≡ part f first last

@@ -14,12 +14,13 @@ use Rattle.rules.specs.Characters.{period}
 use Rattle.rules.specs.Lists.{Bytes, absent}
 use Rattle.rules.specs.Format as rules
 use Rattle.rules.specs.Format.{texts, Pending, settled, completed, put-before}
+use Rattle.rules.proofs.Steps.{by-test, done-inj}
 use Rattle.rules.proofs.Only.{Only, Is, only-bind, only-pick}
 use Rattle.rules.proofs.Refusals.{texts-only, assembled-only}
 use Rattle.formats.specs.Elements.{optional, element-of, named-of, sound, with-length, with-format}
 use Rattle.formats.specs.Pieces.{piece-of}
-use Rattle.formats.specs.Texts.{pending, elements-first, rest, none-pending, Looked}
-use Rattle.formats.specs.Syntax.{parsed, before, by-step, step-place, Stepped, then-settled, then-format, then-completed}
+use Rattle.formats.specs.Texts.{pending, elements-first, rest, Looked}
+use Rattle.formats.specs.Syntax.{parsed, before, by-step, behind, step-place, Stepped, then-format, then-completed}
 use Rattle.formats.specs.declared.Named.{Named}
 use Rattle.formats.specs.declared.Element.{Element}
 use Rattle.formats.specs.declared.Element.the-variants as code
@@ -27,7 +28,7 @@ use Rattle.formats.specs.declared.pieces.Piece.{Piece}
 use Rattle.formats.specs.declared.pieces.Piece.the-variants as piece
 use Rattle.formats.specs.declared.texts.Ahead.{Ahead}
 use Rattle.formats.specs.declared.syntax.Step.{Step}
-use Rattle.formats.specs.declared.syntax.Step.the-variants.{More, Last, Bad}
+use Rattle.formats.specs.declared.syntax.Step.the-variants.{At, Bad}
 use Rattle.formats.proofs.Joins.{rest-period, rest-comma}
 use Rattle.formats.proofs.Puts.{settle, parsed-pending, settle-before, put-completed, completed-settled, both, take-elements, put-first, put-format, put-format-bad, put-length, put-length-bad}
 
@@ -44,8 +45,7 @@ pub looked-element : {f : Bytes} {at end : ℕ} {x : Element} → Looked f at (r
 looked-element {f} {at} {end} {x} w p h = put-first (element-of f x) (rest f end) p (sym (w .answer) ∙ h)
 
 step-later : (f : Bytes) (at at′ : ℕ) (r : Step) → at ≤ at′ → step-place f at′ r → step-place f at r
-step-later f at at′ (More e next) h (a, b, c) = (omega arith, b, c)
-step-later f at at′ (Last e) h w = w
+step-later f at at′ (At e stop) h (a, b, c) = (omega arith, b, c)
 step-later f at at′ Bad h w = tt
 
 pub stepped-later : {f : Bytes} {at at′ : ℕ} {o o′ : Outcome (List rules.Element)} {r : Step} → o ≡ o′ → at ≤ at′ → Stepped f at′ o′ r → Stepped f at o r
@@ -76,93 +76,93 @@ module _ (f : Bytes) (n : Named) (s : n .sized ≡ false) where
 pub name-at-length : (n : Named) (size : Option ℕ) → n .lettered ≡ false → named-of n size (optional (n .lettered) (n .letter)) ≡ named-of n size none
 name-at-length n size l = ap (λ b. named-of n size b) (optional-none (n .lettered) (n .letter) l)
 
--- A period ends the elements.
-module _ (f : Bytes) (end : ℕ) (e : getD f end 0 ≡ period) where
-  ended : rest f end ≡ done none-pending
-  ended = rest-period f end (eq-eqb (getD f end 0) period e)
+-- What stands behind a place, by a period or a comma there.
+module _ (f : Bytes) (stop : ℕ) where
+  pub behind-last : eqb (getD f stop 0) period ≡ true → behind f stop ≡ done []
+  unfolding behind
+  behind-last e = rw (e, behind) refl
 
-  pub settled-last : (x : rules.Element) → then-settled f end x ≡ done (x ∷ [])
-  unfolding then-settled settled absent
-  settled-last x = rw ended refl
+  pub behind-more : eqb (getD f stop 0) period ≡ false → behind f stop ≡ parsed (drop (stop + 1) f)
+  unfolding behind
+  behind-more e = rw (e, behind) refl
 
-  pub format-last : (n : Named) (size : ℕ) → then-format f end n size ≡ done (named-of n (some size) none ∷ [])
+  rest-behind : (rest f stop >>= settle) ≡ behind f stop
+  unfolding settled absent
+  rest-behind =
+      by-test (eqb (getD f stop 0) period)
+      (λ e. ap (λ m. m >>= settle) (rest-period f stop e) ∙ sym (behind-last e))
+      (λ e. ap (λ m. m >>= settle) (rest-comma f stop e) ∙ sym (behind-more e ∙ parsed-pending (drop (stop + 1) f)))
+
+  pub first-period : getD f stop 0 ≡ period → elements-first (rest f stop)
+  unfolding settled absent
+  first-period e p h = rw (← done-inj (sym (rest-period f stop (eq-eqb (getD f stop 0) period e)) ∙ h)) refl
+
+  pub first-comma : (getD f stop 0 ≡ period → ⊥) → elements-first (pending (drop (stop + 1) f)) → elements-first (rest f stop)
+  first-comma e s p h = s p (sym (rest-comma f stop (ne-eqb (getD f stop 0) period e)) ∙ h)
+
+-- An element behind which neither a length nor a format stands, and the elements behind it.
+module _ (f : Bytes) (end : ℕ) where
+  at-first : (k : Pending → Outcome (List rules.Element)) (x : rules.Element) → ((es : List rules.Element) → k (both none none es) ≡ done (x ∷ es))
+      → elements-first (rest f end) → (rest f end >>= k) ≡ before x (behind f end)
+  at-first k x h s = take-elements k x h (rest f end) s ∙ ap (before x) (rest-behind f end)
+
+  at-settled : (x : rules.Element) → (rest f end >>= λ p. need (settled p) 3 >>= λ _. done (x ∷ p .elements)) ≡ before x (behind f end)
+  at-settled x = settle-before x (rest f end) ∙ ap (before x) (rest-behind f end)
+
+-- A name at a length, and a name alone: the step from what stands behind each.
+abbrev at-length : Named → ℕ → Pending → Outcome (List rules.Element)
+at-length n size p = need (absent (p .size)) 3 >>= λ _. done (named-of n (some size) (p .format) ∷ p .elements)
+
+abbrev alone : Named → Option ℕ → Option ℕ → Pending → Outcome (List rules.Element)
+alone n l b p = completed (named-of n l b) p >>= λ x. done (x ∷ p .elements)
+
+module _ (f : Bytes) (end : ℕ) (n : Named) where
+  pub format-first : (size : ℕ) → elements-first (rest f end) → then-format f end n size ≡ before (named-of n (some size) none) (behind f end)
   unfolding then-format absent
-  format-last n size = rw ended refl
+  format-first size s = at-first f end (at-length n size) (named-of n (some size) none) (λ es. refl) s
 
-  pub name-last : (n : Named) (l b : Option ℕ) → then-completed f end (named-of n l b) ≡ done (named-of n none none ∷ [])
+  pub name-first : (l b : Option ℕ) → elements-first (rest f end) → then-completed f end (named-of n l b) ≡ before (named-of n none none) (behind f end)
   unfolding then-completed completed
-  name-last n l b = rw ended refl
+  name-first l b s = at-first f end (alone n l b) (named-of n none none) (λ es. refl) s
 
--- Behind a comma stand more.
-module _ (f : Bytes) (end : ℕ) (e : getD f end 0 ≡ period → ⊥) where
-  goes-on : rest f end ≡ pending (drop (end + 1) f)
-  goes-on = rest-comma f end (ne-eqb (getD f end 0) period e)
+  -- Behind a comma the next piece has been read, and its own comma or period stands at end′.
+  module _ (e : getD f end 0 ≡ period → ⊥) where
+    followed : {m : Outcome Pending} → pending (drop (end + 1) f) ≡ m → (k : Pending → Outcome (List rules.Element)) → (rest f end >>= k) ≡ (m >>= k)
+    followed w k = ap (λ r. r >>= k) (rest-comma f end (ne-eqb (getD f end 0) period e) ∙ w)
 
-  pub settled-more : (x : rules.Element) → then-settled f end x ≡ before x (parsed (drop (end + 1) f))
-  unfolding then-settled
-  settled-more x = settle-before x (rest f end) ∙ ap (λ m. before x (m >>= settle)) goes-on ∙ ap (before x) (sym (parsed-pending (drop (end + 1) f)))
+    pub format-bad : (size : ℕ) → pending (drop (end + 1) f) ≡ refused 3 → then-format f end n size ≡ refused 3
+    unfolding then-format
+    format-bad size w = followed w (at-length n size)
 
-  -- The next piece has been read.
-  followed : (end′ : ℕ) (q : Piece) → Looked f (end + 1) (record { piece = q; end = end′ })
-      → (k : Pending → Outcome (List rules.Element)) → (rest f end >>= k) ≡ ((piece-of f q >>= λ p. rest f end′ >>= put-before p) >>= k)
-  followed end′ q w k = ap (λ m. m >>= k) (goes-on ∙ w .answer)
-
-  -- The elements come first.
-  more : (k : Pending → Outcome (List rules.Element)) (x : rules.Element) → ((es : List rules.Element) → k (both none none es) ≡ done (x ∷ es))
-      → elements-first (pending (drop (end + 1) f)) → (rest f end >>= k) ≡ before x (parsed (drop (end + 1) f))
-  more k x h s =
-      ap (λ m. m >>= k) goes-on ∙ take-elements k x h (pending (drop (end + 1) f)) s ∙ ap (before x) (sym (parsed-pending (drop (end + 1) f)))
-
-  -- A name at a length, by what stands behind it.
-  module _ (n : Named) (size : ℕ) where
-    abbrev step : Pending → Outcome (List rules.Element)
-    step p = need (absent (p .size)) 3 >>= λ _. done (named-of n (some size) (p .format) ∷ p .elements)
-
-    pub format-more : elements-first (pending (drop (end + 1) f))
-        → then-format f end n size ≡ before (named-of n (some size) none) (parsed (drop (end + 1) f))
-    unfolding then-format absent
-    format-more s = more step (named-of n (some size) none) (λ es. refl) s
+    pub name-bad : (l b : Option ℕ) → pending (drop (end + 1) f) ≡ refused 3 → then-completed f end (named-of n l b) ≡ refused 3
+    unfolding then-completed
+    name-bad l b w = followed w (alone n l b)
 
     module _ (end′ : ℕ) where
-      pub format-format : (b : ℕ) → Looked f (end + 1) (record { piece = piece.Format b; end = end′ })
-          → then-format f end n size ≡ then-settled f end′ (named-of n (some size) (some b))
-      unfolding then-format then-settled absent
-      format-format b w = followed end′ (piece.Format b) w step ∙ put-format step b (named-of n (some size) (some b)) (λ es. refl) (rest f end′)
-
-      pub format-length : (l : ℕ) → Looked f (end + 1) (record { piece = piece.Length l; end = end′ }) → then-format f end n size ≡ refused 3
+      pub format-format : (size b : ℕ) → pending (drop (end + 1) f) ≡ (rest f end′ >>= put-before (rules.format-piece b))
+          → then-format f end n size ≡ before (named-of n (some size) (some b)) (behind f end′)
       unfolding then-format absent
-      format-length l w = followed end′ (piece.Length l) w step ∙ put-length-bad step l (λ p. refl) (rest f end′) (rest-only f end′)
+      format-format size b w =
+          let x = named-of n (some size) (some b) in
+          followed w (at-length n size) ∙ put-format (at-length n size) b x (λ es. refl) (rest f end′) ∙ at-settled f end′ x
 
-      pub format-bad : Looked f (end + 1) (record { piece = piece.Bad; end = end′ }) → then-format f end n size ≡ refused 3
-      unfolding then-format
-      format-bad w = followed end′ piece.Bad w step
+      pub format-length : (size l : ℕ) → pending (drop (end + 1) f) ≡ (rest f end′ >>= put-before (rules.length-piece l)) → then-format f end n size ≡ refused 3
+      unfolding then-format absent
+      format-length size l w = followed w (at-length n size) ∙ put-length-bad (at-length n size) l (λ p. refl) (rest f end′) (rest-only f end′)
 
-  -- A name alone, by what stands behind it.
-  module _ (n : Named) (l b : Option ℕ) where
-    abbrev complete : Pending → Outcome (List rules.Element)
-    complete p = completed (named-of n l b) p >>= λ x. done (x ∷ p .elements)
+      module _ (l b : Option ℕ) where
+        pub name-length : (size : ℕ) → pending (drop (end + 1) f) ≡ (rest f end′ >>= put-before (rules.length-piece size))
+            → then-completed f end (named-of n l b) ≡ then-format f end′ n size
+        unfolding then-completed then-format completed
+        name-length size w =
+            followed w (alone n l b) ∙ put-length (alone n l b) size (λ p. named-of n (some size) (p .format)) (λ p. refl) (rest f end′)
 
-    pub name-more : elements-first (pending (drop (end + 1) f))
-        → then-completed f end (named-of n l b) ≡ before (named-of n none none) (parsed (drop (end + 1) f))
-    unfolding then-completed completed
-    name-more s = more complete (named-of n none none) (λ es. refl) s
-
-    module _ (end′ : ℕ) where
-      pub name-length : (size : ℕ) → Looked f (end + 1) (record { piece = piece.Length size; end = end′ })
-          → then-completed f end (named-of n l b) ≡ then-format f end′ n size
-      unfolding then-completed then-format completed
-      name-length size w =
-          followed end′ (piece.Length size) w complete
-          ∙ put-length complete size (λ p. named-of n (some size) (p .format)) (λ p. refl) (rest f end′)
-
-      pub name-format : (c : ℕ) → Looked f (end + 1) (record { piece = piece.Format c; end = end′ })
-          → then-completed f end (named-of n l b) ≡ then-settled f end′ (named-of n none (some c))
-      unfolding then-completed then-settled completed
-      name-format c w = followed end′ (piece.Format c) w complete ∙ put-format complete c (named-of n none (some c)) (λ es. refl) (rest f end′)
-
-      pub name-bad : Looked f (end + 1) (record { piece = piece.Bad; end = end′ }) → then-completed f end (named-of n l b) ≡ refused 3
-      unfolding then-completed
-      name-bad w = followed end′ piece.Bad w complete
+        pub name-format : (c : ℕ) → pending (drop (end + 1) f) ≡ (rest f end′ >>= put-before (rules.format-piece c))
+            → then-completed f end (named-of n l b) ≡ before (named-of n none (some c)) (behind f end′)
+        unfolding then-completed completed
+        name-format c w =
+            let x = named-of n none (some c) in
+            followed w (alone n l b) ∙ put-format (alone n l b) c x (λ es. refl) (rest f end′) ∙ at-settled f end′ x
 
 -- An element other than a name.
 abbrev pub nameless : Element → Type 0
@@ -172,13 +172,17 @@ nameless (code.Named n) = ⊥
 nameless (code.Count c) = Unit {0}
 nameless (code.Series first last) = Unit {0}
 
-pub only-settled : (f : Bytes) (end : ℕ) (e : Element) → nameless e → then-completed f end (element-of f e) ≡ then-settled f end (element-of f e)
-unfolding then-completed then-settled completed
-only-settled f end (code.Blanks n) h = completed-settled (rules.blanks n) (λ p. refl) (rest f end)
-only-settled f end (code.Text from upto) h = completed-settled (element-of f (code.Text from upto)) (λ p. refl) (rest f end)
+pub only-settled : (f : Bytes) (end : ℕ) (e : Element) → nameless e → then-completed f end (element-of f e) ≡ before (element-of f e) (behind f end)
+unfolding then-completed completed
+only-settled f end (code.Blanks n) h = completed-settled (rules.blanks n) (λ p. refl) (rest f end) ∙ at-settled f end (rules.blanks n)
+only-settled f end (code.Text from upto) h =
+    let x = element-of f (code.Text from upto) in
+    completed-settled x (λ p. refl) (rest f end) ∙ at-settled f end x
 only-settled f end (code.Named n) h = absurd h
-only-settled f end (code.Count c) h = completed-settled (element-of f (code.Count c)) (λ p. refl) (rest f end)
-only-settled f end (code.Series first last) h = completed-settled (rules.series first last) (λ p. refl) (rest f end)
+only-settled f end (code.Count c) h =
+    let x = element-of f (code.Count c) in
+    completed-settled x (λ p. refl) (rest f end) ∙ at-settled f end x
+only-settled f end (code.Series first last) h = completed-settled (rules.series first last) (λ p. refl) (rest f end) ∙ at-settled f end (rules.series first last)
 
 -- The first piece.
 module _ (f : Bytes) (at end : ℕ) where
@@ -215,13 +219,9 @@ pub is-done-before : (x : rules.Element) (o : Outcome (List rules.Element)) → 
 is-done-before x (done es) = refl
 is-done-before x (refused n) = refl
 
-pub stepped-last : {f : Bytes} {at : ℕ} {o : Outcome (List rules.Element)} {y : rules.Element} {e : Element} → o ≡ done (y ∷ []) → y ≡ element-of f e
-    → sound f e → Stepped f at o (Last e)
-stepped-last h q s = record { answer = h ∙ ap (λ x. done (x ∷ [])) q; place = s }
-
-pub stepped-more : {f : Bytes} {at next : ℕ} {o : Outcome (List rules.Element)} {y : rules.Element} {e : Element} → o ≡ before y (parsed (drop next f))
-    → y ≡ element-of f e → at < next → next ≤ length f → sound f e → Stepped f at o (More e next)
-stepped-more {f} {at} {next} h q a b s = record { answer = h ∙ ap (λ x. before x (parsed (drop next f))) q; place = (a, b, s) }
+pub stepped-at : {f : Bytes} {at stop : ℕ} {o : Outcome (List rules.Element)} {y : rules.Element} {e : Element} → o ≡ before y (behind f stop)
+    → y ≡ element-of f e → at ≤ stop → stop < length f → sound f e → Stepped f at o (At e stop)
+stepped-at {f} {at} {stop} h q a b s = record { answer = h ∙ ap (λ x. before x (behind f stop)) q; place = (a, b, s) }
 
 -- A name to which a length or a format was given.
 pub name-given-length : (f : Bytes) (n : Named) {m : Named} {size : ℕ} → m ≡ with-length n size → n .lettered ≡ false
@@ -238,14 +238,18 @@ name-given-both f n {m} {o} {size} {b} e h = sym (ap (λ x. element-of f (code.N
 
 -- Whether the elements from a place on are good, once the step from there is known.
 module _ {f : Bytes} {at : ℕ} {r : Step} (w : Stepped f at (parsed (drop at f)) r) where
-  pub good-more : (e : Element) (next : ℕ) → r ≡ More e next → is-done (parsed (drop next f)) ≡ is-done (parsed (drop at f))
-  good-more e next q = sym (ap is-done (w .answer ∙ ap (by-step f) q) ∙ is-done-before (element-of f e) (parsed (drop next f)))
+  pub step-known : (e : Element) (stop : ℕ) → r ≡ At e stop → (at ≤ stop) × (stop < length f) × sound f e
+  step-known e stop q = rw q at (w .place)
 
-  pub more-later : (e : Element) (next : ℕ) → r ≡ More e next → (at < next) × (next ≤ length f) × sound f e
-  more-later e next q = rw q at (w .place)
+  good-at : (e : Element) (stop : ℕ) → r ≡ At e stop → is-done (behind f stop) ≡ is-done (parsed (drop at f))
+  good-at e stop q = sym (ap is-done (w .answer ∙ ap (by-step f) q) ∙ is-done-before (element-of f e) (behind f stop))
 
-  pub good-last : (e : Element) → r ≡ Last e → true ≡ is-done (parsed (drop at f))
-  good-last e q = sym (ap is-done (w .answer ∙ ap (by-step f) q))
+  pub good-more : (e : Element) (stop : ℕ) → r ≡ At e stop → eqb (getD f stop 0) period ≡ false
+      → is-done (parsed (drop (stop + 1) f)) ≡ is-done (parsed (drop at f))
+  good-more e stop q h = ap is-done (sym (behind-more f stop h)) ∙ good-at e stop q
+
+  pub good-last : (e : Element) (stop : ℕ) → r ≡ At e stop → eqb (getD f stop 0) period ≡ true → true ≡ is-done (parsed (drop at f))
+  good-last e stop q h = ap is-done (sym (behind-last f stop h)) ∙ good-at e stop q
 
   pub good-bad : r ≡ Bad → false ≡ is-done (parsed (drop at f))
   good-bad q = sym (ap is-done (w .answer ∙ ap (by-step f) q))

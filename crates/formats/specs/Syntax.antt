@@ -1,11 +1,13 @@
 -- The elements of a format, one at a time.
 use mathlib.Core.Path.{_≡_}
-use mathlib.Core.Bool.{false}
+use mathlib.Core.Bool.{true, false}
 use mathlib.Core.List.{List, [], _∷_}
 use mathlib.Core.Option.{some}
-use Prim.Native.Nat.{ℕ, _≤_, _<_}
-use lib.ListN.{length, drop}
+use Prim.Native.Nat.{ℕ, _+_, _≤_, _<_}
+use lib.Dec.{eqb}
+use lib.ListN.{length, drop, getD}
 use Rattle.rules.specs.Outcome.{Outcome, done, refused, _>>=_, need}
+use Rattle.rules.specs.Characters.{period}
 use Rattle.rules.specs.Lists.{Bytes, absent}
 use Rattle.rules.specs.Format as rules
 use Rattle.rules.specs.Format.{texts, settled, completed, assembled}
@@ -14,7 +16,7 @@ use Rattle.formats.specs.Texts.{rest}
 use Rattle.formats.specs.declared.Named.{Named}
 use Rattle.formats.specs.declared.Element.{Element}
 use Rattle.formats.specs.declared.syntax.Step.{Step}
-use Rattle.formats.specs.declared.syntax.Step.the-variants.{More, Last, Bad}
+use Rattle.formats.specs.declared.syntax.Step.the-variants.{At, Bad}
 
 -- The elements of some bytes, up to a period: `elements` of `rules` without the limit on all the bytes.
 unfoldable pub parsed : Bytes → Outcome (List rules.Element)
@@ -28,26 +30,24 @@ parsed bs = do
 abbrev pub before : rules.Element → Outcome (List rules.Element) → Outcome (List rules.Element)
 before e o = o >>= λ es. done (e ∷ es)
 
--- The elements from a place on, by a step of the code: an element and those behind it, or the last.
+-- The elements behind the comma or the period at a place.
+unfoldable pub behind : Bytes → ℕ → Outcome (List rules.Element)
+behind f stop = elim (eqb (getD f stop 0) period) [ true ↦ done [] | false ↦ parsed (drop (stop + 1) f) ]
+
+-- The elements from a place on, by a step of the code: an element and those behind it.
 abbrev pub by-step : Bytes → Step → Outcome (List rules.Element)
-by-step f (More e next) = before (element-of f e) (parsed (drop next f))
-by-step f (Last e) = done (element-of f e ∷ [])
+by-step f (At e stop) = before (element-of f e) (behind f stop)
 by-step f Bad = refused 3
 
--- A next step is at a later place, and the numbers of the element are as large as they may be.
+-- The comma or period behind an element stands in the format, and the numbers of the element are as large as they may be.
 abbrev pub step-place : Bytes → ℕ → Step → Type 0
-step-place f at (More e next) = (at < next) × (next ≤ length f) × sound f e
-step-place f at (Last e) = sound f e
+step-place f at (At e stop) = (at ≤ stop) × (stop < length f) × sound f e
 step-place f at Bad = Unit {0}
 
 -- A step was made: the elements from a place on, o, are those of the step.
 pub record Stepped (f : Bytes) (at : ℕ) (o : Outcome (List rules.Element)) (r : Step) : Type 0 where
   pub answer : o ≡ by-step f r
   pub place : step-place f at r
-
--- An element behind which neither a length nor a format may stand, and the elements behind the comma or period at a place.
-unfoldable pub then-settled : Bytes → ℕ → rules.Element → Outcome (List rules.Element)
-then-settled f end e = rest f end >>= λ p. need (settled p) 3 >>= λ _. done (e ∷ p .elements)
 
 -- A name at a length, behind which a format may stand.
 unfoldable pub then-format : Bytes → ℕ → Named → ℕ → Outcome (List rules.Element)

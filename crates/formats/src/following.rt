@@ -14,7 +14,7 @@ ghost use Rattle.rules.specs.Limits.{greatest-length};
 ghost use Rattle.formats.specs.Elements.{element-of, sound, Small};
 ghost use Rattle.formats.specs.Pieces.{unfinished};
 ghost use Rattle.formats.specs.Texts.{pending, elements-first};
-ghost use Rattle.formats.specs.Syntax.{Stepped, then-settled, then-format, then-completed};
+ghost use Rattle.formats.specs.Syntax.{Stepped, then-format, then-completed};
 
 // The letters lie from C1 to E9, and the digits behind them.
 const FIRST_LETTER: u8 = 0xC1;
@@ -39,18 +39,6 @@ fn begins_longer(f: &[u8], at: usize) -> bool
     f[at + 1] >= FIRST_LETTER
 }
 
-// Nothing may follow the element but another.
-fn settled(f: &[u8], end: usize, e: Element) -> Step
-    requires { ⌜ (end < length (now f)) × sound (now f) e ⌝ }
-    ensures { λ r. ⌜ Stepped (now (f .entry)) end (then-settled (now (f .entry)) end (element-of (now (f .entry)) e)) r ⌝ }
-{
-    if f[end] == PERIOD {
-        Step::Last(e)
-    } else {
-        Step::More(e, end + 1)
-    }
-}
-
 // A format may follow the name, which has a length.
 fn format_behind(f: &[u8], end: usize, n: Named, size: u16) -> Step
     requires { ⌜ (end < length (now f)) × Small n × (n .lettered ≡ false) × (size ≤ greatest-length) ⌝ }
@@ -58,16 +46,16 @@ fn format_behind(f: &[u8], end: usize, n: Named, size: u16) -> Step
 {
     let named = n.with_length(size);
     if f[end] == PERIOD {
-        return Step::Last(Element::Named(named));
+        return Step::At(Element::Named(named), end);
     }
     if begins_longer(f, end + 1) {
-        return Step::More(Element::Named(named), end + 1);
+        return Step::At(Element::Named(named), end);
     }
     let next = text_at(f, end + 1);
     let piece = next.piece;
     match piece {
-        Piece::Format(b) => settled(f, next.end, Element::Named(named.with_format(b))),
-        Piece::Element(_) => Step::More(Element::Named(named), end + 1),
+        Piece::Format(b) => Step::At(Element::Named(named.with_format(b)), next.end),
+        Piece::Element(_) => Step::At(Element::Named(named), end),
         Piece::Length(_) => Step::Bad,
         Piece::Bad => Step::Bad,
     }
@@ -79,17 +67,17 @@ fn length_behind(f: &[u8], end: usize, n: Named) -> Step
     ensures { λ r. ⌜ Stepped (now (f .entry)) end (then-completed (now (f .entry)) end (element-of (now (f .entry)) (Element.Named n))) r ⌝ }
 {
     if f[end] == PERIOD {
-        return Step::Last(Element::Named(n));
+        return Step::At(Element::Named(n), end);
     }
     if begins_longer(f, end + 1) {
-        return Step::More(Element::Named(n), end + 1);
+        return Step::At(Element::Named(n), end);
     }
     let next = text_at(f, end + 1);
     let piece = next.piece;
     match piece {
         Piece::Length(size) => format_behind(f, next.end, n, size),
-        Piece::Format(b) => settled(f, next.end, Element::Named(n.with_format(b))),
-        Piece::Element(_) => Step::More(Element::Named(n), end + 1),
+        Piece::Format(b) => Step::At(Element::Named(n.with_format(b)), next.end),
+        Piece::Element(_) => Step::At(Element::Named(n), end),
         Piece::Bad => Step::Bad,
     }
 }
@@ -101,9 +89,9 @@ pub fn completed(f: &[u8], end: usize, e: Element) -> Step
 {
     match e {
         Element::Named(n) => length_behind(f, end, n),
-        Element::Blanks(_) => settled(f, end, e),
-        Element::Text(_, _) => settled(f, end, e),
-        Element::Count(_) => settled(f, end, e),
-        Element::Series(_, _) => settled(f, end, e),
+        Element::Blanks(_) => Step::At(e, end),
+        Element::Text(_, _) => Step::At(e, end),
+        Element::Count(_) => Step::At(e, end),
+        Element::Series(_, _) => Step::At(e, end),
     }
 }

@@ -3,21 +3,23 @@ use super::Element;
 use super::following::completed;
 use super::pieces::Piece;
 use super::texts::text_at;
+use characters::PERIOD;
 ghost use mathlib.Core.Path.{_≡_};
-ghost use Prim.Native.Nat.{_≤_};
-ghost use lib.ListN.{length, drop};
+ghost use Prim.Native.Nat.{_≤_, _<_};
+ghost use lib.Dec.{eqb};
+ghost use lib.ListN.{length, drop, getD};
 ghost use Rattle.rules.specs.Outcome.{is-done};
+ghost use Rattle.rules.specs.Characters.{period};
 ghost use Rattle.rules.specs.Format.{elements};
 ghost use Rattle.formats.specs.Syntax.{parsed, Stepped};
 
-// An element and the place where the next begins, the last element, or bad syntax.
+// An element and the place of the comma or period behind it, or bad syntax.
 pub enum Step {
-    More(Element, usize),
-    Last(Element),
+    At(Element, usize),
     Bad,
 }
 
-// The element at a place, and where the next begins.
+// The element at a place, and where its comma or period stands.
 pub fn next(f: &[u8], at: usize) -> Step
     requires { ⌜ at ≤ length (now f) ⌝ }
     ensures { λ r. ⌜ Stepped (now (f .entry)) at (parsed (drop at (now (f .entry)))) r ⌝ }
@@ -32,6 +34,14 @@ pub fn next(f: &[u8], at: usize) -> Step
     }
 }
 
+// Whether the element before a place is the last: a period stands there.
+pub fn is_last(f: &[u8], stop: usize) -> bool
+    requires { ⌜ stop < length (now f) ⌝ }
+    ensures { λ r. ⌜ r ≡ eqb (getD (now (f .entry)) stop 0) period ⌝ }
+{
+    f[stop] == PERIOD
+}
+
 // Whether a format is good.
 pub fn syntax(f: &[u8]) -> bool
     ensures { λ r. ⌜ r ≡ is-done (elements (now (f .entry))) ⌝ }
@@ -42,11 +52,11 @@ pub fn syntax(f: &[u8]) -> bool
     let mut at = 0;
     loop {
         match next(f, at) {
-            Step::More(_, place) => {
-                at = place;
-            }
-            Step::Last(_) => {
-                return true;
+            Step::At(_, stop) => {
+                if is_last(f, stop) {
+                    return true;
+                }
+                at = stop + 1;
             }
             Step::Bad => {
                 return false;

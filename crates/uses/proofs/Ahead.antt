@@ -1,9 +1,13 @@
 -- The uses of the elements of a format, one at a time: a step of the code takes the first of those that are left. Assumes nothing.
 use mathlib.Core.Path.{_≡_, refl, sym, ap, subst, _∙_}
+use mathlib.Core.Bool.{true, false}
 use mathlib.Core.List.{List, [], _∷_}
-use Prim.Native.Nat.{ℕ}
+use Prim.Native.Nat.{ℕ, _+_}
+use native.Mathlib.Omega.{arith}
+use lib.Dec.{eqb}
 use lib.ListN.{getD, drop, replicate}
 use Rattle.rules.specs.Outcome.{Outcome, done}
+use Rattle.rules.specs.Characters.{period}
 use Rattle.rules.specs.Lists.{Bytes}
 use Rattle.rules.specs.Table.{Entry}
 use Rattle.rules.specs.Format as rules
@@ -11,10 +15,11 @@ use Rattle.rules.specs.Format.{elements}
 use Rattle.rules.specs.Use.{Use as Meaning, Indexes, indexes-after, use-of, uses}
 use Rattle.rules.proofs.Steps.{from-bind, done-inj, not-done}
 use Rattle.formats.specs.Elements.{element-of}
-use Rattle.formats.specs.Syntax.{parsed, Stepped}
+use Rattle.formats.specs.Syntax.{parsed, before as put, behind, Stepped}
 use Rattle.formats.specs.declared.Element.{Element}
 use Rattle.formats.specs.declared.syntax.Step.{Step}
 use Rattle.formats.specs.declared.syntax.Step.the-variants as step
+use Rattle.formats.proofs.StepLaws.{behind-last, behind-more}
 use Rattle.uses.specs.Meant.{use-meant, Means, Remembered, uses-of}
 use Rattle.uses.specs.Ahead.{Ahead, Nexts}
 use Rattle.uses.specs.declared.Use.{Use}
@@ -64,49 +69,42 @@ module _ {es : List Entry} {f : Bytes} {at : ℕ} {before : List ℕ} where
   pub next-bad : Stepped f at (parsed (drop at f)) step.Bad → Nexts es f at before before Refused
   next-bad s = record { same = refl; known = tt; answer = λ us w. not-done (sym (s .answer) ∙ w .parsed) }
 
-  module _ {e : Element} where
-    pub next-last : Stepped f at (parsed (drop at f)) (step.Last e) → {u : Use} → Means es before e (meant.As u) → Nexts es f at before before (Last u)
-    next-last s {u} m = record {
+  module _ {e : Element} {stop : ℕ} (s : Stepped f at (parsed (drop at f)) (step.At e stop)) where
+    pub next-refused : {n : ℕ} → Means es before e (meant.Refused n) → Nexts es f at before before Refused
+    next-refused {n} m = record {
       same = refl;
-      known = m .held f (s .place);
+      known = tt;
+      answer = λ us w. from-bind (behind f stop) _ (sym (s .answer) ∙ w .parsed) λ ys g q. first-refused e us w ys (done-inj q) n m;
+    }
+
+    pub next-last : eqb (getD f stop 0) period ≡ true → {u : Use} → Means es before e (meant.As u) → Nexts es f at before before (Last u)
+    next-last h {u} m = record {
+      same = refl;
+      known = m .held f (s .place .2);
       answer = λ us w.
-          let r = first-meant e us w [] (done-inj (sym (s .answer) ∙ w .parsed)) u m in
+          let r = first-meant e us w [] (done-inj (sym (s .answer ∙ ap (put (element-of f e)) (behind-last f stop h)) ∙ w .parsed)) u m in
           r .1 ∙ ap (λ vs. use-meant es f u ∷ vs) (no-uses es _ (r .0) (r .2));
     }
 
-    pub last-refused : Stepped f at (parsed (drop at f)) (step.Last e) → {n : ℕ} → Means es before e (meant.Refused n) → Nexts es f at before before Refused
-    last-refused s {n} m = record {
-      same = refl;
-      known = tt;
-      answer = λ us w. first-refused e us w [] (done-inj (sym (s .answer) ∙ w .parsed)) n m;
+    pub next-more : eqb (getD f stop 0) period ≡ false → {u : Use} → Means es before e (meant.As u) → {after : List ℕ} → Remembered es u before after
+        → Nexts es f at before after (More u (stop + 1))
+    next-more h {u} m k = record {
+      same = k .same;
+      known = (omega (arith, s .place), omega (arith, s .place), m .held f (s .place .2));
+      answer = λ us w.
+          from-bind (parsed (drop (stop + 1) f)) _ (sym (s .answer ∙ ap (put (element-of f e)) (behind-more f stop h)) ∙ w .parsed) λ ys g q.
+          let r = first-meant e us w ys (done-inj q) u m in (
+            r .0,
+            r .1,
+            record {
+              indexes = indexes-after (use-meant es f u) (w .indexes);
+              left = ys;
+              remembers = k .indexes f (w .indexes) (w .remembers);
+              parsed = g;
+              meant = r .2;
+            },
+          );
     }
-
-    module _ {next : ℕ} (s : Stepped f at (parsed (drop at f)) (step.More e next)) where
-      pub more-refused : {n : ℕ} → Means es before e (meant.Refused n) → Nexts es f at before before Refused
-      more-refused {n} m = record {
-        same = refl;
-        known = tt;
-        answer = λ us w. from-bind (parsed (drop next f)) _ (sym (s .answer) ∙ w .parsed) λ ys g q. first-refused e us w ys (done-inj q) n m;
-      }
-
-      pub next-more : {u : Use} → Means es before e (meant.As u) → {after : List ℕ} → Remembered es u before after → Nexts es f at before after (More u next)
-      next-more {u} m k = record {
-        same = k .same;
-        known = (s .place .0, s .place .1, m .held f (s .place .2));
-        answer = λ us w.
-            from-bind (parsed (drop next f)) _ (sym (s .answer) ∙ w .parsed) λ ys g q.
-            let r = first-meant e us w ys (done-inj q) u m in (
-              r .0,
-              r .1,
-              record {
-                indexes = indexes-after (use-meant es f u) (w .indexes);
-                left = ys;
-                remembers = k .indexes f (w .indexes) (w .remembers);
-                parsed = g;
-                meant = r .2;
-              },
-            );
-      }
 
 -- The uses of all elements, before any index.
 pub uses-all : {es : List Entry} {f : Bytes} {us : List Meaning} → uses-of es f ≡ done us → Ahead es f (replicate 64 0) 0 us

@@ -1,12 +1,13 @@
 -- The use rules over the elements of a format, one at a time: the elements that are left are refused as the whole is. Assumes nothing.
-use mathlib.Core.Path.{_≡_, refl, sym, subst, _∙_}
-use mathlib.Core.Bool.{true}
+use mathlib.Core.Path.{_≡_, refl, sym, ap, subst, _∙_}
+use mathlib.Core.Bool.{true, false}
 use mathlib.Core.List.{List, [], _∷_}
-use Prim.Native.Nat.{ℕ, zero, suc, _<_}
-use lib.Dec.{leb}
+use Prim.Native.Nat.{ℕ, zero, suc, _+_, _<_}
+use lib.Dec.{eqb, leb}
 use lib.ListN.{length, getD, drop, replicate}
 use Rattle.rules.specs.Outcome.{Outcome, done, refused, _>>=_, is-done}
 use Rattle.rules.specs.Limits.{longest-format}
+use Rattle.rules.specs.Characters.{period}
 use Rattle.rules.specs.Lists.{Bytes, look-up}
 use Rattle.rules.specs.Table.{Entry}
 use Rattle.rules.specs.Format as rules
@@ -16,13 +17,13 @@ use Rattle.rules.specs.Use.{Indexes, last-index, indexes-after, use-of, uses}
 use Rattle.rules.proofs.Steps.{from-bind, from-need, done-inj, not-done}
 use Rattle.tables.proofs.Bools.{clash}
 use Rattle.formats.specs.Elements.{element-of, sound}
-use Rattle.formats.specs.Syntax.{parsed, by-step}
+use Rattle.formats.specs.Syntax.{parsed, before, behind, by-step}
 use Rattle.formats.specs.declared.Element.{Element}
-use Rattle.formats.specs.declared.syntax.Step.the-variants.{More, Last, Bad}
-use Rattle.uses.specs.Meant.{use-meant, Means, Remembers, Remembered, Tested, number-of, uses-of, Use-held, Span-known}
+use Rattle.formats.specs.declared.syntax.Step.the-variants.{At, Bad}
+use Rattle.formats.proofs.StepLaws.{behind-last, behind-more}
+use Rattle.uses.specs.Meant.{use-meant, Means, Remembers, Remembered, Tested, uses-of, Use-held, Span-known}
 use Rattle.uses.specs.declared.Use.{Use}
 use Rattle.uses.specs.declared.Use.the-variants as code
-use Rattle.uses.specs.declared.Meant.{Meant}
 use Rattle.uses.specs.declared.Meant.the-variants as meant
 
 tested-then : {A B : Type 0} (o : Outcome A) (g : A → B) (r : ℕ) → Tested o r → Tested (o >>= λ a. done (g a)) r
@@ -86,34 +87,30 @@ module _ (es : List Entry) (f : Bytes) where
     pub testing-bad : parsed (drop at f) ≡ by-step f Bad → ⊥
     testing-bad p = not-done (sym p ∙ w .parsed)
 
-    -- The last element.
-    pub testing-last : (e : Element) (m : Meant) → Means es last e m → sound f e → parsed (drop at f) ≡ by-step f (Last e)
-        → Tested (uses-of es f) (number-of m)
-    testing-last e (meant.As u) k z p =
-        w .rest 0 (subst (λ xs. Tested (uses es (w .indexes) xs) 0) (done-inj (sym p ∙ w .parsed))
-        (first-done es (w .indexes) (element-of f e) [] (use-meant es f u) (sym (k .answer f (w .indexes) (w .remembers))) 0 (no-more es _)))
-    testing-last e (meant.Refused n) k z p =
-        w .rest n (subst (λ xs. Tested (uses es (w .indexes) xs) n) (done-inj (sym p ∙ w .parsed))
-        (first-refused es (w .indexes) (element-of f e) [] n (sym (k .answer f (w .indexes) (w .remembers))) (k .held f z)))
-
-    -- An element before others.
-    module _ (e : Element) (next : ℕ) (p : parsed (drop at f) ≡ by-step f (More e next)) where
+    -- The first element, and those behind it.
+    module _ (e : Element) (stop : ℕ) (p : parsed (drop at f) ≡ by-step f (At e stop)) where
       pub testing-refused : (n : ℕ) → Means es last e (meant.Refused n) → sound f e → Tested (uses-of es f) n
       testing-refused n k z =
-          from-bind (parsed (drop next f)) _ (sym p ∙ w .parsed) λ ys g q.
+          from-bind (behind f stop) _ (sym p ∙ w .parsed) λ ys g q.
           w .rest n (subst (λ xs. Tested (uses es (w .indexes) xs) n) (done-inj q)
           (first-refused es (w .indexes) (element-of f e) ys n (sym (k .answer f (w .indexes) (w .remembers))) (k .held f z)))
 
-      pub testing-more : (u : Use) → Means es last e (meant.As u) → {after : List ℕ} → Remembered es u last after → Testing es f after next
-      testing-more u k r =
-          from-bind (parsed (drop next f)) _ (sym p ∙ w .parsed) λ ys g q. record {
-            indexes = indexes-after (use-meant es f u) (w .indexes);
-            left = ys;
-            parsed = g;
-            remembers = r .indexes f (w .indexes) (w .remembers);
-            rest = λ n t. w .rest n (subst (λ xs. Tested (uses es (w .indexes) xs) n) (done-inj q)
-                (first-done es (w .indexes) (element-of f e) ys (use-meant es f u) (sym (k .answer f (w .indexes) (w .remembers))) n t));
-          }
+      module _ (u : Use) (k : Means es last e (meant.As u)) where
+        pub testing-last : eqb (getD f stop 0) period ≡ true → Tested (uses-of es f) 0
+        testing-last h =
+            w .rest 0 (subst (λ xs. Tested (uses es (w .indexes) xs) 0) (done-inj (sym (p ∙ ap (before (element-of f e)) (behind-last f stop h)) ∙ w .parsed))
+            (first-done es (w .indexes) (element-of f e) [] (use-meant es f u) (sym (k .answer f (w .indexes) (w .remembers))) 0 (no-more es _)))
+
+        pub testing-more : eqb (getD f stop 0) period ≡ false → {after : List ℕ} → Remembered es u last after → Testing es f after (stop + 1)
+        testing-more h r =
+            from-bind (parsed (drop (stop + 1) f)) _ (sym (p ∙ ap (before (element-of f e)) (behind-more f stop h)) ∙ w .parsed) λ ys g q. record {
+              indexes = indexes-after (use-meant es f u) (w .indexes);
+              left = ys;
+              parsed = g;
+              remembers = r .indexes f (w .indexes) (w .remembers);
+              rest = λ n t. w .rest n (subst (λ xs. Tested (uses es (w .indexes) xs) n) (done-inj q)
+                  (first-done es (w .indexes) (element-of f e) ys (use-meant es f u) (sym (k .answer f (w .indexes) (w .remembers))) n t));
+            }
 
 pub span-known : (es : List Entry) (f : Bytes) (u : Use) → Use-held es f u → Span-known es u
 span-known es f (code.Blanks n) h = tt

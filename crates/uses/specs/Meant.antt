@@ -237,10 +237,6 @@ abbrev pub Tested : {A : Type 0} → Outcome A → ℕ → Type 0
 Tested (done a) r = r ≡ 0
 Tested (refused n) r = (r ≡ n) × (0 < n)
 
-abbrev pub number-of : Meant → ℕ
-number-of (meant.As u) = 0
-number-of (meant.Refused n) = n
-
 -- What the use rules say of a format.
 unfoldable pub uses-of : List Entry → Bytes → Outcome (List rules.Use)
 uses-of es f = elements f >>= rules.uses es []

@@ -15,7 +15,7 @@ ghost use Rattle.rules.specs.Format.{elements};
 ghost use Rattle.rules.specs.Use.{in-order, spread};
 ghost use Rattle.tables.specs.Entries.{letter-number, Valid, entries-of, blank, is-group, is-multiple};
 ghost use Rattle.formats.specs.Elements.{range};
-ghost use Rattle.uses.specs.Meant.{occurrences, bracket, spread-of, ranged, Spread-inside, Format-in-effect, Length-in-effect, Asks, Settles, field-use, group-use, count-use, series-use, stored-span, field-span, Means, Name-means, Count-means, Series-means, Span-held, Span-known, Remembered, number-of, Tested, uses-of};
+ghost use Rattle.uses.specs.Meant.{occurrences, bracket, spread-of, ranged, Spread-inside, Format-in-effect, Length-in-effect, Asks, Settles, field-use, group-use, count-use, series-use, stored-span, field-span, Means, Name-means, Count-means, Series-means, Span-held, Span-known, Remembered, Tested, uses-of};
 ghost use Rattle.uses.specs.Ahead.{Nexts};
 
 // Occurrences: of the fields among the entries from first up to end, those from-upto and in each the values value_from-value_upto.
@@ -468,28 +468,17 @@ pub fn next_use(t: &[u8], f: &[u8], at: usize, last: &mut [u8; 64]) -> Next
     ensures { λ r. ⌜ Nexts (entries-of (now (t .entry))) (now (f .entry)) at (now (last .entry)) (now (last .exit)) r ⌝ }
 {
     match formats::syntax::next(f, at) {
-        Step::More(e, place) => match use_of(t, last, e) {
+        Step::At(e, stop) => match use_of(t, last, e) {
             Meant::As(u) => {
+                if formats::syntax::is_last(f, stop) {
+                    return Next::Last(u);
+                }
                 remember(t, last, u);
-                Next::More(u, place)
+                Next::More(u, stop + 1)
             }
             Meant::Refused(_) => Next::Refused,
         },
-        Step::Last(e) => match use_of(t, last, e) {
-            Meant::As(u) => Next::Last(u),
-            Meant::Refused(_) => Next::Refused,
-        },
         Step::Bad => Next::Refused,
-    }
-}
-
-// The number of a refusal; 0 where there is none.
-fn number(m: Meant) -> u8
-    ensures { λ r. ⌜ r ≡ number-of m ⌝ }
-{
-    match m {
-        Meant::As(_) => 0,
-        Meant::Refused(n) => n,
     }
 }
 
@@ -502,20 +491,20 @@ pub fn test(t: &[u8], f: &[u8]) -> u8
     let mut at = 0;
     loop {
         match formats::syntax::next(f, at) {
-            Step::More(e, place) => {
+            Step::At(e, stop) => {
                 let m = use_of(t, &last, e);
                 match m {
                     Meant::As(u) => {
+                        if formats::syntax::is_last(f, stop) {
+                            return 0;
+                        }
                         remember(t, &mut last, u);
-                        at = place;
+                        at = stop + 1;
                     }
                     Meant::Refused(n) => {
                         return n;
                     }
                 }
-            }
-            Step::Last(e) => {
-                return number(use_of(t, &last, e));
             }
             Step::Bad => {
                 return 3;

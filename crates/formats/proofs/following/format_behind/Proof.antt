@@ -1,9 +1,7 @@
 -- `format_behind` meets its contract, by what follows: nothing, a format, an element, or what may not.
-use mathlib.Core.Path.{_∙_, ap}
 use native.Mathlib.Omega.{arith}
-use Rattle.formats.specs.Syntax.{then-settled}
 use Rattle.formats.proofs.Answers.{small-length, small-format}
-use Rattle.formats.proofs.StepLaws.{looked-as, looked-element, stepped-last, stepped-more, stepped-later, stepped-bad, format-last, format-format, format-more, format-length, format-bad, name-given-length, name-given-both}
+use Rattle.formats.proofs.StepLaws.{looked-as, looked-element, stepped-at, stepped-bad, first-period, first-comma, format-first, format-format, format-length, format-bad, name-given-length, name-given-both}
 use borrow.Author.Needs.{needs}
 use Rattle.formats.proofs.following.format_behind.Statement.{statement}
 use Rattle.formats.proofs.following.format_behind.Tie as tie
@@ -19,8 +17,8 @@ returns c =
     let s = c .before .before .before .before in
     let a = s .args in
     let e = c .before .before .with-length .ensures in
-    stepped-last (format-last (a .f .now) (a .end) (c .if1 .taken) (a .n) (a .size)) (name-given-length (a .f .now) (a .n) e (s .pre .2))
-    (rw e (small-length (s .pre .1) (s .pre .3)))
+    stepped-at (format-first (a .f .now) (a .end) (a .n) (a .size) (first-period (a .f .now) (a .end) (c .if1 .taken))) (name-given-length (a .f .now) (a .n) e (s .pre .2))
+    (omega arith) (s .pre .0) (rw e (small-length (s .pre .1) (s .pre .3)))
 
 add-begins-longer : tie.Need-add-begins-longer
 add-begins-longer c = search needs
@@ -28,16 +26,14 @@ add-begins-longer c = search needs
 begins-longer-requires : tie.Need-begins-longer-requires
 begins-longer-requires c κs = search needs
 
-add-t16 : tie.Need-add-t16
-add-t16 c = search needs
-
 returns-2 : tie.Need-returns-2
 returns-2 c =
     let s = c .before .before .before .before .before .before in
     let a = s .args in
     let e = c .before .before .before .before .with-length .ensures in
-    stepped-more (format-more (a .f .now) (a .end) (c .before .before .if1 .left) (a .n) (a .size) (c .before .begins-longer .ensures (c .if2 .taken))) (name-given-length (a .f .now) (a .n) e (s .pre .2))
-    (omega arith) (omega arith) (rw e (small-length (s .pre .1) (s .pre .3)))
+    let h = first-comma (a .f .now) (a .end) (c .before .before .if1 .left) (c .before .begins-longer .ensures (c .if2 .taken)) in
+    stepped-at (format-first (a .f .now) (a .end) (a .n) (a .size) h) (name-given-length (a .f .now) (a .n) e (s .pre .2))
+    (omega arith) (s .pre .0) (rw e (small-length (s .pre .1) (s .pre .3)))
 
 add-text-at : tie.Need-add-text-at
 add-text-at c = search needs
@@ -51,17 +47,8 @@ enum-known-piece c = search needs
 with-format-requires : tie.Need-with-format-requires
 with-format-requires c κs = search needs
 
-settled-requires : tie.Need-settled-requires
-settled-requires c κs =
-    let s = c .before .before .before .before .before .before .before .before .before .before .before in
-    let w = looked-as (c .before .before .before .before .text-at .ensures) (c .before .before .piece .given .1) in
-    (w .place .1, rw (c .with-format .ensures, c .before .before .before .before .before .before .before .before .before .with-length .ensures) (small-format (small-length (s .pre .1) (s .pre .3)) _))
-
 enum-told : tie.Need-enum-told
 enum-told c = search needs
-
-add-t21 : tie.Need-add-t21
-add-t21 c = search needs
 
 enum-told-2 : tie.Need-enum-told-2
 enum-told-2 c = search needs
@@ -71,14 +58,14 @@ enum-told-3 c = search needs
 
 returns-3 : tie.Need-returns-3
 returns-3 c =
-    let a = c .before .before .before .before .before .before .before .before .before .before .before .before .args in
-    let t = c .before .before .before .before .before .text-at in
-    let w = looked-as (t .ensures) (c .before .before .before .piece .given .1) in
-    stepped-later
-    (format-format (a .f .now) (a .end) (c .before .before .before .before .before .before .before .before .if1 .left) (a .n) (a .size) (t .result .end) _ w
-    ∙ ap (then-settled (a .f .now) (t .result .end)) (name-given-both (a .f .now) (a .n) (c .before .before .before .before .before .before .before .before .before .before .with-length .ensures) (c .before .with-format .ensures)))
-    (omega (arith, w .place))
-    (c .settled .ensures)
+    let s = c .before .before .before .before .before .before .before .before .before .before .before in
+    let a = s .args in
+    let t = c .before .before .before .before .text-at in
+    let w = looked-as (t .ensures) (c .before .before .piece .given .1) in
+    let e = c .before .before .before .before .before .before .before .before .before .with-length .ensures in
+    stepped-at (format-format (a .f .now) (a .end) (a .n) (c .before .before .before .before .before .before .before .if1 .left) (t .result .end) (a .size) _ (w .answer))
+    (name-given-both (a .f .now) (a .n) e (c .with-format .ensures))
+    (omega (arith, w .place)) (w .place .1) (rw (c .with-format .ensures, e) (small-format (small-length (s .pre .1) (s .pre .3)) _))
 
 returns-4 : tie.Need-returns-4
 returns-4 c =
@@ -86,20 +73,22 @@ returns-4 c =
     let a = s .args in
     let e = c .before .before .before .before .before .before .before .with-length .ensures in
     let w = looked-as (c .before .before .text-at .ensures) (c .enum-told .given .1) in
-    stepped-more (format-more (a .f .now) (a .end) (c .before .before .before .before .before .if1 .left) (a .n) (a .size) (looked-element w)) (name-given-length (a .f .now) (a .n) e (s .pre .2))
-    (omega arith) (omega arith) (rw e (small-length (s .pre .1) (s .pre .3)))
+    let h = first-comma (a .f .now) (a .end) (c .before .before .before .before .before .if1 .left) (looked-element w) in
+    stepped-at (format-first (a .f .now) (a .end) (a .n) (a .size) h) (name-given-length (a .f .now) (a .n) e (s .pre .2))
+    (omega arith) (s .pre .0) (rw e (small-length (s .pre .1) (s .pre .3)))
 
 returns-5 : tie.Need-returns-5
 returns-5 c =
     let a = c .before .before .before .before .before .before .before .before .before .args in
-    let w = looked-as (c .before .before .text-at .ensures) (c .enum-told2 .given .1) in
-    stepped-bad (format-length (a .f .now) (a .end) (c .before .before .before .before .before .if1 .left) (a .n) (a .size) _ _ w)
+    let t = c .before .before .text-at in
+    let w = looked-as (t .ensures) (c .enum-told2 .given .1) in
+    stepped-bad (format-length (a .f .now) (a .end) (a .n) (c .before .before .before .before .before .if1 .left) (t .result .end) (a .size) _ (w .answer))
 
 returns-6 : tie.Need-returns-6
 returns-6 c =
     let a = c .before .before .before .before .before .before .before .before .before .args in
     let w = looked-as (c .before .before .text-at .ensures) (c .enum-told3 .given .1) in
-    stepped-bad (format-bad (a .f .now) (a .end) (c .before .before .before .before .before .if1 .left) (a .n) (a .size) _ w)
+    stepped-bad (format-bad (a .f .now) (a .end) (a .n) (c .before .before .before .before .before .if1 .left) (a .size) (w .answer))
 
 pub format-behind-spec : {M : Type 1} → statement M
 format-behind-spec =
@@ -110,15 +99,12 @@ format-behind-spec =
     returns
     add-begins-longer
     begins-longer-requires
-    add-t16
     returns-2
     add-text-at
     text-at-requires
     enum-known-piece
     with-format-requires
-    settled-requires
     enum-told
-    add-t21
     enum-told-2
     enum-told-3
     returns-3

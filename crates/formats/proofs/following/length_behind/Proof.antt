@@ -1,9 +1,8 @@
 -- `length_behind` meets its contract, by what follows the name: nothing, a length, a format, an element, or what may not.
-use mathlib.Core.Path.{sym, _∙_, ap}
+use mathlib.Core.Path.{sym}
 use native.Mathlib.Omega.{arith}
-use Rattle.formats.specs.Syntax.{then-settled}
 use Rattle.formats.proofs.Answers.{small-format}
-use Rattle.formats.proofs.StepLaws.{looked-as, looked-element, stepped-last, stepped-more, stepped-later, stepped-bad, name-last, name-length, name-format, name-more, name-bad, name-alone, name-given-format}
+use Rattle.formats.proofs.StepLaws.{looked-as, looked-element, stepped-at, stepped-later, stepped-bad, first-period, first-comma, name-first, name-length, name-format, name-bad, name-alone, name-given-format}
 use borrow.Author.Needs.{needs}
 use Rattle.formats.proofs.following.length_behind.Statement.{statement}
 use Rattle.formats.proofs.following.length_behind.Tie as tie
@@ -15,7 +14,8 @@ returns : tie.Need-returns
 returns c =
     let s = c .before .before .before in
     let a = s .args in
-    stepped-last (name-last (a .f .now) (a .end) (c .if1 .taken) (a .n) _ _) (sym (name-alone (a .f .now) (a .n) (s .pre .2) (s .pre .3))) (s .pre .1)
+    stepped-at (name-first (a .f .now) (a .end) (a .n) _ _ (first-period (a .f .now) (a .end) (c .if1 .taken))) (sym (name-alone (a .f .now) (a .n) (s .pre .2) (s .pre .3)))
+    (omega arith) (s .pre .0) (s .pre .1)
 
 add-begins-longer : tie.Need-add-begins-longer
 add-begins-longer c = search needs
@@ -23,15 +23,13 @@ add-begins-longer c = search needs
 begins-longer-requires : tie.Need-begins-longer-requires
 begins-longer-requires c κs = search needs
 
-add-t15 : tie.Need-add-t15
-add-t15 c = search needs
-
 returns-2 : tie.Need-returns-2
 returns-2 c =
     let s = c .before .before .before .before .before in
     let a = s .args in
-    stepped-more (name-more (a .f .now) (a .end) (c .before .before .if1 .left) (a .n) _ _ (c .before .begins-longer .ensures (c .if2 .taken))) (sym (name-alone (a .f .now) (a .n) (s .pre .2) (s .pre .3)))
-    (omega arith) (omega arith) (s .pre .1)
+    let h = first-comma (a .f .now) (a .end) (c .before .before .if1 .left) (c .before .begins-longer .ensures (c .if2 .taken)) in
+    stepped-at (name-first (a .f .now) (a .end) (a .n) _ _ h) (sym (name-alone (a .f .now) (a .n) (s .pre .2) (s .pre .3)))
+    (omega arith) (s .pre .0) (s .pre .1)
 
 add-text-at : tie.Need-add-text-at
 add-text-at c = search needs
@@ -54,17 +52,8 @@ enum-known-piece-2 c = search needs
 with-format-requires : tie.Need-with-format-requires
 with-format-requires c κs = search needs
 
-settled-requires : tie.Need-settled-requires
-settled-requires c κs =
-    let s = c .before .before .before .before .before .before .before .before .before .before in
-    let w = looked-as (c .before .before .before .before .text-at .ensures) (c .before .before .piece2 .given .1) in
-    (w .place .1, rw (c .with-format .ensures) (small-format (s .pre .1) _))
-
 enum-told : tie.Need-enum-told
 enum-told c = search needs
-
-add-t20 : tie.Need-add-t20
-add-t20 c = search needs
 
 enum-told-2 : tie.Need-enum-told-2
 enum-told-2 c = search needs
@@ -74,33 +63,32 @@ returns-3 c =
     let a = c .before .before .before .before .before .before .before .before .before .before .args in
     let t = c .before .before .before .before .text-at in
     let w = looked-as (t .ensures) (c .before .before .piece .given .1) in
-    stepped-later (name-length (a .f .now) (a .end) (c .before .before .before .before .before .before .before .if1 .left) (a .n) _ _ (t .result .end) _ w) (omega (arith, w .place)) (c .format-behind .ensures)
+    stepped-later (name-length (a .f .now) (a .end) (a .n) (c .before .before .before .before .before .before .before .if1 .left) (t .result .end) _ _ _ (w .answer)) (omega (arith, w .place)) (c .format-behind .ensures)
 
 returns-4 : tie.Need-returns-4
 returns-4 c =
-    let s = c .before .before .before .before .before .before .before .before .before .before .before in
+    let s = c .before .before .before .before .before .before .before .before .before .before in
     let a = s .args in
-    let t = c .before .before .before .before .before .text-at in
-    let w = looked-as (t .ensures) (c .before .before .before .piece2 .given .1) in
-    stepped-later
-    (name-format (a .f .now) (a .end) (c .before .before .before .before .before .before .before .before .if1 .left) (a .n) _ _ (t .result .end) _ w
-    ∙ ap (then-settled (a .f .now) (t .result .end)) (name-given-format (a .f .now) (a .n) (c .before .with-format .ensures) (s .pre .2)))
-    (omega (arith, w .place))
-    (c .settled .ensures)
+    let t = c .before .before .before .before .text-at in
+    let w = looked-as (t .ensures) (c .before .before .piece2 .given .1) in
+    stepped-at (name-format (a .f .now) (a .end) (a .n) (c .before .before .before .before .before .before .before .if1 .left) (t .result .end) _ _ _ (w .answer))
+    (name-given-format (a .f .now) (a .n) (c .with-format .ensures) (s .pre .2))
+    (omega (arith, w .place)) (w .place .1) (rw (c .with-format .ensures) (small-format (s .pre .1) _))
 
 returns-5 : tie.Need-returns-5
 returns-5 c =
     let s = c .before .before .before .before .before .before .before .before in
     let a = s .args in
     let w = looked-as (c .before .before .text-at .ensures) (c .enum-told .given .1) in
-    stepped-more (name-more (a .f .now) (a .end) (c .before .before .before .before .before .if1 .left) (a .n) _ _ (looked-element w)) (sym (name-alone (a .f .now) (a .n) (s .pre .2) (s .pre .3)))
-    (omega arith) (omega arith) (s .pre .1)
+    let h = first-comma (a .f .now) (a .end) (c .before .before .before .before .before .if1 .left) (looked-element w) in
+    stepped-at (name-first (a .f .now) (a .end) (a .n) _ _ h) (sym (name-alone (a .f .now) (a .n) (s .pre .2) (s .pre .3)))
+    (omega arith) (s .pre .0) (s .pre .1)
 
 returns-6 : tie.Need-returns-6
 returns-6 c =
     let a = c .before .before .before .before .before .before .before .before .args in
     let w = looked-as (c .before .before .text-at .ensures) (c .enum-told2 .given .1) in
-    stepped-bad (name-bad (a .f .now) (a .end) (c .before .before .before .before .before .if1 .left) (a .n) _ _ _ w)
+    stepped-bad (name-bad (a .f .now) (a .end) (a .n) (c .before .before .before .before .before .if1 .left) _ _ (w .answer))
 
 pub length-behind-spec : {M : Type 1} → statement M
 length-behind-spec =
@@ -110,7 +98,6 @@ length-behind-spec =
     returns
     add-begins-longer
     begins-longer-requires
-    add-t15
     returns-2
     add-text-at
     text-at-requires
@@ -118,9 +105,7 @@ length-behind-spec =
     format-behind-requires
     enum-known-piece-2
     with-format-requires
-    settled-requires
     enum-told
-    add-t20
     enum-told-2
     returns-3
     returns-4

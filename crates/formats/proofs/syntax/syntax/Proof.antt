@@ -7,7 +7,7 @@ use lib.ListN.{length, drop}
 use Rattle.rules.specs.Outcome.{is-done}
 use Rattle.rules.specs.Format.{elements}
 use Rattle.formats.specs.Syntax.{parsed}
-use Rattle.formats.proofs.StepLaws.{elements-parsed, elements-long, good-more, more-later, good-last, good-bad}
+use Rattle.formats.proofs.StepLaws.{elements-parsed, elements-long, step-known, good-more, good-last, good-bad}
 use Rattle.formats.proofs.syntax.syntax.Statement.{statement}
 use Rattle.formats.proofs.syntax.syntax.Tie as tie
 
@@ -26,31 +26,38 @@ loop-holds c = (omega arith, sym (ap is-done (elements-parsed (c .before .before
 next-requires : tie.Need-next-requires Inv-loop μ-loop
 next-requires c κs = search needs
 
-enum-known-place : tie.Need-enum-known-place Inv-loop μ-loop
-enum-known-place c = search needs
+enum-known-stop : tie.Need-enum-known-stop Inv-loop μ-loop
+enum-known-stop c = search needs
+
+is-last-requires : tie.Need-is-last-requires Inv-loop μ-loop
+is-last-requires c κs = step-known (c .before .before .before .next .ensures) _ _ (c .before .stop .given .1) .1
+
+returns-2 : tie.Need-returns-2 Inv-loop μ-loop
+returns-2 c =
+    let n = c .before .before .before .before .before .next .ensures in
+    good-last n _ _ (c .before .before .before .stop .given .1) (sym (c .before .is-last .ensures) ∙ c .if2 .taken) ∙ c .before .before .before .before .before .before .loop .inv .1
+
+add-at : tie.Need-add-at Inv-loop μ-loop
+add-at c =
+    let k = step-known (c .before .before .before .before .before .next .ensures) _ _ (c .before .before .before .stop .given .1) in
+    omega (arith, k)
 
 loop-less : tie.Need-loop-less Inv-loop μ-loop
 loop-less c =
-    let m = more-later (c .before .before .before .next .ensures) _ _ (c .before .place .given .1) in
-    omega (arith, m)
+    let k = step-known (c .before .before .before .before .before .next .ensures) _ _ (c .before .before .before .stop .given .1) in
+    omega (arith, k)
 
 loop-again : tie.Need-loop-again Inv-loop μ-loop
 loop-again c =
-    let n = c .before .before .before .next .ensures in
-    let q = c .before .place .given .1 in
-    (more-later n _ _ q .1, good-more n _ _ q ∙ c .before .before .before .before .loop .inv .1)
+    let n = c .before .before .before .before .before .next .ensures in
+    let q = c .before .before .before .stop .given .1 in
+    (omega (arith, step-known n _ _ q), good-more n _ _ q (sym (c .before .is-last .ensures) ∙ c .if2 .left) ∙ c .before .before .before .before .before .before .loop .inv .1)
 
 enum-told : tie.Need-enum-told Inv-loop μ-loop
 enum-told c = search needs
 
-returns-2 : tie.Need-returns-2 Inv-loop μ-loop
-returns-2 c = good-last (c .before .before .next .ensures) _ (c .enum-told .given .1) ∙ c .before .before .before .loop .inv .1
-
-enum-told-2 : tie.Need-enum-told-2 Inv-loop μ-loop
-enum-told-2 c = search needs
-
 returns-3 : tie.Need-returns-3 Inv-loop μ-loop
-returns-3 c = good-bad (c .before .before .next .ensures) (c .enum-told2 .given .1) ∙ c .before .before .before .loop .inv .1
+returns-3 c = good-bad (c .before .before .next .ensures) (c .enum-told .given .1) ∙ c .before .before .before .loop .inv .1
 
 pub syntax-spec : {M : Type 1} → statement M
 syntax-spec =
@@ -61,10 +68,11 @@ syntax-spec =
     returns
     loop-holds
     next-requires
-    enum-known-place
+    enum-known-stop
+    is-last-requires
+    returns-2
+    add-at
     loop-less
     loop-again
     enum-told
-    returns-2
-    enum-told-2
     returns-3)
