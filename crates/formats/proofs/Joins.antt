@@ -14,14 +14,17 @@ use Rattle.rules.specs.Lists.{Bytes}
 use Rattle.rules.specs.Values.{strip}
 use Rattle.rules.specs.Format as rules
 use Rattle.rules.specs.Format.{turned, ends, onto, texts, skip-spaces, trim, Pending, assembled, put-before}
-use Rattle.rules.proofs.Steps.{by-test}
+use Rattle.rules.proofs.Steps.{by-test, not-done}
 use Rattle.rules.proofs.Only.{Only, Is}
 use Rattle.rules.proofs.Refusals.{texts-only, piece-only}
 use Rattle.formats.specs.Part.{part}
 use Rattle.formats.specs.Pieces.{piece-of}
-use Rattle.formats.specs.Texts.{extent, pending, rest, none-pending, reached}
+use Rattle.formats.specs.Texts.{extent, pending, rest, none-pending, Bounded, reached}
+use Rattle.formats.specs.declared.texts.Bounds.{Bounds}
 use Rattle.formats.specs.declared.pieces.Piece.{Piece}
 use Rattle.formats.specs.declared.pieces.Piece.the-variants as piece
+use Rattle.formats.proofs.Parts.{part-nil}
+use Rattle.buffer.proofs.Cases.{by-order}
 
 -- A text, and the texts behind the comma or the period that ends it.
 unfoldable then : Bytes → Bytes → Outcome (List Bytes)
@@ -94,26 +97,45 @@ module _ (f : Bytes) (at end : ℕ) (e : end ≡ at + extent false (drop at f)) 
       let d : drop (extent false (drop at f)) (drop at f) ≡ drop end f = drop-drop (extent false (drop at f)) at f ∙ rw e refl in
       texts-first false (drop at f) ∙ rw (x, d) refl
 
-  pub pending-none : length f ≤ end → pending (drop at f) ≡ refused 3
-  unfolding pending then
-  pending-none h = rw (texts-at, drop-of-length-le f h) refl
+  -- Where no text ends, an empty one stands.
+  pub pending-none : length f ≤ end → pending (drop at f) ≡ (rules.piece (part f at at) >>= λ q. rest f end >>= put-before q)
+  unfolding pending then rules.piece
+  pending-none h = rw (texts-at, drop-of-length-le f h, part-nil f at at (omega arith)) refl
 
-  module _ (h : end < length f) (r : Piece) (p : rules.piece (trim (part f at end)) ≡ piece-of f r) where
-    pub pending-some : pending (drop at f) ≡ (piece-of f r >>= λ q. rest f end >>= put-before q)
-    unfolding pending
-    pending-some =
-        rw (texts-at, drop-cons f end 0 h, ← p) (by-test (eqb (getD f end 0) period)
-        (λ d. rw (then-period (part f at end) (getD f end 0) (drop (suc end) f) d) (last-joins (part f at end) ∙ ap (joined (part f at end)) (sym (rest-period f end d))))
-        (λ d. rw (then-comma (part f at end) (getD f end 0) (drop (suc end) f) d)
-        (comma-joins (part f at end) (texts false (drop (suc end) f)) (texts-only false (drop (suc end) f)) ∙ ap (joined (part f at end)) (sym (rest-texts f end d)))))
+  pending-joined : end < length f → pending (drop at f) ≡ joined (part f at end) (rest f end)
+  unfolding pending
+  pending-joined h =
+      rw (texts-at, drop-cons f end 0 h) (by-test (eqb (getD f end 0) period)
+      (λ d. rw (then-period (part f at end) (getD f end 0) (drop (suc end) f) d) (last-joins (part f at end) ∙ ap (joined (part f at end)) (sym (rest-period f end d))))
+      (λ d. rw (then-comma (part f at end) (getD f end 0) (drop (suc end) f) d)
+      (comma-joins (part f at end) (texts false (drop (suc end) f)) (texts-only false (drop (suc end) f)) ∙ ap (joined (part f at end)) (sym (rest-texts f end d)))))
+
+  pub pending-some : end < length f → {bs : Bytes} → trim (part f at end) ≡ bs → pending (drop at f) ≡ (rules.piece bs >>= λ q. rest f end >>= put-before q)
+  pending-some h t = pending-joined h ∙ ap (λ bs. rules.piece bs >>= λ q. rest f end >>= put-before q) t
 
 pub trim-at : (f : Bytes) (at end first last : ℕ) → part f at last ≡ strip (part f at end) → part f first last ≡ skip-spaces (part f at last)
     → trim (part f at end) ≡ part f first last
 unfolding trim
 trim-at f at end first last e h = rw (← e) (sym h)
 
-pub reached-any : (f : Bytes) (at end : ℕ) (r : Piece) → at ≤ end → end < length f → reached f at end r
-reached-any f at end (piece.Element e) h k = (h, k)
-reached-any f at end (piece.Length n) h k = (h, k)
-reached-any f at end (piece.Format b) h k = (h, k)
-reached-any f at end piece.Bad h k = tt
+-- What stands there is no piece where there is nothing.
+pub piece-some : (f : Bytes) (a b : ℕ) (q : rules.Piece) → rules.piece (part f a b) ≡ done q → a < b
+unfolding rules.piece
+piece-some f a b q e = by-order a b (λ h. h) (λ h. absurd (not-done (rw (part-nil f a b h) at e)))
+
+-- The text from a place on, once what it is is known.
+module _ {f : Bytes} {at : ℕ} {r : Bounds} (w : Bounded f at r) where
+  abbrev found : Outcome rules.Piece
+  found = rules.piece (part f (r .first) (r .last))
+
+  pub bounded-as : {o : Outcome rules.Piece} → found ≡ o → pending (drop at f) ≡ (o >>= λ p. rest f (r .end) >>= put-before p)
+  bounded-as e = w .answer ∙ ap (λ o. o >>= λ p. rest f (r .end) >>= put-before p) e
+
+  pub bounded-end : {q : rules.Piece} → found ≡ done q → r .end < length f
+  bounded-end {q} e = w .ended (piece-some f (r .first) (r .last) q e)
+
+  pub reached-if : (q : Piece) → found ≡ piece-of f q → reached f at (r .end) q
+  reached-if (piece.Element e) h = (omega (arith, w .from, w .order, w .upto), bounded-end h)
+  reached-if (piece.Length n) h = (omega (arith, w .from, w .order, w .upto), bounded-end h)
+  reached-if (piece.Format b) h = (omega (arith, w .from, w .order, w .upto), bounded-end h)
+  reached-if piece.Bad h = tt

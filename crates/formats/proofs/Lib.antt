@@ -8,3 +8,4 @@ pub mod Joins
 pub mod Puts
 pub mod StepLaws
 pub mod Longer
+pub mod Trailers

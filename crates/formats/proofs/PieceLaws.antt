@@ -1,5 +1,5 @@
 -- The rules of a number, of a text and of a piece, step by step as the code takes them.
-use mathlib.Core.Path.{_≡_, refl, ap, _∙_}
+use mathlib.Core.Path.{_≡_, refl, sym, ap, _∙_}
 use mathlib.Core.Bool.{Bool, true, false, not, _&&_}
 use mathlib.Core.List.{[], _∷_, _++_}
 use Prim.Native.Nat.{ℕ, _+_, _-_, _≤_, _<_}
@@ -13,9 +13,10 @@ use Rattle.rules.specs.Characters.{digit, digit-0, apostrophe, letter-X}
 use Rattle.rules.specs.Lists.{Bytes, all, last, but-last}
 use Rattle.rules.specs.Table.{is-name, name-of}
 use Rattle.rules.specs.Format.{Piece, element, length-piece, format-piece, blanks, quoted, after-number, after-name, text-piece, piece, is-override}
+use Rattle.rules.proofs.Steps.{from-need, done-inj}
 use Rattle.formats.specs.Part.{part}
 use Rattle.formats.specs.Numbers.{alone}
-use Rattle.formats.specs.Pieces.{no-apostrophe, as-piece, number-piece}
+use Rattle.formats.specs.Pieces.{no-apostrophe, as-piece, only-element, number-piece}
 use Rattle.formats.proofs.Parts.{part-nil, part-cons, part-snoc, length-part}
 use Rattle.characters.proofs.Tests.{and-false-right}
 
@@ -44,6 +45,9 @@ module _ (n : ℕ) (f : Bytes) (at upto : ℕ) where
     pub number-blanks : alone letter-X (part f at upto) ≡ true → 1 ≤ n → n ≤ longest-blanks
         → after-number n (part f at upto) ≡ done (element (blanks n))
     number-blanks t lo hi = number-behind ∙ rw (t, le-leb _ _ lo, le-leb _ _ hi) refl
+
+    pub number-only : only-element (after-number n (part f at upto))
+    number-only q e = from-need (alone letter-X (part f at upto) && leb 1 n && leb n longest-blanks) 3 _ (sym number-behind ∙ e) λ _ l. (blanks n, sym (done-inj l))
 
     pub number-other : alone letter-X (part f at upto) ≡ false → after-number n (part f at upto) ≡ refused 3
     number-other t = number-behind ∙ rw t refl

@@ -30,7 +30,7 @@ use Rattle.formats.specs.declared.texts.Ahead.{Ahead}
 use Rattle.formats.specs.declared.syntax.Step.{Step}
 use Rattle.formats.specs.declared.syntax.Step.the-variants.{At, Bad}
 use Rattle.formats.proofs.Joins.{rest-period, rest-comma}
-use Rattle.formats.proofs.Puts.{settle, parsed-pending, settle-before, put-completed, completed-settled, both, take-elements, put-first, put-format, put-format-bad, put-length, put-length-bad}
+use Rattle.formats.proofs.Puts.{settle, parsed-pending, settle-before, put-completed, completed-settled, both, take-elements, put-format, put-format-bad, put-length, put-length-bad}
 
 -- What was read, once the piece is known.
 pub looked-as : {f : Bytes} {at : ℕ} {r : Ahead} {q : Piece} → Looked f at r → r .piece ≡ q → Looked f at (record { piece = q; end = r .end })
@@ -39,10 +39,6 @@ looked-as {f} {at} {r} w e = record {
   place = rw e at (w .place);
   sound = rw e at (w .sound);
 }
-
--- Where an element was read, the elements come first.
-pub looked-element : {f : Bytes} {at end : ℕ} {x : Element} → Looked f at (record { piece = piece.Element x; end = end }) → elements-first (pending (drop at f))
-looked-element {f} {at} {end} {x} w p h = put-first (element-of f x) (rest f end) p (sym (w .answer) ∙ h)
 
 step-later : (f : Bytes) (at at′ : ℕ) (r : Step) → at ≤ at′ → step-place f at′ r → step-place f at r
 step-later f at at′ (At e stop) h (a, b, c) = (omega arith, b, c)

@@ -11,6 +11,8 @@ use Rattle.rules.specs.Format as rules
 use Rattle.formats.specs.Elements.{element-of, sound, range, number-bound}
 use Rattle.formats.specs.declared.Element.{Element}
 use Rattle.formats.specs.declared.Element.the-variants as code
+use Rattle.formats.specs.declared.following.Trailer.{Trailer}
+use Rattle.formats.specs.declared.following.Trailer.the-variants as trailer
 use Rattle.formats.specs.declared.pieces.Bracket.{Bracket}
 use Rattle.formats.specs.declared.pieces.Bracket.the-variants as bracket
 use Rattle.formats.specs.declared.pieces.Piece.{Piece}
@@ -56,6 +58,20 @@ piece-sound f piece.Bad = Unit {0}
 pub record Pieced (f : Bytes) (o : Outcome rules.Piece) (r : Piece) : Type 0 where
   pub answer : o ≡ piece-of f r
   pub sound : piece-sound f r
+
+-- An element, if anything.
+abbrev pub only-element : Outcome rules.Piece → Type 0
+only-element o = (q : rules.Piece) → o ≡ done q → (e : rules.Element) × (q ≡ rules.element e)
+
+-- What a piece is behind a name.
+abbrev pub trails : Outcome rules.Piece → Trailer → Type 0
+trails o (trailer.Length n) = (o ≡ done (rules.length-piece n)) × (n ≤ greatest-length)
+trails o (trailer.Format b) = o ≡ done (rules.format-piece b)
+trails o trailer.Neither = only-element o
+trails o trailer.Bad = o ≡ refused 3
+
+pub record Trailed (o : Outcome rules.Piece) (r : Trailer) : Type 0 where
+  pub answer : trails o r
 
 -- An element as a piece.
 abbrev pub as-piece : Outcome rules.Element → Outcome rules.Piece

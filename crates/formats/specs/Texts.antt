@@ -9,11 +9,14 @@ use lib.ListN.{length, drop, getD}
 use Rattle.rules.specs.Outcome.{Outcome, done, _>>=_}
 use Rattle.rules.specs.Characters.{period}
 use Rattle.rules.specs.Lists.{Bytes}
+use Rattle.rules.specs.Format as rules
 use Rattle.rules.specs.Format.{turned, ends, texts, Pending, settled, assembled, put-before}
+use Rattle.formats.specs.Part.{part}
 use Rattle.formats.specs.Pieces.{piece-of, piece-sound}
 use Rattle.formats.specs.declared.pieces.Piece.{Piece}
 use Rattle.formats.specs.declared.pieces.Piece.the-variants as piece
 use Rattle.formats.specs.declared.texts.Ahead.{Ahead}
+use Rattle.formats.specs.declared.texts.Bounds.{Bounds}
 
 -- How many bytes stand before the comma or period that ends a text.
 unfoldable pub extent : Bool → Bytes → ℕ
@@ -41,6 +44,15 @@ none-pending = record { size = none; format = none; elements = [] }
 -- The same for what stands behind the comma or the period at a place.
 unfoldable pub rest : Bytes → ℕ → Outcome Pending
 rest f end = elim (eqb (getD f end 0) period) [ true ↦ done none-pending | false ↦ pending (drop (end + 1) f) ]
+
+-- The text from a place on was found: where it stands without the spaces around it, and where it ends. It is empty where it does not.
+pub record Bounded (f : Bytes) (at : ℕ) (r : Bounds) : Type 0 where
+  pub answer : pending (drop at f) ≡ (rules.piece (part f (r .first) (r .last)) >>= λ p. rest f (r .end) >>= put-before p)
+  pub from : at ≤ r .first
+  pub order : r .first ≤ r .last
+  pub upto : r .last ≤ r .end
+  pub inside : r .end ≤ length f
+  pub ended : r .first < r .last → r .end < length f
 
 -- Where a text ends, if it does.
 abbrev pub reached : Bytes → ℕ → ℕ → Piece → Type 0

@@ -2,17 +2,23 @@
 // `end` is the place of the comma or period behind the element.
 use super::Element;
 use super::Named;
-use super::pieces::Piece;
+use super::numbers::Number;
+use super::numbers::number_first;
+use super::pieces::GREATEST_LENGTH;
 use super::syntax::Step;
-use super::texts::text_at;
+use super::texts::bounds_at;
 use characters::PERIOD;
+use characters::is_digit;
+use characters::is_override;
 ghost use mathlib.Core.Path.{_≡_};
 ghost use mathlib.Core.Bool.{true, false};
 ghost use Prim.Native.Nat.{_≤_, _<_};
 ghost use lib.ListN.{length, drop};
 ghost use Rattle.rules.specs.Limits.{greatest-length};
+ghost use Rattle.rules.specs.Format.{piece};
 ghost use Rattle.formats.specs.Elements.{element-of, sound, Small};
-ghost use Rattle.formats.specs.Pieces.{unfinished};
+ghost use Rattle.formats.specs.Part.{part};
+ghost use Rattle.formats.specs.Pieces.{unfinished, Trailed};
 ghost use Rattle.formats.specs.Texts.{pending, elements-first};
 ghost use Rattle.formats.specs.Syntax.{Stepped, then-format, then-completed};
 
@@ -20,6 +26,14 @@ ghost use Rattle.formats.specs.Syntax.{Stepped, then-format, then-comple
 const FIRST_LETTER: u8 = 0xC1;
 
 const LAST_LETTER: u8 = 0xE9;
+
+// What can stand behind a name: a length, a format, neither (an element, if it is good), or what is bad.
+pub enum Trailer {
+    Length(u16),
+    Format(u8),
+    Neither,
+    Bad,
+}
 
 // Whether the text at a place begins with two bytes as no length and no format does: a letter, and a letter or a digit.
 fn begins_longer(f: &[u8], at: usize) -> bool
@@ -39,6 +53,36 @@ fn begins_longer(f: &[u8], at: usize) -> bool
     f[at + 1] >= FIRST_LETTER
 }
 
+// What the bytes from one place up to another are behind a name. Whether what is neither is good is for the next step to find.
+fn trailer_at(f: &[u8], first: usize, last: usize) -> Trailer
+    requires { ⌜ (first ≤ last) × (last ≤ length (now f)) ⌝ }
+    ensures { λ r. ⌜ Trailed (piece (part (now (f .entry)) first last)) r ⌝ }
+{
+    if first == last {
+        return Trailer::Bad;
+    }
+    let a = f[first];
+    if is_digit(a) {
+        let Number::Value(n, p) = number_first(f, first, last) else {
+            return Trailer::Bad;
+        };
+        if p != last {
+            return Trailer::Neither;
+        }
+        if n > GREATEST_LENGTH {
+            return Trailer::Bad;
+        }
+        return Trailer::Length(n);
+    }
+    if last - first == 1 {
+        if is_override(a) {
+            return Trailer::Format(a);
+        }
+        return Trailer::Bad;
+    }
+    Trailer::Neither
+}
+
 // A format may follow the name, which has a length.
 fn format_behind(f: &[u8], end: usize, n: Named, size: u16) -> Step
     requires { ⌜ (end < length (now f)) × Small n × (n .lettered ≡ false) × (size ≤ greatest-length) ⌝ }
@@ -51,13 +95,13 @@ fn format_behind(f: &[u8], end: usize, n: Named, size: u16) -> Step
     if begins_longer(f, end + 1) {
         return Step::At(Element::Named(named), end);
     }
-    let next = text_at(f, end + 1);
-    let piece = next.piece;
-    match piece {
-        Piece::Format(b) => Step::At(Element::Named(named.with_format(b)), next.end),
-        Piece::Element(_) => Step::At(Element::Named(named), end),
-        Piece::Length(_) => Step::Bad,
-        Piece::Bad => Step::Bad,
+    let b = bounds_at(f, end + 1);
+    let next = trailer_at(f, b.first, b.last);
+    match next {
+        Trailer::Format(c) => Step::At(Element::Named(named.with_format(c)), b.end),
+        Trailer::Neither => Step::At(Element::Named(named), end),
+        Trailer::Length(_) => Step::Bad,
+        Trailer::Bad => Step::Bad,
     }
 }
 
@@ -72,13 +116,13 @@ fn length_behind(f: &[u8], end: usize, n: Named) -> Step
     if begins_longer(f, end + 1) {
         return Step::At(Element::Named(n), end);
     }
-    let next = text_at(f, end + 1);
-    let piece = next.piece;
-    match piece {
-        Piece::Length(size) => format_behind(f, next.end, n, size),
-        Piece::Format(b) => Step::At(Element::Named(n.with_format(b)), next.end),
-        Piece::Element(_) => Step::At(Element::Named(n), end),
-        Piece::Bad => Step::Bad,
+    let b = bounds_at(f, end + 1);
+    let next = trailer_at(f, b.first, b.last);
+    match next {
+        Trailer::Length(size) => format_behind(f, b.end, n, size),
+        Trailer::Format(c) => Step::At(Element::Named(n.with_format(c)), b.end),
+        Trailer::Neither => Step::At(Element::Named(n), end),
+        Trailer::Bad => Step::Bad,
     }
 }
 

@@ -29,7 +29,7 @@ ghost use Rattle.formats.specs.Elements.{range, number-bound};
 ghost use Rattle.formats.specs.Pieces.{Bracketed, Pieced, as-piece, no-apostrophe, number-piece};
 
 // A length, blanks and a text go so far.
-const GREATEST_LENGTH: u16 = 255;
+pub const GREATEST_LENGTH: u16 = 255;
 
 const LONGEST_BLANKS: u16 = 255;
 

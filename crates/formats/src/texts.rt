@@ -12,11 +12,18 @@ ghost use lib.ListN.{length, drop};
 ghost use Rattle.rules.specs.Values.{strip};
 ghost use Rattle.rules.specs.Format.{turned, ends, skip-spaces};
 ghost use Rattle.formats.specs.Part.{part};
-ghost use Rattle.formats.specs.Texts.{extent, Narrowed, Looked};
+ghost use Rattle.formats.specs.Texts.{extent, Narrowed, Bounded, Looked};
 
 // The piece of the text from a place on, and where its comma or period stands.
 pub struct Ahead {
     pub piece: Piece,
+    pub end: usize,
+}
+
+// A text from one place up to another, and where its comma or period stands.
+pub struct Bounds {
+    pub first: usize,
+    pub last: usize,
     pub end: usize,
 }
 
@@ -87,19 +94,30 @@ fn first_place(f: &[u8], at: usize, upto: usize) -> usize
     i
 }
 
-pub fn text_at(f: &[u8], at: usize) -> Ahead
+// Where the text from a place on stands without the spaces around it, and where its comma or period stands. Where there is none, an
+// empty text.
+pub fn bounds_at(f: &[u8], at: usize) -> Bounds
     requires { ⌜ at ≤ length (now f) ⌝ }
-    ensures { λ r. ⌜ Looked (now (f .entry)) at r ⌝ }
+    ensures { λ r. ⌜ Bounded (now (f .entry)) at r ⌝ }
 {
     let end = text_end(f, at);
     if end == f.len() {
-        return Ahead {
-            piece: Piece::Bad,
+        return Bounds {
+            first: at,
+            last: at,
             end,
         };
     }
     let last = last_place(f, at, end);
     let first = first_place(f, at, last);
-    let piece = piece_at(f, first, last);
-    Ahead { piece, end }
+    Bounds { first, last, end }
+}
+
+pub fn text_at(f: &[u8], at: usize) -> Ahead
+    requires { ⌜ at ≤ length (now f) ⌝ }
+    ensures { λ r. ⌜ Looked (now (f .entry)) at r ⌝ }
+{
+    let b = bounds_at(f, at);
+    let piece = piece_at(f, b.first, b.last);
+    Ahead { piece, end: b.end }
 }

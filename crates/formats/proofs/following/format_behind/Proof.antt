@@ -1,7 +1,9 @@
--- `format_behind` meets its contract, by what follows: nothing, a format, an element, or what may not.
+-- `format_behind` meets its contract, by what follows: nothing, a format, neither, or what may not.
 use native.Mathlib.Omega.{arith}
 use Rattle.formats.proofs.Answers.{small-length, small-format}
-use Rattle.formats.proofs.StepLaws.{looked-as, looked-element, stepped-at, stepped-bad, first-period, first-comma, format-first, format-format, format-length, format-bad, name-given-length, name-given-both}
+use Rattle.formats.proofs.Joins.{bounded-as, bounded-end}
+use Rattle.formats.proofs.Trailers.{trailed-as, bounded-first}
+use Rattle.formats.proofs.StepLaws.{stepped-at, stepped-bad, first-period, first-comma, format-first, format-format, format-length, format-bad, name-given-length, name-given-both}
 use borrow.Author.Needs.{needs}
 use Rattle.formats.proofs.following.format_behind.Statement.{statement}
 use Rattle.formats.proofs.following.format_behind.Tie as tie
@@ -35,14 +37,17 @@ returns-2 c =
     stepped-at (format-first (a .f .now) (a .end) (a .n) (a .size) h) (name-given-length (a .f .now) (a .n) e (s .pre .2))
     (omega arith) (s .pre .0) (rw e (small-length (s .pre .1) (s .pre .3)))
 
-add-text-at : tie.Need-add-text-at
-add-text-at c = search needs
+add-bounds-at : tie.Need-add-bounds-at
+add-bounds-at c = search needs
 
-text-at-requires : tie.Need-text-at-requires
-text-at-requires c κs = search needs
+bounds-at-requires : tie.Need-bounds-at-requires
+bounds-at-requires c κs = search needs
 
-enum-known-piece : tie.Need-enum-known-piece
-enum-known-piece c = search needs
+trailer-at-requires : tie.Need-trailer-at-requires
+trailer-at-requires c κs = search needs
+
+enum-known-next : tie.Need-enum-known-next
+enum-known-next c = search needs
 
 with-format-requires : tie.Need-with-format-requires
 with-format-requires c κs = search needs
@@ -58,37 +63,36 @@ enum-told-3 c = search needs
 
 returns-3 : tie.Need-returns-3
 returns-3 c =
-    let s = c .before .before .before .before .before .before .before .before .before .before .before in
+    let s = c .before .before .before .before .before .before .before .before .before .before .before .before in
     let a = s .args in
-    let t = c .before .before .before .before .text-at in
-    let w = looked-as (t .ensures) (c .before .before .piece .given .1) in
-    let e = c .before .before .before .before .before .before .before .before .before .with-length .ensures in
-    stepped-at (format-format (a .f .now) (a .end) (a .n) (c .before .before .before .before .before .before .before .if1 .left) (t .result .end) (a .size) _ (w .answer))
+    let w = c .before .before .before .before .before .bounds-at .ensures in
+    let t = trailed-as (c .before .before .before .before .trailer-at .ensures) (c .before .before .next .given .1) in
+    let e = c .before .before .before .before .before .before .before .before .before .before .with-length .ensures in
+    stepped-at (format-format (a .f .now) (a .end) (a .n) (c .before .before .before .before .before .before .before .before .if1 .left) _ (a .size) _ (bounded-as w t))
     (name-given-both (a .f .now) (a .n) e (c .with-format .ensures))
-    (omega (arith, w .place)) (w .place .1) (rw (c .with-format .ensures, e) (small-format (small-length (s .pre .1) (s .pre .3)) _))
+    (omega (arith, w .from, w .order, w .upto)) (bounded-end w t) (rw (c .with-format .ensures, e) (small-format (small-length (s .pre .1) (s .pre .3)) _))
 
 returns-4 : tie.Need-returns-4
 returns-4 c =
-    let s = c .before .before .before .before .before .before .before .before .before in
+    let s = c .before .before .before .before .before .before .before .before .before .before in
     let a = s .args in
-    let e = c .before .before .before .before .before .before .before .with-length .ensures in
-    let w = looked-as (c .before .before .text-at .ensures) (c .enum-told .given .1) in
-    let h = first-comma (a .f .now) (a .end) (c .before .before .before .before .before .if1 .left) (looked-element w) in
+    let e = c .before .before .before .before .before .before .before .before .with-length .ensures in
+    let t = trailed-as (c .before .before .trailer-at .ensures) (c .enum-told .given .1) in
+    let h = first-comma (a .f .now) (a .end) (c .before .before .before .before .before .before .if1 .left) (bounded-first (c .before .before .before .bounds-at .ensures) t) in
     stepped-at (format-first (a .f .now) (a .end) (a .n) (a .size) h) (name-given-length (a .f .now) (a .n) e (s .pre .2))
     (omega arith) (s .pre .0) (rw e (small-length (s .pre .1) (s .pre .3)))
 
 returns-5 : tie.Need-returns-5
 returns-5 c =
-    let a = c .before .before .before .before .before .before .before .before .before .args in
-    let t = c .before .before .text-at in
-    let w = looked-as (t .ensures) (c .enum-told2 .given .1) in
-    stepped-bad (format-length (a .f .now) (a .end) (a .n) (c .before .before .before .before .before .if1 .left) (t .result .end) (a .size) _ (w .answer))
+    let a = c .before .before .before .before .before .before .before .before .before .before .args in
+    let t = trailed-as (c .before .before .trailer-at .ensures) (c .enum-told2 .given .1) in
+    stepped-bad (format-length (a .f .now) (a .end) (a .n) (c .before .before .before .before .before .before .if1 .left) _ (a .size) _ (bounded-as (c .before .before .before .bounds-at .ensures) (t .0)))
 
 returns-6 : tie.Need-returns-6
 returns-6 c =
-    let a = c .before .before .before .before .before .before .before .before .before .args in
-    let w = looked-as (c .before .before .text-at .ensures) (c .enum-told3 .given .1) in
-    stepped-bad (format-bad (a .f .now) (a .end) (a .n) (c .before .before .before .before .before .if1 .left) (a .size) (w .answer))
+    let a = c .before .before .before .before .before .before .before .before .before .before .args in
+    let t = trailed-as (c .before .before .trailer-at .ensures) (c .enum-told3 .given .1) in
+    stepped-bad (format-bad (a .f .now) (a .end) (a .n) (c .before .before .before .before .before .before .if1 .left) (a .size) (bounded-as (c .before .before .before .bounds-at .ensures) t))
 
 pub format-behind-spec : {M : Type 1} → statement M
 format-behind-spec =
@@ -100,9 +104,10 @@ format-behind-spec =
     add-begins-longer
     begins-longer-requires
     returns-2
-    add-text-at
-    text-at-requires
-    enum-known-piece
+    add-bounds-at
+    bounds-at-requires
+    trailer-at-requires
+    enum-known-next
     with-format-requires
     enum-told
     enum-told-2

@@ -1,8 +1,10 @@
--- `length_behind` meets its contract, by what follows the name: nothing, a length, a format, an element, or what may not.
+-- `length_behind` meets its contract, by what follows the name: nothing, a length, a format, neither, or what may not.
 use mathlib.Core.Path.{sym}
 use native.Mathlib.Omega.{arith}
 use Rattle.formats.proofs.Answers.{small-format}
-use Rattle.formats.proofs.StepLaws.{looked-as, looked-element, stepped-at, stepped-later, stepped-bad, first-period, first-comma, name-first, name-length, name-format, name-bad, name-alone, name-given-format}
+use Rattle.formats.proofs.Joins.{bounded-as, bounded-end}
+use Rattle.formats.proofs.Trailers.{trailed-as, bounded-first}
+use Rattle.formats.proofs.StepLaws.{stepped-at, stepped-later, stepped-bad, first-period, first-comma, name-first, name-length, name-format, name-bad, name-alone, name-given-format}
 use borrow.Author.Needs.{needs}
 use Rattle.formats.proofs.following.length_behind.Statement.{statement}
 use Rattle.formats.proofs.following.length_behind.Tie as tie
@@ -31,23 +33,26 @@ returns-2 c =
     stepped-at (name-first (a .f .now) (a .end) (a .n) _ _ h) (sym (name-alone (a .f .now) (a .n) (s .pre .2) (s .pre .3)))
     (omega arith) (s .pre .0) (s .pre .1)
 
-add-text-at : tie.Need-add-text-at
-add-text-at c = search needs
+add-bounds-at : tie.Need-add-bounds-at
+add-bounds-at c = search needs
 
-text-at-requires : tie.Need-text-at-requires
-text-at-requires c κs = search needs
+bounds-at-requires : tie.Need-bounds-at-requires
+bounds-at-requires c κs = search needs
 
-enum-known-piece : tie.Need-enum-known-piece
-enum-known-piece c = search needs
+trailer-at-requires : tie.Need-trailer-at-requires
+trailer-at-requires c κs = search needs
+
+enum-known-next : tie.Need-enum-known-next
+enum-known-next c = search needs
 
 format-behind-requires : tie.Need-format-behind-requires
 format-behind-requires c κs =
-    let s = c .before .before .before .before .before .before .before .before .before in
-    let w = looked-as (c .before .before .before .text-at .ensures) (c .before .piece .given .1) in
-    (w .place .1, s .pre .1, s .pre .3, w .sound)
+    let s = c .before .before .before .before .before .before .before .before .before .before in
+    let t = trailed-as (c .before .before .before .trailer-at .ensures) (c .before .next .given .1) in
+    (bounded-end (c .before .before .before .before .bounds-at .ensures) (t .0), s .pre .1, s .pre .3, t .1)
 
-enum-known-piece-2 : tie.Need-enum-known-piece-2
-enum-known-piece-2 c = search needs
+enum-known-next-2 : tie.Need-enum-known-next-2
+enum-known-next-2 c = search needs
 
 with-format-requires : tie.Need-with-format-requires
 with-format-requires c κs = search needs
@@ -60,35 +65,35 @@ enum-told-2 c = search needs
 
 returns-3 : tie.Need-returns-3
 returns-3 c =
-    let a = c .before .before .before .before .before .before .before .before .before .before .args in
-    let t = c .before .before .before .before .text-at in
-    let w = looked-as (t .ensures) (c .before .before .piece .given .1) in
-    stepped-later (name-length (a .f .now) (a .end) (a .n) (c .before .before .before .before .before .before .before .if1 .left) (t .result .end) _ _ _ (w .answer)) (omega (arith, w .place)) (c .format-behind .ensures)
+    let a = c .before .before .before .before .before .before .before .before .before .before .before .args in
+    let w = c .before .before .before .before .before .bounds-at .ensures in
+    let t = trailed-as (c .before .before .before .before .trailer-at .ensures) (c .before .before .next .given .1) in
+    stepped-later (name-length (a .f .now) (a .end) (a .n) (c .before .before .before .before .before .before .before .before .if1 .left) _ _ _ _ (bounded-as w (t .0))) (omega (arith, w .from, w .order, w .upto)) (c .format-behind .ensures)
 
 returns-4 : tie.Need-returns-4
 returns-4 c =
-    let s = c .before .before .before .before .before .before .before .before .before .before in
+    let s = c .before .before .before .before .before .before .before .before .before .before .before in
     let a = s .args in
-    let t = c .before .before .before .before .text-at in
-    let w = looked-as (t .ensures) (c .before .before .piece2 .given .1) in
-    stepped-at (name-format (a .f .now) (a .end) (a .n) (c .before .before .before .before .before .before .before .if1 .left) (t .result .end) _ _ _ (w .answer))
+    let w = c .before .before .before .before .before .bounds-at .ensures in
+    let t = trailed-as (c .before .before .before .before .trailer-at .ensures) (c .before .before .next2 .given .1) in
+    stepped-at (name-format (a .f .now) (a .end) (a .n) (c .before .before .before .before .before .before .before .before .if1 .left) _ _ _ _ (bounded-as w t))
     (name-given-format (a .f .now) (a .n) (c .with-format .ensures) (s .pre .2))
-    (omega (arith, w .place)) (w .place .1) (rw (c .with-format .ensures) (small-format (s .pre .1) _))
+    (omega (arith, w .from, w .order, w .upto)) (bounded-end w t) (rw (c .with-format .ensures) (small-format (s .pre .1) _))
 
 returns-5 : tie.Need-returns-5
 returns-5 c =
-    let s = c .before .before .before .before .before .before .before .before in
+    let s = c .before .before .before .before .before .before .before .before .before in
     let a = s .args in
-    let w = looked-as (c .before .before .text-at .ensures) (c .enum-told .given .1) in
-    let h = first-comma (a .f .now) (a .end) (c .before .before .before .before .before .if1 .left) (looked-element w) in
+    let t = trailed-as (c .before .before .trailer-at .ensures) (c .enum-told .given .1) in
+    let h = first-comma (a .f .now) (a .end) (c .before .before .before .before .before .before .if1 .left) (bounded-first (c .before .before .before .bounds-at .ensures) t) in
     stepped-at (name-first (a .f .now) (a .end) (a .n) _ _ h) (sym (name-alone (a .f .now) (a .n) (s .pre .2) (s .pre .3)))
     (omega arith) (s .pre .0) (s .pre .1)
 
 returns-6 : tie.Need-returns-6
 returns-6 c =
-    let a = c .before .before .before .before .before .before .before .before .args in
-    let w = looked-as (c .before .before .text-at .ensures) (c .enum-told2 .given .1) in
-    stepped-bad (name-bad (a .f .now) (a .end) (a .n) (c .before .before .before .before .before .if1 .left) _ _ (w .answer))
+    let a = c .before .before .before .before .before .before .before .before .before .args in
+    let t = trailed-as (c .before .before .trailer-at .ensures) (c .enum-told2 .given .1) in
+    stepped-bad (name-bad (a .f .now) (a .end) (a .n) (c .before .before .before .before .before .before .if1 .left) _ _ (bounded-as (c .before .before .before .bounds-at .ensures) t))
 
 pub length-behind-spec : {M : Type 1} → statement M
 length-behind-spec =
@@ -99,11 +104,12 @@ length-behind-spec =
     add-begins-longer
     begins-longer-requires
     returns-2
-    add-text-at
-    text-at-requires
-    enum-known-piece
+    add-bounds-at
+    bounds-at-requires
+    trailer-at-requires
+    enum-known-next
     format-behind-requires
-    enum-known-piece-2
+    enum-known-next-2
     with-format-requires
     enum-told
     enum-told-2
