@@ -4,6 +4,7 @@ pub mod Columns
 pub mod Elements
 pub mod Existing
 pub mod Going
+pub mod Putting
 pub mod Rooms
 pub mod Running
 pub mod Scanning

@@ -20,12 +20,13 @@ use Rattle.formats.specs.Syntax.{parsed, behind, before, Stepped}
 use Rattle.formats.specs.Elements.{element-of}
 use Rattle.formats.specs.declared.Element.{Element}
 use Rattle.formats.specs.declared.syntax.Step.the-variants as step
-use Rattle.formats.proofs.StepLaws.{elements-parsed, elements-long}
+use Rattle.formats.proofs.StepLaws.{elements-parsed, elements-long, behind-last, behind-more}
 use Rattle.records.specs.Places.{Held, Holds}
 use Rattle.uses.specs.Meant.{Remembers, uses-of}
 use Rattle.uses.proofs.Testing.{no-index, zeros}
 use Rattle.reading.specs.Filling.{Filling, Going}
 use Rattle.reading.specs.Turns.{place-of, answer-of, left-of, Puts, Scans}
+use Rattle.reading.specs.declared.Next.{Next}
 use Rattle.reading.specs.declared.Next.the-variants as next
 use Rattle.reading.specs.declared.Standing.{Standing}
 use Rattle.reading.specs.declared.Standing.the-variants.{At, NoItem, NoUse}
@@ -52,6 +53,11 @@ pub record Scanning (es : List Entry) (b : Bytes) (places : List ℕ) (f : Bytes
   pub fits : place-of s ≤ end
   pub same : length out ≡ length out₀
   pub going : (r : Record) → Held es b places r → Going (whole es f r end) (left-of es r end indexes xs s) 0 (place-of s) write out₀ out
+
+-- An answer that is known by an equation.
+pub scan-as-answer : {es : List Entry} {b : Bytes} {places : List ℕ} (f : Bytes) (end : ℕ) {write : Bool} {out₀ out : Bytes} {n m : Next} → n ≡ m
+    → Scans es b places f end write out₀ out m → Scans es b places f end write out₀ out n
+scan-as-answer {es} {b} {places} f end {write} {out₀} {out} e h = subst (λ (k : Next). Scans es b places f end write out₀ out k) (sym e) h
 
 module _ {es : List Entry} {b : Bytes} {places : List ℕ} {f : Bytes} {end : ℕ} {write : Bool} {out₀ : Bytes} where
   pub scan-start : length f ≤ longest-format → Scanning es b places f end write out₀ (replicate 64 0) (parsed (drop 0 f)) (At 0) out₀
@@ -98,9 +104,7 @@ module _ {es : List Entry} {b : Bytes} {places : List ℕ} {f : Bytes} {end : �
     behind-element = scan-on e (behind f stop) (scan-as w (before (element-of f e) (behind f stop)) (t .answer)) p
 
     pub scan-last : eqb (getD f stop 0) period ≡ true → Scans es b places f end write out₀ out′ (answer-of s′)
-    unfolding behind
-    scan-last q = scan-end s′ (scan-as behind-element (done []) (rw q refl))
+    scan-last q = scan-end s′ (scan-as behind-element (done []) (behind-last f stop q))
 
     pub scan-more : eqb (getD f stop 0) period ≡ false → Scanning es b places f end write out₀ last′ (parsed (drop (stop + 1) f)) s′ out′
-    unfolding behind
-    scan-more q = scan-as behind-element (parsed (drop (stop + 1) f)) (rw q refl)
+    scan-more q = scan-as behind-element (parsed (drop (stop + 1) f)) (behind-more f stop q)

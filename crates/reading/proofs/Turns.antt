@@ -10,7 +10,7 @@ use Rattle.rules.specs.Lists.{Bytes, join}
 use Rattle.rules.specs.Table.{Part, Entry, parts}
 use Rattle.rules.specs.Record.{Record}
 use Rattle.rules.specs.Format as rules
-use Rattle.rules.specs.Use.{Use as Meaning, Indexes, indexes-after, use-of, uses, items-of, items}
+use Rattle.rules.specs.Use.{Use as Meaning, Indexes, indexes-after, use-of, uses, Item, items-of, items}
 use Rattle.rules.specs.Services.{filled}
 use Rattle.rules.proofs.Steps.{by-outcome}
 use Rattle.formats.specs.Syntax.{before}
@@ -137,10 +137,12 @@ module _ (es : List Entry) (r : Record) (end : ℕ) (ls : Indexes) where
             let o = before-used p ∙ used-on (parts es) r (end - p) u more a k ∙ ap (λ w. put-before a (more >>= λ us. filled (parts es) r w (items us))) (room-left end p p′ (length a) n l) in
             going-on (going-start (left-of es r end ls (before x xs) (At p)) p write out) (g .same) a (left-of es r end (indexes-after u ls) xs (At p′)) p′ o n (omega arith) c
 
-        pub used-within : (p′ : ℕ) → m ≡ next.At p′ → p′ ≤ end
-        used-within p′ q = items-on (parts es) r end (items-of u) g fits p′ q λ a k n l c. l
-
         pub used-refused : (k : ℕ) → m ≡ next.Refused k → Going (left-of es r end ls (before x xs) (At p)) (left-of es r end (indexes-after u ls) xs (NoItem k)) p 0 write out out′
         unfolding left-of
         used-refused k q =
             going-both-off (unless more k) (before-used p ∙ used-off (parts es) r (end - p) u more k (put-off g k q)) (refused-then more k) (g .same) (put-unwritten g)
+
+-- Items end within their room.
+pub used-within : (es : List Entry) (r : Record) (end : ℕ) (xs : List Item) {p : ℕ} {write : Bool} {out out′ : Bytes} {m : Next} → Filling (filled (parts es) r (end - p) xs) p write out out′ m
+    → p ≤ end → (p′ : ℕ) → m ≡ next.At p′ → p′ ≤ end
+used-within es r end xs g fits p′ q = items-on (parts es) r end xs g fits p′ q λ a k n l c. l

@@ -59,7 +59,7 @@ pub record Puts (es : List Entry) (b : Bytes) (places : List ℕ) (f : Bytes) (e
   pub kept : length exit ≡ length entry
   pub going : (ls : Indexes) → Remembers es last ls → (ls′ : Indexes) × Remembers es last′ ls′
       × ((r : Record) → Held es b places r → (xs : Outcome (List rules.Element))
-        → Going (left-of es r end ls (before (element-of f e) xs) s) (left-of es r end ls′ xs s′) (place-of s) (place-of s′) write entry exit)
+      → Going (left-of es r end ls (before (element-of f e) xs) s) (left-of es r end ls′ xs s′) (place-of s) (place-of s′) write entry exit)
 
 -- The items of a format end and write as they are to, or the first refusal is the format's.
 abbrev pub Scans : List Entry → Bytes → List ℕ → Bytes → ℕ → Bool → Bytes → Bytes → Next → Type 0

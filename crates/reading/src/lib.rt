@@ -600,7 +600,7 @@ fn is_unused(state: Standing) -> bool
 }
 
 // Where a scan stands behind items that end at a place or are refused.
-fn standing(next: Next) -> Standing
+fn stands(next: Next) -> Standing
     ensures { λ r. ⌜ r ≡ standing-of next ⌝ }
 {
     match next {
@@ -644,7 +644,7 @@ fn put_element(
         Meant::As(u) => {
             uses::remember(t, last, u);
             match state {
-                Standing::At(p) => standing(put_use(t, b, places, f, u, out, p, end, write)),
+                Standing::At(p) => stands(put_use(t, b, places, f, u, out, p, end, write)),
                 Standing::NoItem(n) => Standing::NoItem(n),
                 Standing::NoUse(n) => Standing::NoUse(n),
             }

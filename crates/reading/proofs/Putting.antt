@@ -1,0 +1,75 @@
+-- An element is put, by where the scan stands and what the element means.
+use mathlib.Core.Path.{_≡_, refl, sym, ap, subst, _∙_}
+use mathlib.Core.Bool.{Bool, true, false}
+use mathlib.Core.List.{List}
+use Prim.Native.Nat.{ℕ, _≤_}
+use native.Mathlib.Omega.{arith}
+use lib.ListN.{length}
+use Rattle.rules.specs.Lists.{Bytes}
+use Rattle.rules.specs.Table.{Entry}
+use Rattle.rules.specs.Use.{indexes-after, items-of}
+use Rattle.rules.proofs.Steps.{not-both}
+use Rattle.formats.specs.Elements.{element-of}
+use Rattle.formats.specs.declared.Element.{Element}
+use Rattle.records.specs.Places.{Holds}
+use Rattle.uses.specs.Meant.{use-meant, Means, Remembered}
+use Rattle.uses.specs.declared.Use.{Use}
+use Rattle.uses.specs.declared.Meant.the-variants as meant
+use Rattle.reading.specs.Runs.{Fills}
+use Rattle.reading.specs.Turns.{place-of, unused, standing-of, Puts}
+use Rattle.reading.specs.declared.Next.{Next}
+use Rattle.reading.specs.declared.Next.the-variants as next
+use Rattle.reading.specs.declared.Standing.{Standing}
+use Rattle.reading.specs.declared.Standing.the-variants.{At, NoItem, NoUse}
+use Rattle.reading.proofs.Turns.{passed, refused-use, used-behind, used-at, used-within, used-refused}
+
+pub at-fits : {s : Standing} {p end : ℕ} → s ≡ At p → place-of s ≤ end → p ≤ end
+at-fits {end = end} e l = subst (λ (s : Standing). place-of s ≤ end) e l
+
+pub not-unused : (s : Standing) → unused s ≡ false → (k : ℕ) → s ≡ NoUse k → ⊥
+not-unused s h k e = not-both (sym h ∙ ap unused e)
+
+module _ {es : List Entry} {b : Bytes} {places : List ℕ} {f : Bytes} {end : ℕ} {write : Bool} {e : Element} {last : List ℕ} where
+  -- Standings that are known by equations.
+  pub puts-as : {last′ : List ℕ} {s s₁ s′ s′₁ : Standing} {out out′ : Bytes} → s ≡ s₁ → s′ ≡ s′₁ → Puts es b places f end write e last last′ s₁ out out′ s′₁
+      → Puts es b places f end write e last last′ s out out′ s′
+  puts-as {last′} {s} {s₁} {s′} {s′₁} {out} {out′} q q′ p =
+      subst (λ (x : Standing). Puts es b places f end write e last last′ x out out′ s′) (sym q)
+      (subst (λ (x : Standing). Puts es b places f end write e last last′ s₁ out out′ x) (sym q′) p)
+
+  pub puts-unused : (s : Standing) {out : Bytes} → unused s ≡ true → Puts es b places f end write e last last s out out s
+  puts-unused (At p) h = absurd (not-both h)
+  puts-unused (NoItem n) h = absurd (not-both h)
+  puts-unused (NoUse n) h = record { fits = omega arith; same = refl; kept = refl; going = λ ls q. (ls, q, λ r k xs. passed es r end ls (element-of f e) xs n) }
+
+  pub puts-refused : (s : Standing) {out : Bytes} (n : ℕ) → Means es last e (meant.Refused n) → unused s ≡ false → Puts es b places f end write e last last s out out (NoUse n)
+  puts-refused s n m h = record {
+    fits = omega arith;
+    same = refl;
+    kept = refl;
+    going = λ ls q. (ls, q, λ r k xs. refused-use es r end ls (element-of f e) xs n (m .answer f ls q) s (not-unused s h) ls);
+  }
+
+  module _ {last′ : List ℕ} {u : Use} (m : Means es last e (meant.As u)) (k : Remembered es u last last′) where
+    pub puts-behind : {out : Bytes} (n : ℕ) → Puts es b places f end write e last last′ (NoItem n) out out (NoItem n)
+    puts-behind n = record {
+      fits = omega arith;
+      same = k .same;
+      kept = refl;
+      going = λ ls q. (indexes-after (use-meant es f u) ls, k .indexes f ls q, λ r h xs. used-behind es r end ls (element-of f e) xs (use-meant es f u) (m .answer f ls q) n);
+    }
+
+    pub puts-items : (p : ℕ) {out out′ : Bytes} (x : Next) → Fills es b places (items-of (use-meant es f u)) p end write out out′ x → Holds es b places → p ≤ end → end ≤ length out
+        → Puts es b places f end write e last last′ (At p) out out′ (standing-of x)
+    puts-items p (next.At p′) g h l o = record {
+      fits = used-within es (h .0) end (items-of (use-meant es f u)) (g (h .0) (h .1)) l p′ refl;
+      same = k .same;
+      kept = g (h .0) (h .1) .same;
+      going = λ ls q. (indexes-after (use-meant es f u) ls, k .indexes f ls q, λ r i xs. used-at es r end ls (element-of f e) xs (use-meant es f u) (m .answer f ls q) (g r i) l o p′ refl);
+    }
+    puts-items p (next.Refused n) g h l o = record {
+      fits = omega arith;
+      same = k .same;
+      kept = g (h .0) (h .1) .same;
+      going = λ ls q. (indexes-after (use-meant es f u) ls, k .indexes f ls q, λ r i xs. used-refused es r end ls (element-of f e) xs (use-meant es f u) (m .answer f ls q) (g r i) l o n refl);
+    }
