@@ -1,6 +1,6 @@
 -- From the numbers of the formats to the functions of each format: what these ask, and what they answer.
 use mathlib.Core.Path.{_≡_, refl, sym, _∙_, ap}
-use mathlib.Core.Bool.{Bool, true, false}
+use mathlib.Core.Bool.{Bool, true, false, _&&_}
 use mathlib.Core.Logic.{_⊎_, ⊎-elim}
 use Prim.Native.Nat.{ℕ, _+_, _-_, _*_, _^_, _≤_, _<_}
 use native.Mathlib.Omega.{arith}
@@ -21,8 +21,8 @@ use Rattle.decimals.specs.Decimals.{decimal-format}
 use Rattle.values.specs.Formats.{format-at, ranged}
 use Rattle.values.specs.Fits.{Asked, Carrying}
 use Rattle.kinds.proofs.Five.{five}
-use Rattle.values.proofs.Numbered.{at-alpha, at-binary, at-fixed, at-decimal, some-size, size-253, size-29, two-four, every-low, every-high, ranged-from}
-use Rattle.values.proofs.Carried.{every-carried, carried-size, out-of-range, in-the-range, carried-range, carried-normal, word-number, word-outside}
+use Rattle.values.proofs.Numbered.{at-alpha, at-binary, at-fixed, at-decimal, some-size, size-253, size-29, two-four, every-low, every-high, ranged-from, ranged-to}
+use Rattle.values.proofs.Carried.{every-carried, carried-size, ranged-done, out-of-range, carried-range, carried-normal, word-number, word-outside}
 
 -- A, B and F mean something whatever the bytes.
 pub low-value : (k : ℕ) (s : Bytes) → k < 5 → k < 3 → is-done (meaning (format-at k) s) ≡ true
@@ -107,14 +107,11 @@ module _ {from to n : ℕ} {s : Bytes} (a : Asked from to n s) (b : Bool) (c : c
     is-word : value-of (meaning (format-at from) s) ≡ signed-value v
     is-word = word-number (value-of (meaning (format-at from) s)) v w .0
 
-    pub word-small : v .magnitude ≤ 2147483648
-    word-small = word-number (value-of (meaning (format-at from) s)) v w .1
+    pub word-asked : (v .magnitude ≤ 2147483648) × (0 < to) × (to < 5) × (allowed (format-at to) n ≡ true)
+    word-asked = (word-number (value-of (meaning (format-at from) s)) v w .1, ranged-to from to b c, a .target, a .length-there)
 
-    pub word-in : in-range (ranged b) (signed-value v) ≡ true → is-done (normal (format-at to) n (signed-value v)) ≡ is-done (carried (format-at from) (format-at to) n s)
-    word-in h = sym (rw is-word at (in-the-range (format-at from) (format-at to) n s (a .value) (ranged b) c (rw is-word h)))
-
-    pub word-out : in-range (ranged b) (signed-value v) ≡ false → false ≡ is-done (carried (format-at from) (format-at to) n s)
-    word-out h = sym (out-of-range (format-at from) (format-at to) n s (a .value) (ranged b) c (rw is-word h))
+    pub word-done : (in-range (ranged b) (signed-value v) && is-done (normal (format-at to) n (signed-value v))) ≡ is-done (carried (format-at from) (format-at to) n s)
+    word-done = sym (rw is-word at (ranged-done (format-at from) (format-at to) n s (a .value) (ranged b) c))
 
     pub word-written : is-done (carried (format-at from) (format-at to) n s) ≡ true → carried (format-at from) (format-at to) n s ≡ normal (format-at to) n (signed-value v)
     word-written d =

@@ -10,6 +10,7 @@ use borrow.Author.Tests.{le-leb, lt-leb, leb-true, eqb-true}
 use Rattle.rules.specs.Values.{Format, alpha, binary, fixed, packed, unpacked, allowed, Kind, never, every, word, natural, conversion}
 use Rattle.rules.proofs.Steps.{by-test}
 use Rattle.decimals.specs.Decimals.{decimal-format}
+use Rattle.kinds.specs.Formats.{is-every}
 use Rattle.values.specs.Formats.{format-at, ranged}
 use Rattle.kinds.proofs.Five.{five}
 use Rattle.kinds.proofs.Constants.{least, greatest, allowed-is}
@@ -87,24 +88,18 @@ unfolding allowed format-at
 two-four k n e a = either n (rw e at a)
 
 -- Which numbers convert: all values of a format to itself and between P and U; a range between numbers alone.
-is-every : Kind → Bool
-is-every never = false
-is-every every = true
-is-every word = false
-is-every natural = false
-
 Every : ℕ → Type 0
 Every from = (to : ℕ) → to < 5 → is-every (conversion (format-at from) (format-at to)) ≡ (eqb to from || (leb 3 from && leb 3 to))
 
 alike : (from : ℕ) → from < 5 → Every from
-unfolding Every is-every conversion format-at
+unfolding Every conversion format-at
 alike =
     five Every (five _ refl refl refl refl refl) (five _ refl refl refl refl refl) (five _ refl refl refl refl refl)
     (five _ refl refl refl refl refl) (five _ refl refl refl refl refl)
 
 module _ (from to : ℕ) (h : from < 5) (l : to < 5) where
   alike-at : conversion (format-at from) (format-at to) ≡ every → (eqb to from || (leb 3 from && leb 3 to)) ≡ true
-  unfolding Every is-every
+  unfolding Every
   alike-at e = sym (alike from h to l) ∙ ap is-every e
 
   pub every-low : from < 3 → conversion (format-at from) (format-at to) ≡ every → to ≡ from
