@@ -7,10 +7,10 @@ use native.Mathlib.Omega.{arith}
 use lib.Dec.{eqb, leb}
 use lib.ListN.{getD}
 use borrow.Author.Tests.{le-leb, lt-leb, leb-true, eqb-true}
-use Rattle.rules.specs.Values.{Format, alpha, binary, fixed, packed, unpacked, allowed, Kind, never, every, word, natural, conversion}
+use Rattle.rules.specs.Values.{Format, alpha, binary, fixed, packed, unpacked, allowed, Kind, never, every, word, natural, conversion, converts}
 use Rattle.rules.proofs.Steps.{by-test}
 use Rattle.decimals.specs.Decimals.{decimal-format}
-use Rattle.kinds.specs.Formats.{is-every}
+use Rattle.kinds.specs.Formats.{is-every, is-natural}
 use Rattle.values.specs.Formats.{format-at, ranged}
 use Rattle.kinds.proofs.Five.{five}
 use Rattle.kinds.proofs.Constants.{least, greatest, allowed-is}
@@ -147,3 +147,20 @@ module _ (from to : ℕ) (b : Bool) (e : conversion (format-at from) (format-at 
 
   pub ranged-to : 0 < to
   ranged-to = above-zero to (λ z. not-ranged _ b (to-alpha (format-at from)) (rw (at-alpha to z) at e))
+
+-- The kind of formats that convert, by its two questions.
+pub every-kind : (k : Kind) → is-every k ≡ true → k ≡ every
+every-kind never e = absurd (false≢true e)
+every-kind every e = refl
+every-kind word e = absurd (false≢true e)
+every-kind natural e = absurd (false≢true e)
+
+ranged-by : (k : Kind) → elim k [ never ↦ false | every ↦ true | word ↦ true | natural ↦ true ] ≡ true → is-every k ≡ false → k ≡ ranged (is-natural k)
+ranged-by never c e = absurd (false≢true c)
+ranged-by every c e = absurd (false≢true (sym e))
+ranged-by word c e = refl
+ranged-by natural c e = refl
+
+pub ranged-kind : (f g : Format) → converts f g ≡ true → is-every (conversion f g) ≡ false → conversion f g ≡ ranged (is-natural (conversion f g))
+unfolding converts
+ranged-kind f g c e = ranged-by (conversion f g) c e
