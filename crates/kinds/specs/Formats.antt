@@ -1,4 +1,5 @@
 -- Formats by number, and what the code's kinds of conversion mean.
+use mathlib.Core.Bool.{Bool, true, false}
 use Prim.Native.Nat.{ℕ, zero, suc}
 use Rattle.rules.specs.Values.{Format, alpha, binary, fixed, packed, unpacked, never, every, word, natural}
 use Rattle.rules.specs.Values as Rules
@@ -18,3 +19,16 @@ kind-of Never = never
 kind-of Every = every
 kind-of Word = word
 kind-of Natural = natural
+
+-- Whether a kind is that of all values; of the words not below zero.
+abbrev pub is-every : Rules.Kind → Bool
+is-every never = false
+is-every every = true
+is-every word = false
+is-every natural = false
+
+abbrev pub is-natural : Rules.Kind → Bool
+is-natural never = false
+is-natural every = false
+is-natural word = false
+is-natural natural = true

@@ -2,7 +2,7 @@
 ghost use mathlib.Core.Path.{_≡_};
 ghost use Prim.Native.Nat.{_<_};
 ghost use Rattle.rules.specs.Values as Rules;
-ghost use Rattle.kinds.specs.Formats.{format-at, kind-of};
+ghost use Rattle.kinds.specs.Formats.{format-at, kind-of, is-every, is-natural};
 
 pub const ALPHA: usize = 0;
 
@@ -79,6 +79,30 @@ pub fn converts(row: usize, column: usize) -> bool
         Kind::Never => false,
         Kind::Every => true,
         Kind::Word => true,
+        Kind::Natural => true,
+    }
+}
+
+// Whether all do, of a kind.
+pub fn is_every(kind: Kind) -> bool
+    ensures { λ r. ⌜ r ≡ is-every (kind-of kind) ⌝ }
+{
+    match kind {
+        Kind::Never => false,
+        Kind::Every => true,
+        Kind::Word => false,
+        Kind::Natural => false,
+    }
+}
+
+// Whether those of a word that are not below zero do, of a kind.
+pub fn is_natural(kind: Kind) -> bool
+    ensures { λ r. ⌜ r ≡ is-natural (kind-of kind) ⌝ }
+{
+    match kind {
+        Kind::Never => false,
+        Kind::Every => false,
+        Kind::Word => false,
         Kind::Natural => true,
     }
 }

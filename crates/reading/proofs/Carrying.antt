@@ -6,15 +6,16 @@ use Prim.Native.Nat.{ℕ, suc, _+_, _-_, _≤_, _<_}
 use native.Mathlib.Nat.{sub-zero}
 use native.Mathlib.Omega.{arith}
 use lib.ListN.{length, take, drop, length-take, length-drop}
-use Rattle.rules.specs.Outcome.{Outcome, done}
+use Rattle.rules.specs.Outcome.{Outcome, done, is-done}
 use Rattle.rules.specs.Lists.{Bytes}
-use Rattle.rules.specs.Values.{allowed, carried, first-value}
+use Rattle.rules.specs.Values.{allowed, meaning, carried, first-value}
 use Rattle.rules.specs.Record.{times, stored-value}
 use Rattle.rules.proofs.Steps.{from-done}
 use Rattle.kinds.specs.Formats.{format-at}
 use Rattle.values.specs.Places.{Found}
 use Rattle.values.specs.declared.First.{First}
 use Rattle.values.specs.declared.First.the-variants.{Value, Refused as Bad}
+use Rattle.values.proofs.Meant.{form-means}
 use Rattle.records.specs.Places.{Content-of}
 use Rattle.records.proofs.Cells.{times-first, times-none, value-first}
 use Rattle.records.proofs.Contents.{content-found, content-none}
@@ -52,6 +53,7 @@ pub record Ahead (w : Wanted) (b : Bytes) (us : List Bytes) (n from next : ℕ) 
   pub others : List Bytes
   pub is : us ≡ value ∷ others
   pub content : Content-of (format-at (w .own)) (w .standard) b value from next
+  pub means : is-done (meaning (format-at (w .own)) (take (next - from) (drop from b))) ≡ true
   pub stand : Stand w b next n others
 
 module _ {w : Wanted} (h : Wants w) {b : Bytes} {end n : ℕ} {us : List Bytes} {i q start at : ℕ} {write : Bool} {out₀ out : Bytes}
@@ -71,6 +73,7 @@ module _ {w : Wanted} (h : Wants w) {b : Bytes} {end n : ℕ} {us : List Bytes} 
           others = vs;
           is = l;
           content = content-found b q (w .standard) f (format-at (w .own)) v mid (h .standard) p e;
+          means = rw (← same) (form-means (format-at (w .own)) (w .standard) c c₃);
           stand = (g .stand .0, rw (← behind) t);
         }
 

@@ -10,8 +10,6 @@ use lib.Dec.{leb}
 use lib.ListN.{length, set}
 use Rattle.rules.specs.Outcome.{Outcome, done, refused}
 use Rattle.rules.specs.Lists.{Bytes, bytes-of}
-use Rattle.rules.proofs.Steps.{by-outcome, done-inj, not-done}
-use Rattle.values.specs.Fits.{size-of}
 use Rattle.buffer.specs.Splice.{splice}
 use Rattle.buffer.proofs.Laws.{splice-nil, length-splice}
 use Rattle.reading.specs.Filling.{placed, left-as, within, Filling}
@@ -50,17 +48,8 @@ nothing-put room at out write bs e = rw (e, within-fits room [] (omega arith)) (
     unchanged true = sym (splice-nil at out)
     unchanged false = refl
 
--- The same of an outcome, by what a test of it said: its refusal, or how long its bytes are.
+-- The same of an outcome: its refusal, or how long its bytes are.
 module _ (o : Outcome Bytes) where
-  pub fit-refused : (k : ℕ) → _≡_ {A = Outcome ℕ} (refused k) (size-of o) → o ≡ refused k
-  fit-refused k e = by-outcome o (λ b h. absurd (not-done (e ∙ ap size-of h))) (λ n h. h ∙ ap refused (let q : refused k ≡ refused n = e ∙ ap size-of h in cc))
-
-  pub fit-bytes : (n : ℕ) → _≡_ {A = Outcome ℕ} (done n) (size-of o) → (o ≡ done (bytes-of o)) × (n ≡ length (bytes-of o))
-  unfolding bytes-of
-  fit-bytes n e = by-outcome o
-      (λ b h. (h ∙ ap done (ap bytes-of (sym h)), done-inj (e ∙ ap size-of h) ∙ ap length (ap bytes-of (sym h))))
-      (λ k h. absurd (not-done (sym (e ∙ ap size-of h))))
-
   module _ (room at : ℕ) (out : Bytes) (write : Bool) where
     pub value-refused : (k : ℕ) → o ≡ refused k → Filling (within room o) at write out out (Refused k)
     unfolding within bytes-of

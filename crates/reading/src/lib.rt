@@ -5,14 +5,16 @@ ghost use mathlib.Core.Bool.{true, false};
 ghost use Prim.Native.Nat.{_+_, _-_, _≤_, _<_};
 ghost use lib.ListN.{length, replicate, drop};
 ghost use lib.Seq.{slice};
-ghost use Rattle.rules.specs.Outcome.{done};
+ghost use Rattle.rules.specs.Outcome.{done, is-done};
 ghost use Rattle.rules.specs.Characters.{space};
-ghost use Rattle.rules.specs.Values.{allowed, null, carried};
+ghost use Rattle.rules.specs.Values.{every, allowed, meaning, null, conversion, converts, carried};
 ghost use Rattle.rules.specs.Limits.{highest-index};
 ghost use Rattle.rules.specs.Lists.{Bytes, all, join};
 ghost use Rattle.rules.specs.Use.{plain, value-items, just, items-of};
 ghost use Rattle.rules.specs.Record.{Record};
 ghost use Rattle.kinds.specs.Formats.{format-at};
+ghost use Rattle.values.specs.Formats.{ranged};
+ghost use Rattle.values.specs.Fits.{Asked};
 ghost use Rattle.tables.specs.Entries.{Valid, entries-of};
 ghost use Rattle.tables.specs.Places.{inside-at};
 ghost use Rattle.formats.specs.Elements.{range, sound};
@@ -34,7 +36,7 @@ use uses::Meant;
 use uses::Span;
 use uses::Use;
 use values::First;
-use values::Fit;
+use words::Word;
 
 // Where a run of items ends in the record buffer, or the number of its refusal.
 pub enum Next {
@@ -111,6 +113,68 @@ fn put_count(count: u8, out: &mut [u8], at: usize, end: usize, write: bool) -> N
     Next::At(at + 1)
 }
 
+// A value, where every value converts.
+fn put_every(
+    s: &[u8],
+    own: usize,
+    format: usize,
+    size: usize,
+    out: &mut [u8],
+    at: usize,
+    end: usize,
+    write: bool,
+) -> Next
+    requires { ⌜ Asked own format size (now s) × (conversion (format-at own) (format-at format) ≡ every) × (at ≤ end) × (end ≤ length (now out)) ⌝ }
+    ensures { λ r. ⌜ Filling (within (end - at) (carried (format-at own) (format-at format) size (now (s .entry)))) at write (now (out .entry)) (now (out .exit)) r ⌝ }
+{
+    if !values::carrying::every_fits(s, own, format, size) {
+        return Next::Refused(9);
+    }
+    let n = values::carrying::carried_size(s, size);
+    if end - at < n {
+        return Next::Refused(7);
+    }
+    if write {
+        values::carrying::carry_every(s, own, format, size, out, at);
+        return Next::At(at + n);
+    }
+    Next::At(at + n)
+}
+
+// A value, where a range of words converts: it is decoded once.
+fn put_word(
+    s: &[u8],
+    own: usize,
+    format: usize,
+    size: usize,
+    natural: bool,
+    out: &mut [u8],
+    at: usize,
+    end: usize,
+    write: bool,
+) -> Next
+    requires { ⌜ Asked own format size (now s) × (conversion (format-at own) (format-at format) ≡ ranged natural) × (at ≤ end) × (end ≤ length (now out)) ⌝ }
+    ensures { λ r. ⌜ Filling (within (end - at) (carried (format-at own) (format-at format) size (now (s .entry)))) at write (now (out .entry)) (now (out .exit)) r ⌝ }
+{
+    let word = values::numbers::to_word(s, own);
+    match word {
+        Word::Outside => Next::Refused(9),
+        Word::Number(v) => {
+            if !values::carrying::word_fits(v, format, size, natural) {
+                return Next::Refused(9);
+            }
+            if end - at < size {
+                return Next::Refused(7);
+            }
+            if write {
+                values::numbers::write_word(v, format, size, out, at);
+                return Next::At(at + size);
+            }
+            Next::At(at + size)
+        }
+    }
+}
+
 // A value that exists, by its content, at the format and length in effect.
 fn put_value(
     s: &[u8],
@@ -122,23 +186,24 @@ fn put_value(
     end: usize,
     write: bool,
 ) -> Next
-    requires { ⌜ (own < 5) × (format < 5) × (allowed (format-at own) (length (now s)) ≡ true) × (allowed (format-at format) size ≡ true) × (at ≤ end) × (end ≤ length (now out)) ⌝ }
+    requires { ⌜ (own < 5) × (format < 5) × (allowed (format-at own) (length (now s)) ≡ true) × (allowed (format-at format) size ≡ true) × (is-done (meaning (format-at own) (now s)) ≡ true) × (converts (format-at own) (format-at format) ≡ true) × (at ≤ end) × (end ≤ length (now out)) ⌝ }
     ensures { λ r. ⌜ Filling (within (end - at) (carried (format-at own) (format-at format) size (now (s .entry)))) at write (now (out .entry)) (now (out .exit)) r ⌝ }
 {
-    let fit = values::fits(s, own, format, size);
-    match fit {
-        Fit::Refused(k) => Next::Refused(k),
-        Fit::Bytes(n) => {
-            if end - at < n {
-                return Next::Refused(7);
-            }
-            if write {
-                values::carry(s, own, format, size, out, at);
-                return Next::At(at + n);
-            }
-            Next::At(at + n)
-        }
+    let kind = kinds::conversion(own, format);
+    if kinds::is_every(kind) {
+        return put_every(s, own, format, size, out, at, end, write);
     }
+    put_word(
+        s,
+        own,
+        format,
+        size,
+        kinds::is_natural(kind),
+        out,
+        at,
+        end,
+        write,
+    )
 }
 
 // n nulls, for values that don't exist.

@@ -108,10 +108,10 @@ unfolding carried
 carried-by f g n bs e = ap (λ m. m >>= converted f g n) (valued (meaning f bs) e)
 
 pub no-fit : (f g : Format) (n : ℕ) (bs : Bytes) → is-done (meaning f bs) ≡ true → is-done (carried f g n bs) ≡ false
-    → size-of (carried f g n bs) ≡ refused 9
+    → carried f g n bs ≡ refused 9
 no-fit f g n bs e h =
     let c = carried-by f g n bs e in
-    ap size-of (c ∙ converted-refuses f g n (value-of (meaning f bs)) (rw c at h))
+    c ∙ converted-refuses f g n (value-of (meaning f bs)) (rw c at h)
 
 pub does-fit : (f g : Format) (n : ℕ) (bs : Bytes) → is-done (carried f g n bs) ≡ true
     → size-of (carried f g n bs) ≡ done (length (bytes-of (carried f g n bs)))
@@ -140,7 +140,7 @@ in-and-fits true o = refl
 in-and-fits false o = refl
 
 module _ (f g : Format) (n : ℕ) (bs : Bytes) (e : is-done (meaning f bs) ≡ true) (k : Rules.Kind) (c : conversion f g ≡ k) where
-  ranged-done : is-done (carried f g n bs) ≡ (in-range k (value-of (meaning f bs)) && is-done (normal g n (value-of (meaning f bs))))
+  pub ranged-done : is-done (carried f g n bs) ≡ (in-range k (value-of (meaning f bs)) && is-done (normal g n (value-of (meaning f bs))))
   unfolding converted
   ranged-done =
       ap is-done (carried-by f g n bs e)
@@ -149,9 +149,6 @@ module _ (f g : Format) (n : ℕ) (bs : Bytes) (e : is-done (meaning f bs) ≡ t
 
   pub out-of-range : in-range k (value-of (meaning f bs)) ≡ false → is-done (carried f g n bs) ≡ false
   out-of-range h = ranged-done ∙ rw h
-
-  pub in-the-range : in-range k (value-of (meaning f bs)) ≡ true → is-done (carried f g n bs) ≡ is-done (normal g n (value-of (meaning f bs)))
-  in-the-range h = ranged-done ∙ rw h
 
   pub carried-range : is-done (carried f g n bs) ≡ true → in-range k (value-of (meaning f bs)) ≡ true
   carried-range h = and-first (in-range k (value-of (meaning f bs))) _ (sym ranged-done ∙ h)

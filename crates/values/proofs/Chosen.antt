@@ -1,14 +1,14 @@
 -- From the numbers of the formats to the functions of each format: what these ask, and what they answer.
 use mathlib.Core.Path.{_≡_, refl, sym, _∙_, ap}
-use mathlib.Core.Bool.{Bool, true, false}
+use mathlib.Core.Bool.{Bool, true, false, _&&_}
 use mathlib.Core.Logic.{_⊎_, ⊎-elim}
 use Prim.Native.Nat.{ℕ, _+_, _-_, _*_, _^_, _≤_, _<_}
 use native.Mathlib.Omega.{arith}
 use lib.Dec.{eqb}
 use lib.ListN.{length}
 use borrow.Author.Tests.{le-leb}
-use Rattle.rules.specs.Outcome.{done, is-done}
-use Rattle.rules.specs.Lists.{Bytes, spelled}
+use Rattle.rules.specs.Outcome.{Outcome, done, refused, is-done}
+use Rattle.rules.specs.Lists.{Bytes, bytes-of, spelled}
 use Rattle.rules.specs.Values.{alpha, binary, fixed, number, allowed, Kind, every, word, natural, conversion, meaning, normal, carried, in-normal-form, twos-complement, in-range}
 use Rattle.buffer.proofs.Cases.{by-order}
 use Rattle.words.specs.Words.{signed-value, word-of, value-of}
@@ -19,10 +19,10 @@ use Rattle.words.proofs.Fixed.{twos-plus, twos-minus, fixed-normal}
 use Rattle.binaries.proofs.Binary.{binary-normal}
 use Rattle.decimals.specs.Decimals.{decimal-format}
 use Rattle.values.specs.Formats.{format-at, ranged}
-use Rattle.values.specs.Fits.{Asked, Carrying}
+use Rattle.values.specs.Fits.{Asked, Carrying, carried-length}
 use Rattle.kinds.proofs.Five.{five}
-use Rattle.values.proofs.Numbered.{at-alpha, at-binary, at-fixed, at-decimal, some-size, size-253, size-29, two-four, every-low, every-high, ranged-from}
-use Rattle.values.proofs.Carried.{every-carried, carried-size, out-of-range, in-the-range, carried-range, carried-normal, word-number, word-outside}
+use Rattle.values.proofs.Numbered.{at-alpha, at-binary, at-fixed, at-decimal, some-size, size-253, size-29, two-four, every-low, every-high, ranged-from, ranged-to}
+use Rattle.values.proofs.Carried.{no-fit, done-bytes, every-carried, carried-size, carried-size-is, ranged-done, out-of-range, carried-range, carried-normal, word-number, word-outside}
 
 -- A, B and F mean something whatever the bytes.
 pub low-value : (k : ℕ) (s : Bytes) → k < 5 → k < 3 → is-done (meaning (format-at k) s) ≡ true
@@ -107,20 +107,31 @@ module _ {from to n : ℕ} {s : Bytes} (a : Asked from to n s) (b : Bool) (c : c
     is-word : value-of (meaning (format-at from) s) ≡ signed-value v
     is-word = word-number (value-of (meaning (format-at from) s)) v w .0
 
-    pub word-small : v .magnitude ≤ 2147483648
-    word-small = word-number (value-of (meaning (format-at from) s)) v w .1
+    pub word-asked : (v .magnitude ≤ 2147483648) × (0 < to) × (to < 5) × (allowed (format-at to) n ≡ true)
+    word-asked = (word-number (value-of (meaning (format-at from) s)) v w .1, ranged-to from to b c, a .target, a .length-there)
 
-    pub word-in : in-range (ranged b) (signed-value v) ≡ true → is-done (normal (format-at to) n (signed-value v)) ≡ is-done (carried (format-at from) (format-at to) n s)
-    word-in h = sym (rw is-word at (in-the-range (format-at from) (format-at to) n s (a .value) (ranged b) c (rw is-word h)))
-
-    pub word-out : in-range (ranged b) (signed-value v) ≡ false → false ≡ is-done (carried (format-at from) (format-at to) n s)
-    word-out h = sym (out-of-range (format-at from) (format-at to) n s (a .value) (ranged b) c (rw is-word h))
+    pub word-done : (in-range (ranged b) (signed-value v) && is-done (normal (format-at to) n (signed-value v))) ≡ is-done (carried (format-at from) (format-at to) n s)
+    word-done = sym (rw is-word at (ranged-done (format-at from) (format-at to) n s (a .value) (ranged b) c))
 
     pub word-written : is-done (carried (format-at from) (format-at to) n s) ≡ true → carried (format-at from) (format-at to) n s ≡ normal (format-at to) n (signed-value v)
     word-written d =
         rw is-word at
         (carried-normal (format-at from) (format-at to) n s (a .value) (ranged b) c
         (carried-range (format-at from) (format-at to) n s (a .value) (ranged b) c d))
+
+-- A value that is asked for is refused with 9, or so long as its length says.
+module _ {from to n : ℕ} {s : Bytes} (a : Asked from to n s) where
+  abbrev there : Outcome Bytes
+  there = carried (format-at from) (format-at to) n s
+
+  pub asked-refused : is-done there ≡ false → there ≡ refused 9
+  asked-refused d = no-fit (format-at from) (format-at to) n s (a .value) d
+
+  pub asked-bytes : is-done there ≡ true → (there ≡ done (bytes-of there)) × (carried-length n s ≡ length (bytes-of there))
+  asked-bytes d = (done-bytes there d, carried-size-is (format-at from) (format-at to) n s (a .length-there) d)
+
+  pub asked-number : 0 < to → is-done there ≡ true → (there ≡ done (bytes-of there)) × (n ≡ length (bytes-of there))
+  asked-number p d = (done-bytes there d, sym (carried-size (format-at from) (format-at to) n s d (some-size to n (a .target) (a .length-there) p)))
 
 -- The room for a number.
 pub carrying-room : {from to n : ℕ} {s : Bytes} {at room : ℕ} → Carrying from to n s at room → 0 < to → at + n ≤ room

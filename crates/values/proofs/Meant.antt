@@ -242,3 +242,8 @@ carried-itself f n bs h =
     let e = normal-form-is f n bs h in
     from-bind (meaning f bs) (normal f n) e λ v p q.
     rw (p, own-range f v) q
+
+-- ---- a value in normal form means something
+
+pub form-means : (f : Format) (n : ℕ) (bs : Bytes) → in-normal-form f n bs ≡ true → is-done (meaning f bs) ≡ true
+form-means f n bs h = from-bind (meaning f bs) (normal f n) (normal-form-is f n bs h) λ v p q. ap is-done p

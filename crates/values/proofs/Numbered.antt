@@ -7,9 +7,10 @@ use native.Mathlib.Omega.{arith}
 use lib.Dec.{eqb, leb}
 use lib.ListN.{getD}
 use borrow.Author.Tests.{le-leb, lt-leb, leb-true, eqb-true}
-use Rattle.rules.specs.Values.{Format, alpha, binary, fixed, packed, unpacked, allowed, Kind, never, every, word, natural, conversion}
+use Rattle.rules.specs.Values.{Format, alpha, binary, fixed, packed, unpacked, allowed, Kind, never, every, word, natural, conversion, converts}
 use Rattle.rules.proofs.Steps.{by-test}
 use Rattle.decimals.specs.Decimals.{decimal-format}
+use Rattle.kinds.specs.Formats.{is-every, is-natural}
 use Rattle.values.specs.Formats.{format-at, ranged}
 use Rattle.kinds.proofs.Five.{five}
 use Rattle.kinds.proofs.Constants.{least, greatest, allowed-is}
@@ -87,24 +88,18 @@ unfolding allowed format-at
 two-four k n e a = either n (rw e at a)
 
 -- Which numbers convert: all values of a format to itself and between P and U; a range between numbers alone.
-is-every : Kind → Bool
-is-every never = false
-is-every every = true
-is-every word = false
-is-every natural = false
-
 Every : ℕ → Type 0
 Every from = (to : ℕ) → to < 5 → is-every (conversion (format-at from) (format-at to)) ≡ (eqb to from || (leb 3 from && leb 3 to))
 
 alike : (from : ℕ) → from < 5 → Every from
-unfolding Every is-every conversion format-at
+unfolding Every conversion format-at
 alike =
     five Every (five _ refl refl refl refl refl) (five _ refl refl refl refl refl) (five _ refl refl refl refl refl)
     (five _ refl refl refl refl refl) (five _ refl refl refl refl refl)
 
 module _ (from to : ℕ) (h : from < 5) (l : to < 5) where
   alike-at : conversion (format-at from) (format-at to) ≡ every → (eqb to from || (leb 3 from && leb 3 to)) ≡ true
-  unfolding Every is-every
+  unfolding Every
   alike-at e = sym (alike from h to l) ∙ ap is-every e
 
   pub every-low : from < 3 → conversion (format-at from) (format-at to) ≡ every → to ≡ from
@@ -152,3 +147,20 @@ module _ (from to : ℕ) (b : Bool) (e : conversion (format-at from) (format-at 
 
   pub ranged-to : 0 < to
   ranged-to = above-zero to (λ z. not-ranged _ b (to-alpha (format-at from)) (rw (at-alpha to z) at e))
+
+-- The kind of formats that convert, by its two questions.
+pub every-kind : (k : Kind) → is-every k ≡ true → k ≡ every
+every-kind never e = absurd (false≢true e)
+every-kind every e = refl
+every-kind word e = absurd (false≢true e)
+every-kind natural e = absurd (false≢true e)
+
+ranged-by : (k : Kind) → elim k [ never ↦ false | every ↦ true | word ↦ true | natural ↦ true ] ≡ true → is-every k ≡ false → k ≡ ranged (is-natural k)
+ranged-by never c e = absurd (false≢true c)
+ranged-by every c e = absurd (false≢true (sym e))
+ranged-by word c e = refl
+ranged-by natural c e = refl
+
+pub ranged-kind : (f g : Format) → converts f g ≡ true → is-every (conversion f g) ≡ false → conversion f g ≡ ranged (is-natural (conversion f g))
+unfolding converts
+ranged-kind f g c e = ranged-by (conversion f g) c e

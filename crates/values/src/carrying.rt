@@ -1,12 +1,12 @@
 // A value carried from a format to another: between formats that convert every value, and through a word.
 ghost use mathlib.Core.Path.{_≡_};
-ghost use mathlib.Core.Bool.{true};
+ghost use mathlib.Core.Bool.{true, _&&_};
 ghost use mathlib.Core.Logic.{_⊎_};
 ghost use Prim.Native.Nat.{_+_, _<_, _≤_};
 ghost use lib.ListN.{length};
 ghost use Rattle.rules.specs.Outcome.{is-done};
 ghost use Rattle.rules.specs.Lists.{bytes-of};
-ghost use Rattle.rules.specs.Values.{every, word, natural, conversion, in-range, carried};
+ghost use Rattle.rules.specs.Values.{every, word, natural, allowed, normal, conversion, in-range, carried};
 ghost use Rattle.words.specs.Words.{signed-value};
 ghost use Rattle.buffer.specs.Splice.{splice};
 ghost use Rattle.values.specs.Formats.{format-at, ranged};
@@ -22,7 +22,7 @@ use words::Signed;
 use words::Word;
 
 // Whether s fits, where every value converts.
-fn every_fits(s: &[u8], from: usize, to: usize, n: usize) -> bool
+pub fn every_fits(s: &[u8], from: usize, to: usize, n: usize) -> bool
     requires { ⌜ Asked from to n (now s) × (conversion (format-at from) (format-at to) ≡ every) ⌝ }
     ensures { λ r. ⌜ r ≡ is-done (carried (format-at from) (format-at to) n (now (s .entry))) ⌝ }
 {
@@ -49,19 +49,25 @@ fn within_range(v: Signed, natural: bool) -> bool
     v.magnitude < 2147483648
 }
 
+// Whether v converts in a range of words, and fits.
+pub fn word_fits(v: Signed, to: usize, n: usize, natural: bool) -> bool
+    requires { ⌜ (v .magnitude ≤ 2147483648) × (0 < to) × (to < 5) × (allowed (format-at to) n ≡ true) ⌝ }
+    ensures { λ r. ⌜ r ≡ (in-range (ranged natural) (signed-value v) && is-done (normal (format-at to) n (signed-value v))) ⌝ }
+{
+    if within_range(v, natural) {
+        return numbers::fits_word(v, to, n);
+    }
+    false
+}
+
 // Whether s fits, where a range of words converts.
-fn word_fits(s: &[u8], from: usize, to: usize, n: usize, natural: bool) -> bool
+fn ranged_fits(s: &[u8], from: usize, to: usize, n: usize, natural: bool) -> bool
     requires { ⌜ Asked from to n (now s) × (conversion (format-at from) (format-at to) ≡ ranged natural) ⌝ }
     ensures { λ r. ⌜ r ≡ is-done (carried (format-at from) (format-at to) n (now (s .entry))) ⌝ }
 {
     let word = numbers::to_word(s, from);
     match word {
-        Word::Number(v) => {
-            if within_range(v, natural) {
-                return numbers::fits_word(v, to, n);
-            }
-            false
-        }
+        Word::Number(v) => word_fits(v, to, n, natural),
         Word::Outside => false,
     }
 }
@@ -75,8 +81,8 @@ pub fn carries(s: &[u8], from: usize, to: usize, n: usize) -> bool
     match kind {
         Kind::Never => false,
         Kind::Every => every_fits(s, from, to, n),
-        Kind::Word => word_fits(s, from, to, n, false),
-        Kind::Natural => word_fits(s, from, to, n, true),
+        Kind::Word => ranged_fits(s, from, to, n, false),
+        Kind::Natural => ranged_fits(s, from, to, n, true),
     }
 }
 

@@ -14,8 +14,8 @@ ghost use Rattle.values.specs.Formats.{format-at};
 ghost use Rattle.values.specs.Places.{Found};
 ghost use Rattle.values.specs.Fits.{fitted, size-of};
 
-mod carrying;
-mod numbers;
+pub mod carrying;
+pub mod numbers;
 pub mod texts;
 
 use kinds::ALPHA;

@@ -67,7 +67,7 @@ put-value-requires c κs =
     let l = c .before .before .before .before .before .before .before .loop in
     let g = l .inv (s .pre .2 .0) (s .pre .2 .1) in
     let x = carry-ahead (s .pre .0) g (c .before .before .before .before .before .before .loop-test .taken) (c .before .before .before .before .before .first-value .ensures) (c .before .before .before .first2 .given .1) in
-    (s .pre .0 .own, s .pre .0 .format, value-long (s .pre .0) g x, s .pre .0 .size, g .fits, g .room)
+    (s .pre .0 .own, s .pre .0 .format, value-long (s .pre .0) g x, s .pre .0 .size, x .means, s .pre .0 .converts, g .fits, g .room)
 
 enum-known-put : tie.Need-enum-known-put Inv-loop μ-loop
 enum-known-put c = search needs

@@ -1,87 +1,64 @@
--- `reading::put_value` meets its contract: its bytes are the value carried to the format and length in effect. Assumes nothing.
-use mathlib.Core.Path.{sym, ap, _∙_}
-use Prim.Native.Nat.{_-_}
-use native.Mathlib.Omega.{arith}
-use Rattle.rules.specs.Outcome.{is-done}
-use Rattle.rules.specs.Values.{carried}
-use Rattle.kinds.specs.Formats.{format-at}
-use Rattle.values.specs.Fits.{fitted}
-use Rattle.reading.proofs.Singles.{fit-refused, fit-bytes, value-refused, value-beyond, value-tested, value-written}
+-- `reading::put_value` meets its contract, by the kind of the conversion. Assumes nothing.
+use mathlib.Core.Path.{sym, _∙_, ap}
+use Rattle.kinds.specs.Formats.{format-at, is-every, is-natural}
+use Rattle.values.specs.Formats.{ranged}
+use Rattle.values.specs.Fits.{Asked}
+use Rattle.values.proofs.Numbered.{every-kind, ranged-kind}
 use borrow.Author.Needs.{needs}
 use Rattle.reading.proofs.put_value.Statement.{statement}
 use Rattle.reading.proofs.put_value.Tie as tie
 
-fits-requires : tie.Need-fits-requires
-fits-requires c κs = search needs
+asked : (c : tie.Start) → Asked (c .args .own) (c .args .format) (c .args .size) (c .args .s .now)
+asked c = record { source = c .pre .0; target = c .pre .1; size = c .pre .2; length-there = c .pre .3; value = c .pre .4 }
 
-enum-known-fit : tie.Need-enum-known-fit
-enum-known-fit c = search needs
+conversion-requires : tie.Need-conversion-requires
+conversion-requires c κs = search needs
 
-enum-known-fit-2 : tie.Need-enum-known-fit-2
-enum-known-fit-2 c = search needs
+is-every-requires : tie.Need-is-every-requires
+is-every-requires c κs = search needs
 
-sub-if1 : tie.Need-sub-if1
-sub-if1 c = search needs
-
-returns : tie.Need-returns
-returns c =
-    let a = c .before .before .before .before .before .before .before .args in
-    let o = carried (format-at (a .own)) (format-at (a .format)) (a .size) (a .s .now) in
-    let e = ap fitted (sym (c .before .before .fit2 .given .1)) ∙ c .before .before .before .before .fits2 .ensures in
-    value-beyond o (a .end - a .at) (a .at) (a .out .now) (a .write) _ (fit-bytes o _ e) (c .if1 .taken)
-
-carry-requires : tie.Need-carry-requires
-carry-requires c κs =
-    let a = c .before .before .before .before .before .before .before .before .before .args in
-    let o = carried (format-at (a .own)) (format-at (a .format)) (a .size) (a .s .now) in
-    let e = ap fitted (sym (c .before .before .before .before .fit2 .given .1)) ∙ c .before .before .before .before .before .before .fits2 .ensures in
-    let s = c .before .before .before .before .before .before .before .before .before in
-    let q = fit-bytes o _ e in
-    (s .pre .0, s .pre .1, s .pre .2, s .pre .3, ap is-done (q .0), omega (arith, q .1, c .before .before .if1 .left))
-
-add-t18 : tie.Need-add-t18
-add-t18 c = search needs
+put-every-requires : tie.Need-put-every-requires
+put-every-requires c κs =
+    let i = c .before in
+    let k = i .before .before in
+    let a = k .before .before .before in
+    (asked a, sym (k .conversion .ensures) ∙ every-kind _ (sym (i .before .is-every .ensures) ∙ i .if1 .taken), a .pre .6, a .pre .7)
 
 same-length : tie.Need-same-length
 same-length c = search needs
 
+returns : tie.Need-returns
+returns c = search needs
+
+is-natural-requires : tie.Need-is-natural-requires
+is-natural-requires c κs = search needs
+
+put-word-requires : tie.Need-put-word-requires
+put-word-requires c κs =
+    let n = c .before in
+    let i = n .before in
+    let k = i .before .before in
+    let a = k .before .before .before in
+    let e = ap is-every (sym (k .conversion .ensures)) ∙ sym (i .before .is-every .ensures) ∙ i .if1 .left in
+    let r = ranged-kind (format-at (a .args .own)) (format-at (a .args .format)) (a .pre .5) e in
+    (asked a, r ∙ ap ranged (ap is-natural (sym (k .conversion .ensures)) ∙ sym (n .is-natural .ensures)), a .pre .6, a .pre .7)
+
+same-length-2 : tie.Need-same-length-2
+same-length-2 c = search needs
+
 returns-2 : tie.Need-returns-2
-returns-2 c =
-    let a = c .before .before .before .before .before .before .before .before .before .before .before .before .args in
-    let o = carried (format-at (a .own)) (format-at (a .format)) (a .size) (a .s .now) in
-    let e = ap fitted (sym (c .before .before .before .before .before .before .before .fit2 .given .1)) ∙ c .before .before .before .before .before .before .before .before .before .fits2 .ensures in
-    value-written o (a .end - a .at) (a .at) (a .out .now) (a .write) _ (fit-bytes o _ e) (c .before .before .before .before .if2 .taken) (omega (arith, c .before .before .before .before .before .if1 .left)) (omega (arith, c .before .before .before .before .before .if1 .left)) (c .before .before .carry .ensures)
-
-add-t13 : tie.Need-add-t13
-add-t13 c = search needs
-
-returns-3 : tie.Need-returns-3
-returns-3 c =
-    let a = c .before .before .before .before .before .before .args in
-    let o = carried (format-at (a .own)) (format-at (a .format)) (a .size) (a .s .now) in
-    let e = ap fitted (sym (c .before .fit .given .1)) ∙ c .before .before .before .fits2 .ensures in
-    value-refused o (a .end - a .at) (a .at) (a .out .now) (a .write) _ (fit-refused o _ e)
-
-returns-4 : tie.Need-returns-4
-returns-4 c =
-    let a = c .before .before .before .before .before .before .before .before .args in
-    let o = carried (format-at (a .own)) (format-at (a .format)) (a .size) (a .s .now) in
-    let e = ap fitted (sym (c .before .before .before .fit2 .given .1)) ∙ c .before .before .before .before .before .fits2 .ensures in
-    value-tested o (a .end - a .at) (a .at) (a .out .now) (a .write) _ (fit-bytes o _ e) (c .if2 .left) (omega (arith, c .before .if1 .left))
+returns-2 c = search needs
 
 pub put-value-spec : {M : Type 1} → statement M
 put-value-spec =
     tie.close
     (tie.spec
-    fits-requires
-    enum-known-fit
-    enum-known-fit-2
-    sub-if1
-    returns
-    carry-requires
-    add-t18
+    conversion-requires
+    is-every-requires
+    put-every-requires
     same-length
-    returns-2
-    add-t13
-    returns-3
-    returns-4)
+    returns
+    is-natural-requires
+    put-word-requires
+    same-length-2
+    returns-2)

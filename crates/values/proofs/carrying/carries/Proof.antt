@@ -29,14 +29,14 @@ every-fits-requires c κs = (c .before .before .before .before .pre, kind-is (c 
 enum-told-3 : tie.Need-enum-told-3
 enum-told-3 c = search needs
 
-word-fits-requires : tie.Need-word-fits-requires
-word-fits-requires c κs = (c .before .before .before .before .pre, kind-is (c .before .before) Word (c .enum-told3 .given .1))
+ranged-fits-requires : tie.Need-ranged-fits-requires
+ranged-fits-requires c κs = (c .before .before .before .before .pre, kind-is (c .before .before) Word (c .enum-told3 .given .1))
 
 enum-told-4 : tie.Need-enum-told-4
 enum-told-4 c = search needs
 
-word-fits-requires-2 : tie.Need-word-fits-requires-2
-word-fits-requires-2 c κs = (c .before .before .before .before .pre, kind-is (c .before .before) Natural (c .enum-told4 .given .1))
+ranged-fits-requires-2 : tie.Need-ranged-fits-requires-2
+ranged-fits-requires-2 c κs = (c .before .before .before .before .pre, kind-is (c .before .before) Natural (c .enum-told4 .given .1))
 
 returns : tie.Need-returns
 returns c =
@@ -61,9 +61,9 @@ carries-spec =
     enum-told-2
     every-fits-requires
     enum-told-3
-    word-fits-requires
+    ranged-fits-requires
     enum-told-4
-    word-fits-requires-2
+    ranged-fits-requires-2
     returns
     returns-2
     returns-3
