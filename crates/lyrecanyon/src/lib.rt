@@ -10,12 +10,14 @@ ghost use Rattle.lyrecanyon.specs.Answers.{Settled, Exported, refusal-nu
 use reading::Next;
 
 // Answers up to so many bytes are made in a work area first, so that one pass over the format is enough.
-const SHORT: usize = 1024;
-
-// The same for formats of more than so many bytes: clearing the larger area is little beside their reading.
 const LARGE: usize = 4096;
 
+// A short format of a short record has a short answer, mostly: a small area does, which is sooner cleared.
+const SMALL: usize = 512;
+
 const SHORT_FORMAT: usize = 64;
+
+const SHORT_RECORD: usize = 256;
 
 // Why a call is refused: the numbers 1 to 10 of document 01, in their order.
 pub enum Refusal {
@@ -156,7 +158,7 @@ fn read_short(
     }
 }
 
-// The same, in a work area by the length of the format.
+// The same, in a work area by the lengths of format and record.
 fn read_items(
     table: &[u8],
     stored: &[u8],
@@ -168,8 +170,10 @@ fn read_items(
     ensures { λ r. ⌜ Settled (Rules.read (now (table .entry)) (now (stored .entry)) (now (format .entry)) (length (now (buffer .entry)))) (now (buffer .entry)) (now (buffer .exit)) r ⌝ }
 {
     if format.len() <= SHORT_FORMAT {
-        let mut area = [0u8; SHORT];
-        return read_short(table, stored, places, format, buffer, &mut area);
+        if stored.len() <= SHORT_RECORD {
+            let mut area = [0u8; SMALL];
+            return read_short(table, stored, places, format, buffer, &mut area);
+        }
     }
     let mut area = [0u8; LARGE];
     read_short(table, stored, places, format, buffer, &mut area)
