@@ -1,9 +1,9 @@
 -- Reading a value's digits from the left: x is what those before place i spell, and with those from i on it is the magnitude.
 -- Assumes nothing.
 use mathlib.Core.Path.{_≡_, refl, sym, _∙_}
-use mathlib.Core.Bool.{Bool, true, false, not}
+use mathlib.Core.Bool.{Bool, true, false, not, _&&_}
 use mathlib.Core.List.{List, [], _∷_}
-use Prim.Native.Nat.{ℕ, suc, _+_, _-_, _*_, _^_, _≤_, _<_}
+use Prim.Native.Nat.{ℕ, suc, _+_, _-_, _*_, _/_, _%_, _^_, _≤_, _<_}
 use native.Mathlib.Nat.{pow-le-pow-right, lt-of-lt-of-le, le-trans}
 use native.Mathlib.Numerals.{add-one}
 use native.Mathlib.Omega.{arith}
@@ -13,13 +13,13 @@ use lib.Seq.{drop-cons}
 use borrow.Author.Tests.{lt-ltb, le-ltb, le-leb, lt-leb}
 use Rattle.rules.specs.Limits.{greatest-word}
 use Rattle.rules.specs.Lists.{Bytes, spelled}
-use Rattle.rules.specs.Values.{meaning}
+use Rattle.rules.specs.Values.{accepted-minus, meaning}
 use Rattle.words.specs.Words.{word-of, value-of, pick}
 use Rattle.words.specs.declared.Word.the-variants.{Number, Outside}
 use Rattle.buffer.proofs.Cases.{by-order}
-use Rattle.decimals.specs.Decimals.{decimal-format, digits-of, magnitude-of, is-minus, all-digits, Readable, places, place}
+use Rattle.decimals.specs.Decimals.{decimal-format, digits-of, sign-of, magnitude-of, is-minus, all-digits, Readable, Reckoned, places, place}
 use Rattle.decimals.proofs.Digits.{all-drop, spelled-below, spelled-full, spelled-grows, place-spelled, place-spelled-past}
-use Rattle.decimals.proofs.Halves.{length-digits-of, high-at, low-at}
+use Rattle.decimals.proofs.Halves.{length-digits-of, high-at, low-at, unpacked-at}
 use Rattle.decimals.proofs.Sound.{Sound, below-ten}
 
 pub record Spelling (p : Bool) (s : Bytes) (i x : ℕ) : Type 0 where
@@ -54,6 +54,30 @@ module _ {p : Bool} {s : Bytes} {i x : ℕ} (w : Spelling p s i x) where
       let l = length-digits-of p s in
       sym (rw (drop-of-length-le (digits-of p s) {i = i} (omega arith)) (spelled-none 10 x)) ∙ w .rest
 
+-- ---- a byte a turn, of P two digits
+
+pub unpacked-turn : {s : Bytes} {x : ℕ} (i : ℕ) → Spelling false s i x → i < length s → Spelling false s (i + 1) (x * 10 + getD s i 0 % 16)
+unfolding places
+unpacked-turn {s} i w h = rw (unpacked-at s i) at (spelling-turn w h)
+
+module _ {s : Bytes} {x : ℕ} (i : ℕ) (w : Spelling true s (2 * i) x) where
+  pub packed-turn : 2 * i + 1 < places true (length s) → Spelling true s (2 * (i + 1)) (x * 100 + (getD s i 0 / 16 * 10 + getD s i 0 % 16))
+  packed-turn h =
+      let e : 2 * i + 1 + 1 ≡ 2 * (i + 1) = omega arith in
+      let f : (x * 10 + getD s i 0 / 16) * 10 + getD s i 0 % 16 ≡ x * 100 + (getD s i 0 / 16 * 10 + getD s i 0 % 16) = omega arith in
+      rw (high-at s i (omega arith), low-at s i h, e, f) at (spelling-turn (spelling-turn w (omega arith)) h)
+
+  -- the last byte has one
+  pub packed-end : (k : ℕ) → k ≡ i → 2 * i + 1 ≡ places true (length s) → x * 10 + getD s k 0 / 16 ≡ magnitude-of true s
+  packed-end k e h = rw (e, ← high-at s i (omega arith)) (spelling-end (spelling-turn w (omega arith)) (omega arith))
+
+module _ {p : Bool} {s : Bytes} {x : ℕ} where
+  pub reckoned-over : {i : ℕ} → Spelling p s i x → suc greatest-word < x → Reckoned p s x
+  reckoned-over w h = record { reached = spelling-over w; exact = λ k. absurd (omega arith) }
+
+  pub reckoned-end : x ≡ magnitude-of p s → Reckoned p s x
+  reckoned-end e = record { reached = omega arith; exact = λ k. e }
+
 -- ---- leading zeros
 
 module _ {p : Bool} {s : Bytes} {i : ℕ} (w : Spelling p s i 0) where
@@ -80,11 +104,7 @@ module _ {p : Bool} {s : Bytes} {i : ℕ} (w : Spelling p s i 0) where
 
 module _ {s : Bytes} (i : ℕ) (w : Spelling true s (2 * i) 0) where
   pub packed-zero : 2 * i + 1 < places true (length s) → getD s i 0 ≡ 0 → Spelling true s (2 * (i + 1)) 0
-  packed-zero h z =
-      let e : 2 * i + 1 + 1 ≡ 2 * (i + 1) = omega arith in
-      let a = high-at s i (omega arith) in
-      let b = low-at s i h in
-      rw e at (spelling-zero (spelling-zero w (omega arith) (omega arith)) h (omega arith))
+  packed-zero h z = rw z at (packed-turn i w h)
 
   pub packed-more : (m : ℕ) → m + (2 * i + 1) < places true (length s) → (getD s i 0 ≡ 0 → ⊥) → ltb (magnitude-of true s) (10 ^ m) ≡ false
   packed-more m h z =
@@ -113,12 +133,13 @@ module _ {p : Bool} {s : Bytes} (v : Sound p s) where
   unfolding word-of value-of
   word-is = rw (v .means)
 
-  pub word-outside : suc greatest-word < magnitude-of p s → Outside ≡ word-of (value-of (meaning (decimal-format p) s))
-  word-outside h = sym (word-is ∙ rw (lt-leb _ _ h))
+  pub word-outside : {x : ℕ} → Reckoned p s x → suc greatest-word < x → Outside ≡ word-of (value-of (meaning (decimal-format p) s))
+  word-outside r h = sym (word-is ∙ rw (lt-leb _ _ (lt-of-lt-of-le h (r .reached))))
 
-  pub word-number : (below : Bool) (x : ℕ) → below ≡ is-minus p s → x ≡ magnitude-of p s → x ≤ suc greatest-word
+  pub word-number : (below : Bool) (x : ℕ) → Reckoned p s x → x ≤ suc greatest-word → below ≡ (accepted-minus (sign-of p s) && ltb 0 x)
       → Number (record { negative = below; magnitude = x }) ≡ word-of (value-of (meaning (decimal-format p) s))
-  word-number below x e f h = sym (word-is ∙ rw (← e, ← f, le-leb _ _ h))
+  unfolding is-minus
+  word-number below x r h e = sym (word-is ∙ rw (← r .exact h, ← e, le-leb _ _ h))
 
 -- ---- the magnitude's digits by their places
 

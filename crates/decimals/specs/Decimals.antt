@@ -6,6 +6,7 @@ use mathlib.Core.Path.{_≡_}
 use Prim.Native.Nat.{ℕ, zero, suc, _-_, _*_, _/_, _%_, _≤_, _<_}
 use lib.Dec.{eqb, leb, ltb}
 use lib.ListN.{length}
+use Rattle.rules.specs.Limits.{greatest-word}
 use Rattle.rules.specs.Lists.{Bytes, all, spelled, digits, but-last, last}
 use Rattle.rules.specs.Values.{Format, packed, unpacked, halves, pairs, zoned, accepted-plus, accepted-minus, sign-written}
 
@@ -38,6 +39,11 @@ pub record Readable (p : Bool) (bs : Bytes) : Type 0 where
   pub some : 0 < length bs
   pub short : length bs ≤ 253
   pub nines : all-digits p bs ≡ true
+
+-- A number that is the magnitude, unless it is greater than any in a conversion range: then the magnitude is no less.
+pub record Reckoned (p : Bool) (bs : Bytes) (x : ℕ) : Type 0 where
+  pub reached : x ≤ magnitude-of p bs
+  pub exact : x ≤ suc greatest-word → x ≡ magnitude-of p bs
 
 -- How many digits n bytes hold.
 unfoldable pub places : Bool → ℕ → ℕ

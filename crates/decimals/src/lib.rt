@@ -7,10 +7,10 @@ ghost use lib.Dec.{leb, ltb};
 ghost use lib.ListN.{length, getD};
 ghost use Rattle.rules.specs.Outcome.{is-done};
 ghost use Rattle.rules.specs.Lists.{bytes-of, digits};
-ghost use Rattle.rules.specs.Values.{meaning, normal, carried, in-normal-form, sign-written};
+ghost use Rattle.rules.specs.Values.{meaning, normal, carried, in-normal-form, accepted-minus, sign-written};
 ghost use Rattle.buffer.specs.Splice.{splice};
 ghost use Rattle.words.specs.Words.{signed-value, word-of, value-of};
-ghost use Rattle.decimals.specs.Decimals.{decimal-format, digits-of, sign-of, magnitude-of, is-minus, Readable, places, written, place, is-sign, inner-byte, last-byte};
+ghost use Rattle.decimals.specs.Decimals.{decimal-format, digits-of, sign-of, magnitude-of, is-minus, Readable, Reckoned, places, written, place, is-sign, inner-byte, last-byte};
 use words::Signed;
 use words::Word;
 
@@ -199,24 +199,73 @@ pub fn fits(s: &[u8], packed: bool, target: bool, n: usize) -> bool
     within(s, packed, digit_count(target, n))
 }
 
+// The magnitude of P, two digits a byte; it stops where it is greater than any in a conversion range.
+fn packed_number(s: &[u8]) -> u64
+    requires { ⌜ Readable true (now s) ⌝ }
+    ensures { λ r. ⌜ Reckoned true (now (s .entry)) r ⌝ }
+{
+    let n = s.len() - 1;
+    let mut x: u64 = 0;
+    let mut i = 0;
+    while i < n {
+        let b = s[i];
+        x = x * 100 + (b / 16 * 10 + b % 16) as u64;
+        if GREATEST_MAGNITUDE < x {
+            return x;
+        }
+        i += 1;
+    }
+    x * 10 + (s[n] / 16) as u64
+}
+
+// Likewise of U, a digit a byte.
+fn unpacked_number(s: &[u8]) -> u64
+    requires { ⌜ Readable false (now s) ⌝ }
+    ensures { λ r. ⌜ Reckoned false (now (s .entry)) r ⌝ }
+{
+    let n = s.len();
+    let mut x: u64 = 0;
+    let mut i = 0;
+    while i < n {
+        x = x * 10 + (s[i] % 16) as u64;
+        if GREATEST_MAGNITUDE < x {
+            return x;
+        }
+        i += 1;
+    }
+    x
+}
+
+// The magnitude of either, or what tells that it is too great.
+fn reckoned(s: &[u8], packed: bool) -> u64
+    requires { ⌜ Readable packed (now s) ⌝ }
+    ensures { λ r. ⌜ Reckoned packed (now (s .entry)) r ⌝ }
+{
+    if packed {
+        packed_number(s)
+    } else {
+        unpacked_number(s)
+    }
+}
+
+// Whether a magnitude with a sign is below zero: zero is not, whatever its sign.
+fn below_zero(x: u64, sign: u8) -> bool
+    ensures { λ r. ⌜ r ≡ (accepted-minus sign && ltb 0 x) ⌝ }
+{
+    if x == 0 { false } else { sign == 0xD }
+}
+
 // The number that s means.
 pub fn to_word(s: &[u8], packed: bool) -> Word
     requires { ⌜ (is-done (meaning (decimal-format packed) (now s)) ≡ true) × (length (now s) ≤ 253) ⌝ }
     ensures { λ r. ⌜ r ≡ word-of (value-of (meaning (decimal-format packed) (now (s .entry)))) ⌝ }
 {
-    let n = digit_count(packed, s.len());
-    let mut x: u64 = 0;
-    let mut i = 0;
-    while i < n {
-        let d = digit(s, packed, i);
-        x = x * 10 + d as u64;
-        if GREATEST_MAGNITUDE < x {
-            return Word::Outside;
-        }
-        i += 1;
+    let x = reckoned(s, packed);
+    if GREATEST_MAGNITUDE < x {
+        return Word::Outside;
     }
     Word::Number(Signed {
-        negative: negative(s, packed),
+        negative: below_zero(x, sign(s, packed)),
         magnitude: x as u32,
     })
 }
