@@ -3,7 +3,7 @@
 use mathlib.Core.Bool.{Bool, true, false, _&&_, _||_}
 use mathlib.Core.List.{List, [], _∷_, _++_, map}
 use mathlib.Core.Path.{_≡_}
-use Prim.Native.Nat.{ℕ, zero, suc, _-_, _*_, _/_, _%_, _≤_, _<_}
+use Prim.Native.Nat.{ℕ, zero, suc, _+_, _-_, _*_, _/_, _%_, _≤_, _<_}
 use lib.Dec.{eqb, leb, ltb}
 use lib.ListN.{length}
 use Rattle.rules.specs.Limits.{greatest-word}
@@ -58,6 +58,23 @@ encoded false ds s = zoned ds s
 -- The n bytes of a number in normal form.
 unfoldable pub written : Bool → ℕ → Bool → ℕ → Bytes
 written p n below x = encoded p (digits 10 (places p n) x) (sign-written below)
+
+-- A byte before the last has two digits in P and one in U; the m bytes with the last digits of a number.
+unfoldable pub byte-base : Bool → ℕ
+byte-base true = 100
+byte-base false = 10
+
+unfoldable pub inner-written : Bool → ℕ → ℕ
+inner-written true d = d / 10 * 16 + d % 10
+inner-written false d = 0xF0 + d
+
+unfoldable pub front : Bool → ℕ → ℕ → Bytes
+front p m x = map (inner-written p) (digits (byte-base p) m x)
+
+-- The last byte has a digit and the sign.
+unfoldable pub last-written : Bool → ℕ → ℕ → ℕ
+last-written true d s = d * 16 + s
+last-written false d s = s * 16 + d
 
 -- The digit of a number in a base with k digits after it.
 unfoldable pub place : ℕ → ℕ → ℕ → ℕ

@@ -6,11 +6,11 @@ ghost use Prim.Native.Nat.{_+_, _-_, _≤_, _<_, _^_};
 ghost use lib.Dec.{leb, ltb};
 ghost use lib.ListN.{length, getD};
 ghost use Rattle.rules.specs.Outcome.{is-done};
-ghost use Rattle.rules.specs.Lists.{bytes-of, digits};
+ghost use Rattle.rules.specs.Lists.{bytes-of};
 ghost use Rattle.rules.specs.Values.{meaning, normal, carried, in-normal-form, accepted-minus, sign-written};
 ghost use Rattle.buffer.specs.Splice.{splice};
 ghost use Rattle.words.specs.Words.{signed-value, word-of, value-of};
-ghost use Rattle.decimals.specs.Decimals.{decimal-format, digits-of, sign-of, magnitude-of, is-minus, Readable, Reckoned, places, written, place, is-sign, inner-byte, last-byte};
+ghost use Rattle.decimals.specs.Decimals.{decimal-format, digits-of, sign-of, magnitude-of, is-minus, Readable, Reckoned, places, written, front, last-written, place, is-sign, inner-byte, last-byte};
 use words::Signed;
 use words::Word;
 
@@ -270,6 +270,15 @@ pub fn to_word(s: &[u8], packed: bool) -> Word
     })
 }
 
+// The last byte: a digit and the sign.
+fn last_written(d: u8, negative: bool, target: bool) -> u8
+    requires { ⌜ d < 10 ⌝ }
+    ensures { λ r. ⌜ r ≡ last-written target d (sign-written negative) ⌝ }
+{
+    let sign = written_sign(negative);
+    if target { d * 16 + sign } else { sign * 16 + d }
+}
+
 // The digit of the magnitude with k digits after it: 0 past its first.
 fn digit_before(s: &[u8], packed: bool, k: usize) -> u8
     requires { ⌜ Readable packed (now s) ⌝ }
@@ -351,21 +360,6 @@ pub fn carry(s: &[u8], packed: bool, target: bool, n: usize, out: &mut [u8], at:
     write_digits(s, packed, negative(s, packed), target, n, out, at);
 }
 
-// The last ten digits of x, which are all.
-fn ten_digits(x: u32) -> [u8; 10]
-    ensures { λ r. ⌜ r ≡ digits 10 10 x ⌝ }
-{
-    let mut ds = [0u8; 10];
-    let mut rest = x;
-    let mut i = 10;
-    while 0 < i {
-        i -= 1;
-        ds[i] = (rest % 10) as u8;
-        rest = rest / 10;
-    }
-    ds
-}
-
 // A power of ten that a magnitude can reach.
 fn power_of_ten(m: usize) -> u32
     requires { ⌜ (0 < m) × (m < 10) ⌝ }
@@ -396,11 +390,45 @@ pub fn fits_word(v: Signed, packed: bool, n: usize) -> bool
     v.magnitude < power_of_ten(m)
 }
 
+// The last n pairs of digits of x, to n bytes of P from at on.
+fn pack_number(x: u32, n: usize, out: &mut [u8], at: usize)
+    requires { ⌜ at + n ≤ length (now out) ⌝ }
+    ensures { λ _. ⌜ now (out .exit) ≡ splice at (front true n x) (now (out .entry)) ⌝ }
+{
+    let mut rest = x;
+    let mut i = n;
+    while 0 < i {
+        i -= 1;
+        let b = (rest % 100) as u8;
+        out[at + i] = b / 10 * 16 + b % 10;
+        rest = rest / 100;
+    }
+}
+
+// The last n digits of x, to n bytes of U from at on.
+fn unpack_number(x: u32, n: usize, out: &mut [u8], at: usize)
+    requires { ⌜ at + n ≤ length (now out) ⌝ }
+    ensures { λ _. ⌜ now (out .exit) ≡ splice at (front false n x) (now (out .entry)) ⌝ }
+{
+    let mut rest = x;
+    let mut i = n;
+    while 0 < i {
+        i -= 1;
+        out[at + i] = 0xF0 + (rest % 10) as u8;
+        rest = rest / 10;
+    }
+}
+
 // The number v, which fits, to n bytes of out from at on.
 pub fn write_word(v: Signed, packed: bool, n: usize, out: &mut [u8], at: usize)
     requires { ⌜ (is-done (normal (decimal-format packed) n (signed-value v)) ≡ true) × (0 < n) × (n ≤ 29) × (at + n ≤ length (now out)) ⌝ }
     ensures { λ _. ⌜ now (out .exit) ≡ splice at (bytes-of (normal (decimal-format packed) n (signed-value v))) (now (out .entry)) ⌝ }
 {
-    let ds = ten_digits(v.magnitude);
-    write_digits(&ds, false, v.negative, packed, n, out, at);
+    let x = v.magnitude;
+    out[at + (n - 1)] = last_written((x % 10) as u8, v.negative, packed);
+    if packed {
+        pack_number(x / 10, n - 1, out, at);
+    } else {
+        unpack_number(x / 10, n - 1, out, at);
+    }
 }
