@@ -4,9 +4,9 @@ ghost use mathlib.Core.Path.{_≡_};
 ghost use mathlib.Core.Bool.{_&&_, true, false};
 ghost use Prim.Native.Nat.{_+_, _-_, _≤_, _<_, _^_};
 ghost use lib.Dec.{leb, ltb};
-ghost use lib.ListN.{length, getD};
+ghost use lib.ListN.{length, take, getD};
 ghost use Rattle.rules.specs.Outcome.{is-done};
-ghost use Rattle.rules.specs.Lists.{bytes-of};
+ghost use Rattle.rules.specs.Lists.{all, bytes-of};
 ghost use Rattle.rules.specs.Values.{meaning, normal, carried, in-normal-form, accepted-minus, sign-written};
 ghost use Rattle.buffer.specs.Splice.{splice};
 ghost use Rattle.words.specs.Words.{signed-value, word-of, value-of};
@@ -37,17 +37,7 @@ fn digit_and_sign(d: u8, h: u8) -> bool
     if d <= 9 { is_sign(h) } else { false }
 }
 
-// A byte before the last, and the last.
-fn inner_byte(b: u8, packed: bool) -> bool
-    ensures { λ r. ⌜ r ≡ inner-byte packed b ⌝ }
-{
-    if packed {
-        b / 16 <= 9 && b % 16 <= 9
-    } else {
-        b / 16 == 0xF && b % 16 <= 9
-    }
-}
-
+// Whether the last byte can be one: a digit and a sign.
 fn last_byte(b: u8, packed: bool) -> bool
     ensures { λ r. ⌜ r ≡ last-byte packed b ⌝ }
 {
@@ -58,23 +48,62 @@ fn last_byte(b: u8, packed: bool) -> bool
     }
 }
 
+// Whether the first n bytes of P have two digits each.
+fn packed_pairs(s: &[u8], n: usize) -> bool
+    requires { ⌜ n ≤ length (now s) ⌝ }
+    ensures { λ r. ⌜ r ≡ all (inner-byte true) (take n (now (s .entry))) ⌝ }
+{
+    let mut i = 0;
+    while i < n {
+        let b = s[i];
+        if 0x99 < b {
+            return false;
+        }
+        if 9 < b % 16 {
+            return false;
+        }
+        i += 1;
+    }
+    true
+}
+
+// Whether the first n bytes of U have F and a digit each.
+fn zoned_digits(s: &[u8], n: usize) -> bool
+    requires { ⌜ n ≤ length (now s) ⌝ }
+    ensures { λ r. ⌜ r ≡ all (inner-byte false) (take n (now (s .entry))) ⌝ }
+{
+    let mut i = 0;
+    while i < n {
+        let b = s[i];
+        if b < 0xF0 {
+            return false;
+        }
+        if 0xF9 < b {
+            return false;
+        }
+        i += 1;
+    }
+    true
+}
+
 // Whether s is a value.
 pub fn is_value(s: &[u8], packed: bool) -> bool
     ensures { λ r. ⌜ r ≡ is-done (meaning (decimal-format packed) (now (s .entry))) ⌝ }
 {
-    let mut i = 0;
-    while i + 1 < s.len() {
-        if inner_byte(s[i], packed) {
-            i += 1;
-        } else {
-            return false;
+    if s.len() == 0 {
+        return false;
+    }
+    let n = s.len() - 1;
+    if packed {
+        if packed_pairs(s, n) {
+            return last_byte(s[n], true);
         }
+        return false;
     }
-    if i < s.len() {
-        last_byte(s[i], packed)
-    } else {
-        false
+    if zoned_digits(s, n) {
+        return last_byte(s[n], false);
     }
+    false
 }
 
 // How many digits n bytes hold.
