@@ -76,7 +76,7 @@ value-scan false bs =
 
 -- ---- the bytes before the last, and the last
 
-and-assoc : (a b c : Bool) → (a && (b && c)) ≡ (a && b && c)
+pub and-assoc : (a b c : Bool) → (a && (b && c)) ≡ (a && b && c)
 and-assoc true b c = refl
 and-assoc false b c = refl
 

@@ -1,7 +1,7 @@
 -- Reading a value's digits from the left: x is what those before place i spell, and with those from i on it is the magnitude.
 -- Assumes nothing.
 use mathlib.Core.Path.{_≡_, refl, sym, _∙_}
-use mathlib.Core.Bool.{Bool, true, false, not, _&&_}
+use mathlib.Core.Bool.{Bool, true, false, _&&_}
 use mathlib.Core.List.{List, [], _∷_}
 use Prim.Native.Nat.{ℕ, suc, _+_, _-_, _*_, _/_, _%_, _^_, _≤_, _<_}
 use native.Mathlib.Nat.{pow-le-pow-right, lt-of-lt-of-le, le-trans}
@@ -120,10 +120,6 @@ module _ {s : Bytes} (i : ℕ) (w : Spelling true s (2 * i) 0) where
       by-order (getD s i 0) 16
       (λ l. lt-ltb (getD s i 0) 16 l ∙ sym (spelling-fits (spelling-zero w (omega arith) (omega arith)) m n (omega arith)))
       (λ l. le-ltb (getD s i 0) 16 l ∙ sym (spelling-more w m (omega arith) (λ q. omega arith)))
-
--- no digits at all: zero
-pub zero-digits : (x : ℕ) → ltb 0 x ≡ not (ltb x (10 ^ 0))
-zero-digits x = by-order 0 x (λ h. rw (lt-ltb 0 x h, le-ltb x 1 h)) (λ h. rw (le-ltb 0 x h, lt-ltb x 1 (omega arith)))
 
 -- ---- the word of a value
 

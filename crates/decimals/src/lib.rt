@@ -2,15 +2,15 @@
 // `packed` selects the format of a value, P where it is true, else U; `target` likewise that of the bytes to write.
 ghost use mathlib.Core.Path.{_≡_};
 ghost use mathlib.Core.Bool.{_&&_, true, false};
-ghost use Prim.Native.Nat.{_+_, _-_, _≤_, _<_, _^_};
-ghost use lib.Dec.{leb, ltb};
+ghost use Prim.Native.Nat.{_+_, _-_, _%_, _≤_, _<_, _^_};
+ghost use lib.Dec.{eqb, leb, ltb};
 ghost use lib.ListN.{length, take, getD};
 ghost use Rattle.rules.specs.Outcome.{is-done};
 ghost use Rattle.rules.specs.Lists.{all, bytes-of};
 ghost use Rattle.rules.specs.Values.{meaning, normal, carried, in-normal-form, accepted-minus, sign-written};
 ghost use Rattle.buffer.specs.Splice.{splice};
 ghost use Rattle.words.specs.Words.{signed-value, word-of, value-of};
-ghost use Rattle.decimals.specs.Decimals.{decimal-format, digits-of, sign-of, magnitude-of, is-minus, Readable, Reckoned, places, written, front, last-written, place, is-sign, inner-byte, last-byte};
+ghost use Rattle.decimals.specs.Decimals.{decimal-format, digits-of, sign-of, magnitude-of, is-minus, Readable, Reckoned, places, written, inner-written, front, last-written, place, is-sign, inner-byte, last-byte};
 use words::Signed;
 use words::Word;
 
@@ -189,16 +189,50 @@ fn within(s: &[u8], packed: bool, m: usize) -> bool
     }
 }
 
-// Whether it is below zero: zero is not, whatever its sign.
-fn negative(s: &[u8], packed: bool) -> bool
+// A byte before the last with zeros for digits.
+fn zero_byte(packed: bool) -> u8
+    ensures { λ r. ⌜ r ≡ inner-written packed 0 ⌝ }
+{
+    if packed { 0 } else { 0xF0 }
+}
+
+// Whether the first n bytes have zeros for digits.
+fn zeros_before(s: &[u8], packed: bool, n: usize) -> bool
+    requires { ⌜ n ≤ length (now s) ⌝ }
+    ensures { λ r. ⌜ r ≡ all (λ b. eqb b (inner-written packed 0)) (take n (now (s .entry))) ⌝ }
+{
+    let zeros = zero_byte(packed);
+    let mut i = n;
+    while 0 < i {
+        i -= 1;
+        if s[i] != zeros {
+            return false;
+        }
+    }
+    true
+}
+
+// The last digit.
+fn last_digit(s: &[u8], packed: bool) -> u8
     requires { ⌜ Readable packed (now s) ⌝ }
+    ensures { λ r. ⌜ r ≡ magnitude-of packed (now (s .entry)) % 10 ⌝ }
+{
+    let b = s[s.len() - 1];
+    if packed { b / 16 } else { b % 16 }
+}
+
+// Whether the value s is below zero: zero is not, whatever its sign.
+fn negative(s: &[u8], packed: bool) -> bool
+    requires { ⌜ (is-done (meaning (decimal-format packed) (now s)) ≡ true) × (length (now s) ≤ 253) ⌝ }
     ensures { λ r. ⌜ r ≡ is-minus packed (now (s .entry)) ⌝ }
 {
-    if sign(s, packed) == 0xD {
-        !within(s, packed, 0)
-    } else {
-        false
+    if sign(s, packed) != 0xD {
+        return false;
     }
+    if last_digit(s, packed) != 0 {
+        return true;
+    }
+    !zeros_before(s, packed, s.len() - 1)
 }
 
 // The sign of the normal form.

@@ -1,5 +1,5 @@
 -- `decimals::carry` meets its contract: a value is carried by its digits and by whether it is below zero. Assumes nothing.
-use Rattle.decimals.proofs.Normal.{carried-readable, carried-bytes}
+use Rattle.decimals.proofs.Normal.{carried-value, carried-readable, carried-bytes}
 use borrow.Author.Needs.{needs}
 use Rattle.decimals.proofs.carry.Statement.{statement}
 use Rattle.decimals.proofs.carry.Tie as tie
@@ -7,7 +7,7 @@ use Rattle.decimals.proofs.carry.Tie as tie
 negative-requires : tie.Need-negative-requires
 negative-requires c κs =
     let a = c .before .before in
-    carried-readable (a .args .packed) (a .args .target) (a .args .n) (a .args .s .now) (a .pre .0) (a .pre .1)
+    (carried-value _ _ (a .args .n) (a .args .s .now) (a .pre .0), a .pre .1)
 
 write-digits-requires : tie.Need-write-digits-requires
 write-digits-requires c κs =
