@@ -7,19 +7,19 @@ use Prim.Native.Nat.{ℕ, zero, suc, _+_, _-_, _*_, _/_, _%_, _^_, _≤_, _<_}
 use native.Mathlib.Nat.{pow-zero, pow-suc, div-lt-iff-lt-mul}
 use native.Mathlib.Omega.{arith}
 use lib.Dec.{eqb, ltb, lit<}
-use lib.ListN.{length, take, getD}
+use lib.ListN.{length, take, drop, getD, replicate}
 use lib.Seq.{take-suc, take-at}
 use borrow.Author.Tests.{lt-ltb, le-ltb, eqb-true, eqb-false, eq-eqb, ne-eqb}
 use Rattle.rules.specs.Lists.{Bytes, all, digits}
 use Rattle.rules.proofs.Steps.{by-test}
 use Rattle.buffer.proofs.Cases.{by-order}
-use Rattle.decimals.specs.Decimals.{digits-of, sign-of, magnitude-of, Readable, places, encoded, byte-base, inner-written, front, last-written, place}
+use Rattle.decimals.specs.Decimals.{digits-of, sign-of, magnitude-of, Readable, places, encoded, byte-base, inner-written, front, last-written}
 use Rattle.decimals.proofs.Digits.{spelled-below, digits-spelled}
-use Rattle.decimals.proofs.Halves.{length-digits-of, places-some, high-at, unpacked-at}
+use Rattle.decimals.proofs.Halves.{length-digits-of, high-at, unpacked-at}
 use Rattle.decimals.proofs.Meanings.{and-assoc}
 use Rattle.decimals.proofs.Sound.{Sound, below-ten}
-use Rattle.decimals.proofs.Spelling.{digit-place}
-use Rattle.decimals.proofs.Front.{length-front, front-none, front-more, encoded-front}
+use Rattle.decimals.proofs.Spelling.{last-digit-of}
+use Rattle.decimals.proofs.Front.{length-front, front-none, front-more, front-drop, front-behind, base-some, encoded-front}
 
 -- ---- the bytes before the last
 
@@ -55,6 +55,29 @@ module _ {p : Bool} {s : Bytes} (v : Sound p s) where
   pub before-small : magnitude-of p s / 10 < byte-base p ^ (length s - 1)
   unfolding magnitude-of
   before-small = less-one p (length s - 1) _ (rw (length-digits-of p s, one-more) at (spelled-below 10 (digits-of p s) (below-ten p s (v .nines))))
+
+take-of-drop : (a m : ℕ) (s : Bytes) (k : ℕ) → m ≡ a + k → take k (drop a s) ≡ drop a (take m s)
+take-of-drop zero m s k e =
+    let q : m ≡ k = omega arith in
+    rw q
+take-of-drop (suc a) zero s k e = absurd (omega arith)
+take-of-drop (suc a) (suc m) [] zero e = refl
+take-of-drop (suc a) (suc m) [] (suc k) e = refl
+take-of-drop (suc a) (suc m) (b ∷ s) k e = take-of-drop a m s k (omega arith)
+
+-- to n bytes of the same format: the last of them, or all behind zeros
+module _ {p : Bool} {s : Bytes} (v : Sound p s) (n : ℕ) where
+  pub copied-last : 0 < n → n < length s → take (length s - 1 - (length s - n)) (drop (length s - n) s) ≡ front p (n - 1) (magnitude-of p s / 10)
+  copied-last o h =
+      let e : length s - 1 - (length s - n) ≡ n - 1 = omega arith in
+      let f : length s - n + (n - 1) ≡ length s - 1 = omega arith in
+      rw (e, take-of-drop (length s - n) (length s - 1) s (n - 1) (omega arith), before-last v, ← f) (front-drop p (length s - n) (n - 1) (magnitude-of p s / 10))
+
+  pub copied-all : length s ≤ n → replicate (n - length s) (inner-written p 0) ++ take (length s - 1) s ≡ front p (n - 1) (magnitude-of p s / 10)
+  copied-all h =
+      let o = v .some in
+      let e : n - length s + (length s - 1) ≡ n - 1 = omega arith in
+      rw (before-last v, ← e) (sym (front-behind p (n - length s) (length s - 1) (magnitude-of p s / 10) (before-small v)))
 
 -- ---- a scan of the first n bytes from the right: those before i answer as all do
 
@@ -108,11 +131,6 @@ unfolding byte-base inner-written
 zero-parts true y = both-zero (y / 100) (y % 100 / 10 * 16 + y % 100 % 10) 0 y (λ z. omega arith) (λ z. omega arith) (λ z q. omega arith)
 zero-parts false y = both-zero (y / 10) (0xF0 + y % 10) 0xF0 y (λ z. omega arith) (λ z. omega arith) (λ z q. omega arith)
 
-base-some : (p : Bool) → 0 < byte-base p
-unfolding byte-base
-base-some true = lit< tt
-base-some false = lit< tt
-
 all-zeros : (p : Bool) (m y : ℕ) → y < byte-base p ^ m → all (λ b. eqb b (inner-written p 0)) (front p m y) ≡ eqb y 0
 all-zeros p zero y h =
     let z : y ≡ 0 = let k = rw (pow-zero (byte-base p)) at h in omega arith in
@@ -136,18 +154,13 @@ module _ {p : Bool} {s : Bytes} (v : Sound p s) where
 
 -- ---- the last digit
 
-module _ {p : Bool} {s : Bytes} (v : Readable p s) where
-  last-of : getD (digits-of p s) (places p (length s) - 1) 0 ≡ magnitude-of p s % 10
-  unfolding place
-  last-of = let o = places-some p (length s) (v .some) in digit-place v (places p (length s) - 1) 0 (omega arith)
-
 pub packed-last-digit : {s : Bytes} → Readable true s → getD s (length s - 1) 0 / 16 ≡ magnitude-of true s % 10
 unfolding places
 packed-last-digit {s} v =
     let o = v .some in
     let e : 2 * length s - 1 - 1 ≡ 2 * (length s - 1) = omega arith in
-    sym (high-at s (length s - 1) (omega arith)) ∙ rw e at (last-of v)
+    sym (high-at s (length s - 1) (omega arith)) ∙ rw e at (last-digit-of v)
 
 pub unpacked-last-digit : {s : Bytes} → Readable false s → getD s (length s - 1) 0 % 16 ≡ magnitude-of false s % 10
 unfolding places
-unpacked-last-digit {s} v = sym (unpacked-at s (length s - 1)) ∙ last-of v
+unpacked-last-digit {s} v = sym (unpacked-at s (length s - 1)) ∙ last-digit-of v

@@ -12,7 +12,6 @@ use lib.Seq.{take-suc, take-all, length-take-le, getD-at}
 use Rattle.rules.specs.Lists.{all, spelled, digits}
 use Rattle.rules.proofs.Steps.{and-left, and-right, and-intro, T-true}
 pub use Rattle.words.proofs.Digits.{spelled-behind, spelled-snoc, length-digits, spelled-digits}
-use Rattle.decimals.specs.Decimals.{place}
 
 -- ---- what holds of each of a list
 
@@ -112,34 +111,3 @@ digits-spelled-at b (suc n) ds e a =
 
 pub digits-spelled : (b : ℕ) (ds : List ℕ) → T (all (λ d. ltb d b) ds) → digits b (length ds) (spelled b ds 0) ≡ ds
 digits-spelled b ds a = digits-spelled-at b (length ds) ds refl a
-
--- ---- each digit by its place
-
--- the digit of a number with k of its last n digits after it
-pub digits-at : (b n x i k : ℕ) → i + (k + 1) ≡ n → getD (digits b n x) i 0 ≡ place b x k
-unfolding digits place
-digits-at b zero x i k e = absurd (omega arith)
-digits-at b (suc n) x i zero e = getD-at (digits b n (x / b)) (x % b) [] 0 i (length-digits b n (x / b) ∙ omega arith)
-digits-at b (suc n) x i (suc k) e =
-    List·getD-append (digits b n (x / b)) (x % b ∷ []) 0 i (let l = length-digits b n (x / b) in omega arith) ∙ digits-at b n (x / b) i k (omega arith)
-
--- a place past a number's digits is zero
-pub place-past : (b x k : ℕ) → 0 < b → x < b ^ k → place b x k ≡ 0
-unfolding place
-place-past b x zero o h =
-    let z : x ≡ 0 = (let y = rw (pow-zero b) at h in omega arith) in
-    rw z (zero-mod b)
-place-past b x (suc k) o h = place-past b (x / b) k o (div-lt-iff-lt-mul o .1 (rw (pow-suc b k) at h))
-
-pub place-below : (b x k : ℕ) → 0 < b → place b x k < b
-unfolding place
-place-below b x zero o = mod-lt x o
-place-below b x (suc k) o = place-below b (x / b) k o
-
-module _ (b : ℕ) (ds : List ℕ) (a : T (all (λ d. ltb d b) ds)) where
-  -- the place in what digits spell is the digit
-  pub place-spelled : (i k : ℕ) → i + (k + 1) ≡ length ds → place b (spelled b ds 0) k ≡ getD ds i 0
-  place-spelled i k e = sym (digits-at b (length ds) (spelled b ds 0) i k e) ∙ ap (λ l. getD l i 0) (digits-spelled b ds a)
-
-  pub place-spelled-past : (k : ℕ) → 0 < b → length ds ≤ k → place b (spelled b ds 0) k ≡ 0
-  place-spelled-past k o h = place-past b (spelled b ds 0) k o (lt-of-lt-of-le (spelled-below b ds a) (pow-le-pow-right o h))

@@ -2,16 +2,25 @@
 -- bytes that are still to be written is a part of the write. Assumes nothing.
 use mathlib.Core.Path.{_≡_, refl, sym, _∙_, ap}
 use mathlib.Core.Bool.{Bool, true, false}
-use mathlib.Core.List.{List, [], _∷_, _++_, map, map-append}
-use Prim.Native.Nat.{ℕ, zero, suc, _+_, _-_, _*_, _/_, _%_, _≤_, _<_}
+use mathlib.Core.List.{List, [], _∷_, _++_, map, map-append, append-nil, append-assoc}
+use Prim.Native.Nat.{ℕ, zero, suc, _+_, _-_, _*_, _/_, _%_, _^_, _≤_, _<_}
+use native.Mathlib.Nat.{pow-zero, pow-suc, div-lt-iff-lt-mul}
 use native.Mathlib.Omega.{arith}
-use lib.ListN.{length, set, length-set, length-map}
+use lib.Dec.{lit<}
+use lib.ListN.{length, drop, set, replicate, length-set, length-map, drop-of-length-le}
+use lib.Seq.{drop-append-le}
 use Rattle.rules.specs.Lists.{Bytes, digits}
 use Rattle.rules.specs.Values.{pairs, zoned, sign-written}
 use Rattle.buffer.specs.Splice.{splice}
 use Rattle.buffer.proofs.Laws.{splice-nil}
+use Rattle.words.proofs.Digits.{digits-zero}
 use Rattle.decimals.specs.Decimals.{places, encoded, written, byte-base, inner-written, front, last-written}
 use Rattle.decimals.proofs.Digits.{length-digits}
+
+pub sign-small : (b : Bool) → sign-written b ≤ 15
+unfolding sign-written
+sign-small true = omega arith
+sign-small false = omega arith
 
 pub length-front : (p : Bool) (m y : ℕ) → length (front p m y) ≡ m
 unfolding front
@@ -24,6 +33,42 @@ front-none p y = refl
 pub front-more : (p : Bool) (m y : ℕ) → front p (suc m) y ≡ front p m (y / byte-base p) ++ (inner-written p (y % byte-base p) ∷ [])
 unfolding front digits
 front-more p m y = map-append (inner-written p) (digits (byte-base p) m (y / byte-base p)) (y % byte-base p ∷ [])
+
+-- ---- fewer of them, and more
+
+pub front-drop : (p : Bool) (a k y : ℕ) → drop a (front p (a + k) y) ≡ front p k y
+front-drop p a zero y =
+    let l = length-front p (a + 0) y in
+    rw (drop-of-length-le (front p (a + 0) y) {i = a} (omega arith)) (sym (front-none p y))
+front-drop p a (suc k) y =
+    let e : a + suc k ≡ suc (a + k) = omega arith in
+    let l = length-front p (a + k) (y / byte-base p) in
+    rw (e, front-more p (a + k) y, drop-append-le a (front p (a + k) (y / byte-base p)) (inner-written p (y % byte-base p) ∷ []) (omega arith), front-drop p a k (y / byte-base p))
+    (sym (front-more p k y))
+
+replicate-map : (f : ℕ → ℕ) (k d : ℕ) → map f (replicate k d) ≡ replicate k (f d)
+replicate-map f zero d = refl
+replicate-map f (suc k) d = ap (λ (l : List ℕ). f d ∷ l) (replicate-map f k d)
+
+zero-front : (p : Bool) (k : ℕ) → front p k 0 ≡ replicate k (inner-written p 0)
+unfolding front
+zero-front p k = rw (digits-zero (byte-base p) k) (replicate-map (inner-written p) k 0)
+
+pub base-some : (p : Bool) → 0 < byte-base p
+unfolding byte-base
+base-some true = lit< tt
+base-some false = lit< tt
+
+pub front-behind : (p : Bool) (k m y : ℕ) → y < byte-base p ^ m → front p (k + m) y ≡ replicate k (inner-written p 0) ++ front p m y
+front-behind p k zero y h =
+    let z : y ≡ 0 = let q = rw (pow-zero (byte-base p)) at h in omega arith in
+    let e : k + 0 ≡ k = omega arith in
+    rw (e, z, front-none p 0, append-nil) (zero-front p k)
+front-behind p k (suc m) y h =
+    let e : k + suc m ≡ suc (k + m) = omega arith in
+    let q = div-lt-iff-lt-mul (base-some p) .1 (rw (pow-suc (byte-base p) m) at h) in
+    rw (e, front-more p (k + m) y, front-behind p k m (y / byte-base p) q, front-more p m y)
+    (append-assoc (replicate k (inner-written p 0)) (front p m (y / byte-base p)) (inner-written p (y % byte-base p) ∷ []))
 
 -- ---- the bytes of digits and a sign
 

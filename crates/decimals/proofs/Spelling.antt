@@ -1,15 +1,15 @@
 -- Reading a value's digits from the left: x is what those before place i spell, and with those from i on it is the magnitude.
 -- Assumes nothing.
-use mathlib.Core.Path.{_≡_, refl, sym, _∙_}
+use mathlib.Core.Path.{_≡_, refl, sym, _∙_, ap}
 use mathlib.Core.Bool.{Bool, true, false, _&&_}
 use mathlib.Core.List.{List, [], _∷_}
-use Prim.Native.Nat.{ℕ, suc, _+_, _-_, _*_, _/_, _%_, _^_, _≤_, _<_}
+use Prim.Native.Nat.{ℕ, zero, suc, _+_, _-_, _*_, _/_, _%_, _^_, _≤_, _<_}
 use native.Mathlib.Nat.{pow-le-pow-right, lt-of-lt-of-le, le-trans}
 use native.Mathlib.Numerals.{add-one}
 use native.Mathlib.Omega.{arith}
-use lib.Dec.{ltb, leb, lit<}
-use lib.ListN.{length, drop, getD, length-drop, drop-of-length-le}
-use lib.Seq.{drop-cons}
+use lib.Dec.{ltb, leb, ltb→lt, lit<}
+use lib.ListN.{length, take, drop, getD, length-drop, drop-of-length-le}
+use lib.Seq.{drop-cons, take-suc, take-all}
 use borrow.Author.Tests.{lt-ltb, le-ltb, le-leb, lt-leb}
 use Rattle.rules.specs.Limits.{greatest-word}
 use Rattle.rules.specs.Lists.{Bytes, spelled}
@@ -17,9 +17,9 @@ use Rattle.rules.specs.Values.{accepted-minus, meaning}
 use Rattle.words.specs.Words.{word-of, value-of, pick}
 use Rattle.words.specs.declared.Word.the-variants.{Number, Outside}
 use Rattle.buffer.proofs.Cases.{by-order}
-use Rattle.decimals.specs.Decimals.{decimal-format, digits-of, sign-of, magnitude-of, is-minus, all-digits, Readable, Reckoned, places, place}
-use Rattle.decimals.proofs.Digits.{all-drop, spelled-below, spelled-full, spelled-grows, place-spelled, place-spelled-past}
-use Rattle.decimals.proofs.Halves.{length-digits-of, high-at, low-at, unpacked-at}
+use Rattle.decimals.specs.Decimals.{decimal-format, digits-of, sign-of, magnitude-of, is-minus, before, all-digits, Readable, Reckoned, places, inner-written}
+use Rattle.decimals.proofs.Digits.{all-drop, all-at, spelled-below, spelled-full, spelled-grows, spelled-snoc}
+use Rattle.decimals.proofs.Halves.{length-digits-of, places-some, packed-high, packed-low, high-at, low-at, unpacked-at}
 use Rattle.decimals.proofs.Sound.{Sound, below-ten}
 
 pub record Spelling (p : Bool) (s : Bytes) (i x : ℕ) : Type 0 where
@@ -137,13 +137,101 @@ module _ {p : Bool} {s : Bytes} (v : Sound p s) where
   unfolding is-minus
   word-number below x r h e = sym (word-is ∙ rw (← r .exact h, ← e, le-leb _ _ h))
 
--- ---- the magnitude's digits by their places
+-- ---- reading from the right
 
 module _ {p : Bool} {s : Bytes} (v : Readable p s) where
-  pub digit-place : (i k : ℕ) → i + (k + 1) ≡ places p (length s) → getD (digits-of p s) i 0 ≡ place 10 (magnitude-of p s) k
-  unfolding magnitude-of
-  digit-place i k e = sym (place-spelled 10 (digits-of p s) (below-ten p s (v .nines)) i k (e ∙ sym (length-digits-of p s)))
+  more : (j : ℕ) → j < places p (length s) → before p s (suc j) ≡ before p s j * 10 + getD (digits-of p s) j 0
+  unfolding before
+  more j h =
+      let l = length-digits-of p s in
+      rw (take-suc (digits-of p s) j 0 (omega arith)) (spelled-snoc 10 (take j (digits-of p s)) (getD (digits-of p s) j 0) 0)
 
-  pub no-place : (k : ℕ) → places p (length s) ≤ k → 0 ≡ place 10 (magnitude-of p s) k
-  unfolding magnitude-of
-  no-place k h = sym (place-spelled-past 10 (digits-of p s) (below-ten p s (v .nines)) k (lit< tt) (rw (length-digits-of p s) h))
+  small : (j : ℕ) → j < places p (length s) → getD (digits-of p s) j 0 < 10
+  small j h =
+      let l = length-digits-of p s in
+      ltb→lt (getD (digits-of p s) j 0) 10 (all-at (λ d. ltb d 10) (digits-of p s) j (below-ten p s (v .nines)) (omega arith))
+
+  pub before-none : before p s 0 ≡ 0
+  unfolding before
+  before-none = spelled-none 10 0
+
+  pub before-all : before p s (places p (length s)) ≡ magnitude-of p s
+  unfolding before magnitude-of
+  before-all = let l = length-digits-of p s in rw (take-all (places p (length s)) (digits-of p s) (omega arith))
+
+  -- the last of the first j digits, and what those before it spell
+  pub before-digit : (j : ℕ) → 0 < j → j ≤ places p (length s) → before p s j % 10 ≡ getD (digits-of p s) (j - 1) 0
+  before-digit j o h =
+      let e : j ≡ suc (j - 1) = omega arith in
+      let m = more (j - 1) (omega arith) in
+      let d = small (j - 1) (omega arith) in
+      ap (λ k. before p s k % 10) e ∙ omega arith
+
+  pub before-less : (j : ℕ) → j ≤ places p (length s) → before p s (j - 1) ≡ before p s j / 10
+  before-less zero h = let z = before-none in omega arith
+  before-less (suc j) h =
+      let e : suc j - 1 ≡ j = omega arith in
+      let m = more j h in
+      let d = small j h in
+      rw e (omega arith)
+
+  pub before-two-less : (j : ℕ) → j ≤ places p (length s) → before p s (j - 2) ≡ before p s j / 100
+  before-two-less j h =
+      let e : j - 1 - 1 ≡ j - 2 = omega arith in
+      let a = before-less j h in
+      let b = rw e at (before-less (j - 1) (omega arith)) in
+      omega arith
+
+  before-but-one : before p s (places p (length s) - 1) ≡ magnitude-of p s / 10
+  before-but-one = before-less (places p (length s)) (omega arith) ∙ rw before-all
+
+  pub last-digit-of : getD (digits-of p s) (places p (length s) - 1) 0 ≡ magnitude-of p s % 10
+  last-digit-of = sym (before-digit (places p (length s)) (places-some p (length s) (v .some)) (omega arith)) ∙ rw before-all
+
+-- what the digits before the last spell
+pub unpacked-but-one : {s : Bytes} → Readable false s → before false s (length s - 1) ≡ magnitude-of false s / 10
+unfolding places
+unpacked-but-one v = before-but-one v
+
+pub packed-but-one : {s : Bytes} → Readable true s → before true s (2 * length s - 2) ≡ magnitude-of true s / 10
+unfolding places
+packed-but-one {s} v =
+    let e : 2 * length s - 1 - 1 ≡ 2 * length s - 2 = omega arith in
+    rw e at (before-but-one v)
+
+-- two digits of U as a byte of P
+module _ {s : Bytes} (v : Readable false s) (j : ℕ) where
+  pub pair-two : 1 < j → j ≤ length s → getD s (j - 2) 0 % 16 * 16 + getD s (j - 1) 0 % 16 ≡ inner-written true (before false s j % 100)
+  unfolding places inner-written
+  pair-two o h =
+      let e : j - 1 - 1 ≡ j - 2 = omega arith in
+      let a = before-digit v j (omega arith) h ∙ unpacked-at s (j - 1) in
+      let b = rw e at (before-digit v (j - 1) (omega arith) (omega arith)) ∙ unpacked-at s (j - 2) in
+      let c = before-less v j h in
+      omega arith
+
+  pub pair-one : j ≡ 1 → getD s 0 0 % 16 ≡ inner-written true (before false s j % 100)
+  unfolding places inner-written
+  pair-one e =
+      let o = v .some in
+      let a = before-digit v 1 (omega arith) o ∙ unpacked-at s 0 in
+      let c = before-less v 1 o in
+      let z = before-none v in
+      rw e (omega arith)
+
+  pub pair-none : j ≡ 0 → 0 ≡ inner-written true (before false s j % 100)
+  unfolding inner-written
+  pair-none e = rw (e, before-none v)
+
+-- a digit of P
+module _ {s : Bytes} (v : Readable true s) (j : ℕ) where
+  pub half-none : j ≡ 0 → 0 ≡ before true s j % 10
+  half-none e = rw (e, before-none v)
+
+  pub half-low : (j ≡ 0 → ⊥) → j < 2 * length s → j % 2 ≡ 0 → getD s ((j - 1) / 2) 0 % 16 ≡ before true s j % 10
+  unfolding places
+  half-low o h e = sym (before-digit v j (omega arith) (omega arith) ∙ packed-low s (j - 1) (omega arith) (λ q. omega arith))
+
+  pub half-high : (j ≡ 0 → ⊥) → j < 2 * length s → (j % 2 ≡ 0 → ⊥) → getD s ((j - 1) / 2) 0 / 16 ≡ before true s j % 10
+  unfolding places
+  half-high o h e = sym (before-digit v j (omega arith) (omega arith) ∙ packed-high s (j - 1) (omega arith) (omega arith))

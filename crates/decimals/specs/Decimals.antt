@@ -5,7 +5,7 @@ use mathlib.Core.List.{List, [], _∷_, _++_, map}
 use mathlib.Core.Path.{_≡_}
 use Prim.Native.Nat.{ℕ, zero, suc, _+_, _-_, _*_, _/_, _%_, _≤_, _<_}
 use lib.Dec.{eqb, leb, ltb}
-use lib.ListN.{length}
+use lib.ListN.{length, take}
 use Rattle.rules.specs.Limits.{greatest-word}
 use Rattle.rules.specs.Lists.{Bytes, all, spelled, digits, but-last, last}
 use Rattle.rules.specs.Values.{Format, packed, unpacked, halves, pairs, zoned, accepted-plus, accepted-minus, sign-written}
@@ -25,6 +25,10 @@ sign-of false bs = last bs / 16
 
 unfoldable pub magnitude-of : Bool → Bytes → ℕ
 magnitude-of p bs = spelled 10 (digits-of p bs) 0
+
+-- The number that the first j digits spell.
+unfoldable pub before : Bool → Bytes → ℕ → ℕ
+before p bs j = spelled 10 (take j (digits-of p bs)) 0
 
 -- Below zero: "zero with D means zero".
 unfoldable pub is-minus : Bool → Bytes → Bool
@@ -75,11 +79,6 @@ front p m x = map (inner-written p) (digits (byte-base p) m x)
 unfoldable pub last-written : Bool → ℕ → ℕ → ℕ
 last-written true d s = d * 16 + s
 last-written false d s = s * 16 + d
-
--- The digit of a number in a base with k digits after it.
-unfoldable pub place : ℕ → ℕ → ℕ → ℕ
-place base x zero = x % base
-place base x (suc k) = place base (x / base) k
 
 -- An accepted sign.
 unfoldable pub is-sign : ℕ → Bool

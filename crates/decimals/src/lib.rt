@@ -2,15 +2,15 @@
 // `packed` selects the format of a value, P where it is true, else U; `target` likewise that of the bytes to write.
 ghost use mathlib.Core.Path.{_≡_};
 ghost use mathlib.Core.Bool.{_&&_, true, false};
-ghost use Prim.Native.Nat.{_+_, _-_, _%_, _≤_, _<_, _^_};
+ghost use Prim.Native.Nat.{_+_, _-_, _*_, _/_, _%_, _≤_, _<_, _^_};
 ghost use lib.Dec.{eqb, leb, ltb};
-ghost use lib.ListN.{length, take, getD};
+ghost use lib.ListN.{length, take};
 ghost use Rattle.rules.specs.Outcome.{is-done};
 ghost use Rattle.rules.specs.Lists.{all, bytes-of};
 ghost use Rattle.rules.specs.Values.{meaning, normal, carried, in-normal-form, accepted-minus, sign-written};
 ghost use Rattle.buffer.specs.Splice.{splice};
 ghost use Rattle.words.specs.Words.{signed-value, word-of, value-of};
-ghost use Rattle.decimals.specs.Decimals.{decimal-format, digits-of, sign-of, magnitude-of, is-minus, Readable, Reckoned, places, written, inner-written, front, last-written, place, is-sign, inner-byte, last-byte};
+ghost use Rattle.decimals.specs.Decimals.{decimal-format, sign-of, magnitude-of, is-minus, before, Readable, Reckoned, places, inner-written, front, last-written, is-sign, inner-byte, last-byte};
 use words::Signed;
 use words::Word;
 
@@ -112,22 +112,6 @@ fn digit_count(packed: bool, n: usize) -> usize
     ensures { λ r. ⌜ r ≡ places packed n ⌝ }
 {
     if packed { 2 * n - 1 } else { n }
-}
-
-// The digit at i, from the left.
-fn digit(s: &[u8], packed: bool, i: usize) -> u8
-    requires { ⌜ (0 < length (now s)) × (i < places packed (length (now s))) ⌝ }
-    ensures { λ r. ⌜ r ≡ getD (digits-of packed (now (s .entry))) i 0 ⌝ }
-{
-    if packed {
-        if i % 2 == 0 {
-            s[i / 2] / 16
-        } else {
-            s[i / 2] % 16
-        }
-    } else {
-        s[i] % 16
-    }
 }
 
 // The sign's half byte.
@@ -342,76 +326,91 @@ fn last_written(d: u8, negative: bool, target: bool) -> u8
     if target { d * 16 + sign } else { sign * 16 + d }
 }
 
-// The digit of the magnitude with k digits after it: 0 past its first.
-fn digit_before(s: &[u8], packed: bool, k: usize) -> u8
-    requires { ⌜ Readable packed (now s) ⌝ }
-    ensures { λ r. ⌜ (r ≡ place 10 (magnitude-of packed (now (s .entry))) k) × (r < 10) ⌝ }
+// The bytes before the last of n, those of a value in the same format: the last of its own, or all behind zeros.
+fn copy_digits(s: &[u8], packed: bool, n: usize, out: &mut [u8], at: usize)
+    requires { ⌜ (is-done (meaning (decimal-format packed) (now s)) ≡ true) × (0 < n) × (at + n ≤ length (now out)) ⌝ }
+    ensures { λ _. ⌜ now (out .exit) ≡ splice at (front packed (n - 1) (magnitude-of packed (now (s .entry)) / 10)) (now (out .entry)) ⌝ }
 {
-    let n = digit_count(packed, s.len());
-    if k < n {
-        digit(s, packed, n - 1 - k)
+    let len = s.len();
+    if n < len {
+        buffer::put(&s[len - n..len - 1], out, at);
     } else {
-        0
+        buffer::fill(out, at, n - len, zero_byte(packed));
+        buffer::put(&s[..len - 1], out, at + (n - len));
     }
 }
 
-// Byte i of the n bytes of P with the digits of s.
-fn packed_byte(s: &[u8], packed: bool, negative: bool, n: usize, i: usize) -> u8
-    requires { ⌜ Readable packed (now s) × (i < n) × (n ≤ 29) ⌝ }
-    ensures { λ r. ⌜ r ≡ getD (written true n negative (magnitude-of packed (now (s .entry)))) i 0 ⌝ }
+// The place k before j, or the first.
+fn back(j: usize, k: usize) -> usize
+    ensures { λ r. ⌜ r ≡ j - k ⌝ }
 {
-    let rest = n - 1 - i;
-    let d = digit_before(s, packed, 2 * rest);
-    if rest == 0 {
-        d * 16 + written_sign(negative)
-    } else {
-        d * 16 + digit_before(s, packed, 2 * rest - 1)
-    }
+    if k < j { j - k } else { 0 }
 }
 
-// Byte i of the n bytes of U with the digits of s.
-fn unpacked_byte(s: &[u8], packed: bool, negative: bool, n: usize, i: usize) -> u8
-    requires { ⌜ Readable packed (now s) × (i < n) × (n ≤ 29) ⌝ }
-    ensures { λ r. ⌜ r ≡ getD (written false n negative (magnitude-of packed (now (s .entry)))) i 0 ⌝ }
+// The last two of the first j digits of U, as a byte of P.
+fn last_pair(s: &[u8], j: usize) -> u8
+    requires { ⌜ Readable false (now s) × (j ≤ length (now s)) ⌝ }
+    ensures { λ r. ⌜ r ≡ inner-written true (before false (now (s .entry)) j % 100) ⌝ }
 {
-    let rest = n - 1 - i;
-    let d = digit_before(s, packed, rest);
-    if rest == 0 {
-        written_sign(negative) * 16 + d
-    } else {
-        0xF0 + d
+    if 1 < j {
+        return s[j - 2] % 16 * 16 + s[j - 1] % 16;
     }
+    if j == 1 { s[0] % 16 } else { 0 }
 }
 
-// Byte i of the n bytes with the digits of s.
-fn written_byte(s: &[u8], packed: bool, negative: bool, target: bool, n: usize, i: usize) -> u8
-    requires { ⌜ Readable packed (now s) × (i < n) × (n ≤ 29) ⌝ }
-    ensures { λ r. ⌜ r ≡ getD (written target n negative (magnitude-of packed (now (s .entry)))) i 0 ⌝ }
+// The digits of U before the last, to the bytes before the last of n of P.
+fn pack_digits(s: &[u8], n: usize, out: &mut [u8], at: usize)
+    requires { ⌜ Readable false (now s) × (0 < n) × (at + n ≤ length (now out)) ⌝ }
+    ensures { λ _. ⌜ now (out .exit) ≡ splice at (front true (n - 1) (magnitude-of false (now (s .entry)) / 10)) (now (out .entry)) ⌝ }
 {
-    if target {
-        packed_byte(s, packed, negative, n, i)
-    } else {
-        unpacked_byte(s, packed, negative, n, i)
-    }
-}
-
-// The digits of s, with the sign of negative, to n bytes of out from at on.
-fn write_digits(
-    s: &[u8],
-    packed: bool,
-    negative: bool,
-    target: bool,
-    n: usize,
-    out: &mut [u8],
-    at: usize,
-)
-    requires { ⌜ Readable packed (now s) × (0 < n) × (n ≤ 29) × (at + n ≤ length (now out)) ⌝ }
-    ensures { λ _. ⌜ now (out .exit) ≡ splice at (written target n negative (magnitude-of packed (now (s .entry)))) (now (out .entry)) ⌝ }
-{
-    let mut i = n;
+    let mut j = s.len() - 1;
+    let mut i = n - 1;
     while 0 < i {
         i -= 1;
-        out[at + i] = written_byte(s, packed, negative, target, n, i);
+        out[at + i] = last_pair(s, j);
+        j = back(j, 2);
+    }
+}
+
+// The last of the first j digits of P.
+fn last_half(s: &[u8], j: usize) -> u8
+    requires { ⌜ Readable true (now s) × (j < 2 * length (now s)) ⌝ }
+    ensures { λ r. ⌜ r ≡ before true (now (s .entry)) j % 10 ⌝ }
+{
+    if j == 0 {
+        return 0;
+    }
+    let b = s[(j - 1) / 2];
+    if j % 2 == 0 { b % 16 } else { b / 16 }
+}
+
+// The digits of P before the last, to the bytes before the last of n of U.
+fn unpack_digits(s: &[u8], n: usize, out: &mut [u8], at: usize)
+    requires { ⌜ Readable true (now s) × (0 < n) × (at + n ≤ length (now out)) ⌝ }
+    ensures { λ _. ⌜ now (out .exit) ≡ splice at (front false (n - 1) (magnitude-of true (now (s .entry)) / 10)) (now (out .entry)) ⌝ }
+{
+    let mut j = 2 * s.len() - 2;
+    let mut i = n - 1;
+    while 0 < i {
+        i -= 1;
+        out[at + i] = 0xF0 + last_half(s, j);
+        j = back(j, 1);
+    }
+}
+
+// The digits of the value s before the last, to the bytes before the last of n.
+fn carry_digits(s: &[u8], packed: bool, target: bool, n: usize, out: &mut [u8], at: usize)
+    requires { ⌜ (is-done (meaning (decimal-format packed) (now s)) ≡ true) × (length (now s) ≤ 253) × (0 < n) × (at + n ≤ length (now out)) ⌝ }
+    ensures { λ _. ⌜ now (out .exit) ≡ splice at (front target (n - 1) (magnitude-of packed (now (s .entry)) / 10)) (now (out .entry)) ⌝ }
+{
+    if packed == target {
+        copy_digits(s, packed, n, out, at);
+    } else {
+        if target {
+            pack_digits(s, n, out, at);
+        } else {
+            unpack_digits(s, n, out, at);
+        }
     }
 }
 
@@ -420,7 +419,8 @@ pub fn carry(s: &[u8], packed: bool, target: bool, n: usize, out: &mut [u8], at:
     requires { ⌜ (is-done (carried (decimal-format packed) (decimal-format target) n (now s)) ≡ true) × (length (now s) ≤ 253) × (0 < n) × (n ≤ 29) × (at + n ≤ length (now out)) ⌝ }
     ensures { λ _. ⌜ now (out .exit) ≡ splice at (bytes-of (carried (decimal-format packed) (decimal-format target) n (now (s .entry)))) (now (out .entry)) ⌝ }
 {
-    write_digits(s, packed, negative(s, packed), target, n, out, at);
+    out[at + (n - 1)] = last_written(last_digit(s, packed), negative(s, packed), target);
+    carry_digits(s, packed, target, n, out, at);
 }
 
 // A power of ten that a magnitude can reach.
