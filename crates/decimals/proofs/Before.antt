@@ -2,7 +2,7 @@
 -- Assumes nothing.
 use mathlib.Core.Path.{_≡_, refl, sym, _∙_, ap}
 use mathlib.Core.Bool.{Bool, true, false, not, _&&_, and-true, and-false}
-use mathlib.Core.List.{List, [], _∷_, _++_}
+use mathlib.Core.List.{[], _∷_, _++_}
 use Prim.Native.Nat.{ℕ, zero, suc, _+_, _-_, _*_, _/_, _%_, _^_, _≤_, _<_}
 use native.Mathlib.Nat.{pow-zero, pow-suc, div-lt-iff-lt-mul}
 use native.Mathlib.Omega.{arith}
@@ -13,13 +13,13 @@ use borrow.Author.Tests.{lt-ltb, le-ltb, eqb-true, eqb-false, eq-eqb, ne-eqb}
 use Rattle.rules.specs.Lists.{Bytes, all, digits}
 use Rattle.rules.proofs.Steps.{by-test}
 use Rattle.buffer.proofs.Cases.{by-order}
-use Rattle.decimals.specs.Decimals.{digits-of, sign-of, magnitude-of, Readable, places, encoded, byte-base, inner-written, front, last-written}
+use Rattle.decimals.specs.Decimals.{digits-of, sign-of, magnitude-of, Readable, places, byte-base, inner-written, front, last-written}
 use Rattle.decimals.proofs.Digits.{spelled-below, digits-spelled}
 use Rattle.decimals.proofs.Halves.{length-digits-of, high-at, unpacked-at}
-use Rattle.decimals.proofs.Meanings.{and-assoc}
+use Rattle.decimals.proofs.Meanings.{and-assoc, all-none}
 use Rattle.decimals.proofs.Sound.{Sound, below-ten}
 use Rattle.decimals.proofs.Spelling.{last-digit-of}
-use Rattle.decimals.proofs.Front.{length-front, front-none, front-more, front-drop, front-behind, base-some, encoded-front}
+use Rattle.decimals.proofs.Written.{length-front, front-none, front-more, front-drop, front-behind, base-some, encoded-front}
 
 -- ---- the bytes before the last
 
@@ -86,14 +86,10 @@ pub record Back (f : ℕ → Bool) (n : ℕ) (s : Bytes) (i : ℕ) : Type 0 wher
   pub upto : i ≤ n
   pub left : all f (take i s) ≡ all f (take n s)
 
-all-snoc : (f : ℕ → Bool) (bs : Bytes) (b : ℕ) → all f (bs ++ (b ∷ [])) ≡ (all f bs && f b)
+all-last : (f : ℕ → Bool) (bs : Bytes) (b : ℕ) → all f (bs ++ (b ∷ [])) ≡ (all f bs && f b)
 unfolding all
-all-snoc f [] b = and-true (f b)
-all-snoc f (c ∷ bs) b = rw (all-snoc f bs b) (and-assoc (f c) (all f bs) (f b))
-
-all-none : (f : ℕ → Bool) → all f [] ≡ true
-unfolding all
-all-none f = refl
+all-last f [] b = and-true (f b)
+all-last f (c ∷ bs) b = rw (all-last f bs b) (and-assoc (f c) (all f bs) (f b))
 
 pub back-start : {f : ℕ → Bool} {n : ℕ} {s : Bytes} → n ≤ length s → Back f n s n
 back-start h = record { within = h; upto = omega arith; left = refl }
@@ -104,7 +100,7 @@ module _ {f : ℕ → Bool} {n : ℕ} {s : Bytes} {i : ℕ} (w : Back f n s i) w
       let e : i ≡ suc (i - 1) = omega arith in
       let k = w .within in
       let u = w .upto in
-      ap (λ j. all f (take j s)) e ∙ rw (take-suc s (i - 1) 0 (omega arith)) (all-snoc f (take (i - 1) s) (getD s (i - 1) 0))
+      ap (λ j. all f (take j s)) e ∙ rw (take-suc s (i - 1) 0 (omega arith)) (all-last f (take (i - 1) s) (getD s (i - 1) 0))
 
   pub back-turn : 0 < i → f (getD s (i - 1) 0) ≡ true → Back f n s (i - 1)
   back-turn h e =
@@ -136,7 +132,7 @@ all-zeros p zero y h =
     let z : y ≡ 0 = let k = rw (pow-zero (byte-base p)) at h in omega arith in
     rw (front-none p y, z) (all-none (λ b. eqb b (inner-written p 0)))
 all-zeros p (suc m) y h =
-    rw (front-more p m y, all-snoc (λ b. eqb b (inner-written p 0)) (front p m (y / byte-base p)) (inner-written p (y % byte-base p)), all-zeros p m (y / byte-base p) (div-lt-iff-lt-mul (base-some p) .1 (rw (pow-suc (byte-base p) m) at h)))
+    rw (front-more p m y, all-last (λ b. eqb b (inner-written p 0)) (front p m (y / byte-base p)) (inner-written p (y % byte-base p)), all-zeros p m (y / byte-base p) (div-lt-iff-lt-mul (base-some p) .1 (rw (pow-suc (byte-base p) m) at h)))
     (zero-parts p y)
 
 module _ {p : Bool} {s : Bytes} (v : Sound p s) where

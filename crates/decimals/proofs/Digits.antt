@@ -1,14 +1,14 @@
--- Digits in any base: what they spell, the digits of what they spell, and each digit by its place. Assumes nothing.
+-- Digits in any base: what they spell, and the digits of what they spell. Assumes nothing.
 use mathlib.Core.Path.{_≡_, refl, sym, _∙_, ap}
 use mathlib.Core.Bool.{Bool}
 use mathlib.Core.List.{List, [], _∷_, _++_}
 use Prim.Native.Nat.{ℕ, zero, suc, _+_, _*_, _/_, _%_, _^_, _≤_, _<_}
-use native.Mathlib.Nat.{pow-zero, pow-suc, pow-succ', pow-le-pow-right, one-le-pow, mod-lt, mod-eq-of-lt, zero-mod, div-add-mod', div-eq-of-lt, div-lt-iff-lt-mul, mul-add-div-right, mul-add-mod-self-right, mul-le-mul-left, mul-le-mul-right, lt-of-lt-of-le, mul-assoc, add-mul, one-mul, zero-mul}
+use native.Mathlib.Nat.{pow-zero, pow-suc, one-le-pow, mod-lt, mod-eq-of-lt, div-eq-of-lt, mul-add-div-right, mul-add-mod-self-right, mul-le-mul-left, mul-le-mul-right, add-mul, one-mul, zero-mul}
 use native.Mathlib.Numerals.{add-one}
 use native.Mathlib.Omega.{arith}
 use lib.Dec.{T, ltb, ltb→lt, lt→ltb}
-use lib.ListN.{length, take, drop, getD, length-append, List·getD-append}
-use lib.Seq.{take-suc, take-all, length-take-le, getD-at}
+use lib.ListN.{length, take, drop, getD}
+use lib.Seq.{take-suc, take-all, length-take-le}
 use Rattle.rules.specs.Lists.{all, spelled, digits}
 use Rattle.rules.proofs.Steps.{and-left, and-right, and-intro, T-true}
 pub use Rattle.words.proofs.Digits.{spelled-behind, spelled-snoc, length-digits, spelled-digits}
@@ -48,11 +48,6 @@ pub snoc : (ds : List ℕ) (n : ℕ) → length ds ≡ suc n → ds ≡ take n d
 snoc ds n e = sym (take-all (suc n) ds (omega arith)) ∙ take-suc ds n 0 (omega arith)
 
 -- ---- spelled
-
--- leading zeros spell nothing
-pub spelled-zero : (b : ℕ) (ds : List ℕ) → spelled b (0 ∷ ds) 0 ≡ spelled b ds 0
-unfolding spelled
-spelled-zero b ds = rw (zero-mul b)
 
 -- a first digit that is not zero makes a number of full length
 pub spelled-full : (b d : ℕ) (ds : List ℕ) → 0 < d → b ^ length ds ≤ spelled b (d ∷ ds) 0

@@ -119,7 +119,7 @@ all-cons : (f : ℕ → Bool) (b : ℕ) (s : Bytes) → all f (b ∷ s) ≡ (f b
 unfolding all
 all-cons f b s = refl
 
-all-none : (f : ℕ → Bool) → all f [] ≡ true
+pub all-none : (f : ℕ → Bool) → all f [] ≡ true
 unfolding all
 all-none f = refl
 

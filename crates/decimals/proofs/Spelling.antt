@@ -1,5 +1,5 @@
--- Reading a value's digits from the left: x is what those before place i spell, and with those from i on it is the magnitude.
--- Assumes nothing.
+-- Reading a value's digits. From the left: x is what those before place i spell, and with those from i on it is the magnitude.
+-- From the right: what the first j digits spell ends in the last of them. Assumes nothing.
 use mathlib.Core.Path.{_≡_, refl, sym, _∙_, ap}
 use mathlib.Core.Bool.{Bool, true, false, _&&_}
 use mathlib.Core.List.{List, [], _∷_}

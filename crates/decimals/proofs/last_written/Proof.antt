@@ -1,7 +1,7 @@
 -- `decimals::last_written` meets its contract: which half is the digit, and which the sign. Assumes nothing.
 use native.Mathlib.Omega.{arith}
 use Rattle.decimals.specs.Decimals.{last-written}
-use Rattle.decimals.proofs.Front.{sign-small}
+use Rattle.decimals.proofs.Written.{sign-small}
 use borrow.Author.Needs.{needs}
 use Rattle.decimals.proofs.last_written.Statement.{statement}
 use Rattle.decimals.proofs.last_written.Tie as tie

@@ -1,12 +1,12 @@
 -- `decimals::pack_digits` meets its contract: the bytes from i on are written, and the first j digits are those of the bytes before. Assumes nothing.
-use mathlib.Core.Path.{refl, _∙_}
+use mathlib.Core.Path.{refl}
 use mathlib.Core.Bool.{true, false}
 use Prim.Native.Nat.{_-_, _/_, _≤_}
 use native.Mathlib.Omega.{arith}
 use lib.ListN.{length}
 use Rattle.decimals.specs.Decimals.{magnitude-of, before, places, byte-base}
 use Rattle.decimals.proofs.Spelling.{unpacked-but-one, before-two-less}
-use Rattle.decimals.proofs.Front.{Writing, writing-start, writing-turn, writing-end}
+use Rattle.decimals.proofs.Written.{Writing, writing-start, writing-turn, writing-end}
 use borrow.Author.Needs.{needs}
 use Rattle.decimals.proofs.pack_digits.Statement.{statement}
 use Rattle.decimals.proofs.pack_digits.Tie as tie

@@ -1,12 +1,12 @@
 -- `decimals::unpack_digits` meets its contract: the bytes from i on are written, and the first j digits are those of the bytes before. Assumes nothing.
-use mathlib.Core.Path.{refl, _∙_, ap}
+use mathlib.Core.Path.{refl, ap}
 use mathlib.Core.Bool.{true, false}
 use Prim.Native.Nat.{_+_, _-_, _*_, _/_, _<_}
 use native.Mathlib.Omega.{arith}
 use lib.ListN.{length}
 use Rattle.decimals.specs.Decimals.{magnitude-of, before, places, byte-base, inner-written}
 use Rattle.decimals.proofs.Spelling.{packed-but-one, before-less}
-use Rattle.decimals.proofs.Front.{Writing, writing-start, writing-turn, writing-end}
+use Rattle.decimals.proofs.Written.{Writing, writing-start, writing-turn, writing-end}
 use borrow.Author.Needs.{needs}
 use Rattle.decimals.proofs.unpack_digits.Statement.{statement}
 use Rattle.decimals.proofs.unpack_digits.Tie as tie

@@ -2,7 +2,7 @@
 use mathlib.Core.Path.{refl, _∙_}
 use native.Mathlib.Omega.{arith}
 use lib.ListN.{length-set}
-use Rattle.decimals.proofs.Front.{written-last-first}
+use Rattle.decimals.proofs.Written.{written-last-first}
 use Rattle.decimals.proofs.Normal.{normal-bytes}
 use borrow.Author.Needs.{needs}
 use Rattle.decimals.proofs.write_word.Statement.{statement}

@@ -7,9 +7,9 @@ use Prim.Native.Nat.{ℕ, zero, suc, _+_, _-_, _*_, _/_, _%_, _^_, _≤_, _<_}
 use native.Mathlib.Nat.{pow-zero, pow-suc, div-lt-iff-lt-mul}
 use native.Mathlib.Omega.{arith}
 use lib.Dec.{lit<}
-use lib.ListN.{length, drop, set, replicate, length-set, length-map, drop-of-length-le}
+use lib.ListN.{length, drop, set, replicate, length-append, length-set, length-map, drop-of-length-le}
 use lib.Seq.{drop-append-le}
-use Rattle.rules.specs.Lists.{Bytes, digits}
+use Rattle.rules.specs.Lists.{digits}
 use Rattle.rules.specs.Values.{pairs, zoned, sign-written}
 use Rattle.buffer.specs.Splice.{splice}
 use Rattle.buffer.proofs.Laws.{splice-nil}
@@ -121,6 +121,11 @@ written-front p zero below x h = absurd (omega arith)
 written-front p (suc m) below x h =
     let e : suc m - 1 ≡ m = omega arith in
     rw e (encoded-front p m x (sign-written below))
+
+pub length-written : (p : Bool) (n : ℕ) (below : Bool) (x : ℕ) → 0 < n → length (written p n below x) ≡ n
+length-written p n below x h =
+    let l = length-front p (n - 1) (x / 10) in
+    rw (written-front p n below x h, length-append (front p (n - 1) (x / 10))) (omega arith)
 
 -- ---- a store behind bytes that are still to be written
 
