@@ -1,18 +1,17 @@
--- Digits in any base: what they spell, the digits of what they spell, and each digit by its place. Assumes nothing.
+-- Digits in any base: what they spell, and the digits of what they spell. Assumes nothing.
 use mathlib.Core.Path.{_≡_, refl, sym, _∙_, ap}
 use mathlib.Core.Bool.{Bool}
 use mathlib.Core.List.{List, [], _∷_, _++_}
 use Prim.Native.Nat.{ℕ, zero, suc, _+_, _*_, _/_, _%_, _^_, _≤_, _<_}
-use native.Mathlib.Nat.{pow-zero, pow-suc, pow-succ', pow-le-pow-right, one-le-pow, mod-lt, mod-eq-of-lt, zero-mod, div-add-mod', div-eq-of-lt, div-lt-iff-lt-mul, mul-add-div-right, mul-add-mod-self-right, mul-le-mul-left, mul-le-mul-right, lt-of-lt-of-le, mul-assoc, add-mul, one-mul, zero-mul}
+use native.Mathlib.Nat.{pow-zero, pow-suc, one-le-pow, mod-lt, mod-eq-of-lt, div-eq-of-lt, mul-add-div-right, mul-add-mod-self-right, mul-le-mul-left, mul-le-mul-right, add-mul, one-mul, zero-mul}
 use native.Mathlib.Numerals.{add-one}
 use native.Mathlib.Omega.{arith}
 use lib.Dec.{T, ltb, ltb→lt, lt→ltb}
-use lib.ListN.{length, take, drop, getD, length-append, List·getD-append}
-use lib.Seq.{take-suc, take-all, length-take-le, getD-at}
+use lib.ListN.{length, take, drop, getD}
+use lib.Seq.{take-suc, take-all, length-take-le}
 use Rattle.rules.specs.Lists.{all, spelled, digits}
 use Rattle.rules.proofs.Steps.{and-left, and-right, and-intro, T-true}
 pub use Rattle.words.proofs.Digits.{spelled-behind, spelled-snoc, length-digits, spelled-digits}
-use Rattle.decimals.specs.Decimals.{place}
 
 -- ---- what holds of each of a list
 
@@ -49,11 +48,6 @@ pub snoc : (ds : List ℕ) (n : ℕ) → length ds ≡ suc n → ds ≡ take n d
 snoc ds n e = sym (take-all (suc n) ds (omega arith)) ∙ take-suc ds n 0 (omega arith)
 
 -- ---- spelled
-
--- leading zeros spell nothing
-pub spelled-zero : (b : ℕ) (ds : List ℕ) → spelled b (0 ∷ ds) 0 ≡ spelled b ds 0
-unfolding spelled
-spelled-zero b ds = rw (zero-mul b)
 
 -- a first digit that is not zero makes a number of full length
 pub spelled-full : (b d : ℕ) (ds : List ℕ) → 0 < d → b ^ length ds ≤ spelled b (d ∷ ds) 0
@@ -112,34 +106,3 @@ digits-spelled-at b (suc n) ds e a =
 
 pub digits-spelled : (b : ℕ) (ds : List ℕ) → T (all (λ d. ltb d b) ds) → digits b (length ds) (spelled b ds 0) ≡ ds
 digits-spelled b ds a = digits-spelled-at b (length ds) ds refl a
-
--- ---- each digit by its place
-
--- the digit of a number with k of its last n digits after it
-pub digits-at : (b n x i k : ℕ) → i + (k + 1) ≡ n → getD (digits b n x) i 0 ≡ place b x k
-unfolding digits place
-digits-at b zero x i k e = absurd (omega arith)
-digits-at b (suc n) x i zero e = getD-at (digits b n (x / b)) (x % b) [] 0 i (length-digits b n (x / b) ∙ omega arith)
-digits-at b (suc n) x i (suc k) e =
-    List·getD-append (digits b n (x / b)) (x % b ∷ []) 0 i (let l = length-digits b n (x / b) in omega arith) ∙ digits-at b n (x / b) i k (omega arith)
-
--- a place past a number's digits is zero
-pub place-past : (b x k : ℕ) → 0 < b → x < b ^ k → place b x k ≡ 0
-unfolding place
-place-past b x zero o h =
-    let z : x ≡ 0 = (let y = rw (pow-zero b) at h in omega arith) in
-    rw z (zero-mod b)
-place-past b x (suc k) o h = place-past b (x / b) k o (div-lt-iff-lt-mul o .1 (rw (pow-suc b k) at h))
-
-pub place-below : (b x k : ℕ) → 0 < b → place b x k < b
-unfolding place
-place-below b x zero o = mod-lt x o
-place-below b x (suc k) o = place-below b (x / b) k o
-
-module _ (b : ℕ) (ds : List ℕ) (a : T (all (λ d. ltb d b) ds)) where
-  -- the place in what digits spell is the digit
-  pub place-spelled : (i k : ℕ) → i + (k + 1) ≡ length ds → place b (spelled b ds 0) k ≡ getD ds i 0
-  place-spelled i k e = sym (digits-at b (length ds) (spelled b ds 0) i k e) ∙ ap (λ l. getD l i 0) (digits-spelled b ds a)
-
-  pub place-spelled-past : (k : ℕ) → 0 < b → length ds ≤ k → place b (spelled b ds 0) k ≡ 0
-  place-spelled-past k o h = place-past b (spelled b ds 0) k o (lt-of-lt-of-le (spelled-below b ds a) (pow-le-pow-right o h))

@@ -1,17 +1,19 @@
 -- What P and U bytes mean, and when: a scan from the left decides whether they are a value, and a value is its digits and its sign.
 -- Assumes nothing.
-use mathlib.Core.Path.{_≡_, refl, _∙_, ap}
-use mathlib.Core.Bool.{Bool, true, false, _&&_, _||_, and-true}
+use mathlib.Core.Path.{_≡_, refl, sym, _∙_, ap}
+use mathlib.Core.Bool.{Bool, true, false, _&&_, _||_, and-true, and-false}
 use mathlib.Core.List.{List, [], _∷_, map}
-use Prim.Native.Nat.{ℕ, _+_, _/_, _%_, _≤_, _<_}
+use Prim.Native.Nat.{ℕ, zero, suc, _+_, _-_, _/_, _%_, _≤_, _<_}
 use native.Mathlib.Numerals.{add-one}
 use native.Mathlib.Omega.{arith}
 use lib.Dec.{eqb, leb}
-use lib.ListN.{length, drop, getD, drop-of-length-le}
+use lib.ListN.{length, take, drop, getD}
 use lib.Seq.{drop-cons}
+use borrow.Author.Tests.{le-leb, lt-leb, eq-eqb, ne-eqb}
 use Rattle.rules.specs.Outcome.{Outcome, done, refused, _>>=_, need, is-done}
 use Rattle.rules.specs.Lists.{Bytes, all, spelled, but-last, last}
 use Rattle.rules.specs.Values.{signed, halves, accepted-plus, accepted-minus, sign-means, decimal, meaning}
+use Rattle.buffer.proofs.Cases.{by-order}
 use Rattle.decimals.specs.Decimals.{decimal-format, is-sign, inner-byte, last-byte, value-bytes}
 
 -- ---- when they are a value
@@ -72,25 +74,101 @@ value-scan false bs =
     ∙ ap (λ t. all (λ b. eqb (b / 16) 0xF) (but-last bs) && t) (decimal-is-done (map (λ b. b % 16) bs) (last bs / 16))
     ∙ unpacked-scan bs
 
--- a turn of the scan, its end, and nothing to scan
-scan-cons : (p : Bool) (b c : ℕ) (bs : Bytes) → value-bytes p (b ∷ c ∷ bs) ≡ (inner-byte p b && value-bytes p (c ∷ bs))
+-- ---- the bytes before the last, and the last
+
+pub and-assoc : (a b c : Bool) → (a && (b && c)) ≡ (a && b && c)
+and-assoc true b c = refl
+and-assoc false b c = refl
+
+value-parts : (p : Bool) (n : ℕ) (s : Bytes) → length s ≡ suc n → value-bytes p s ≡ (all (inner-byte p) (take n s) && last-byte p (getD s n 0))
+unfolding value-bytes all
+value-parts p n [] e = absurd (omega arith)
+value-parts p zero (b ∷ []) e = refl
+value-parts p (suc n) (b ∷ []) e = absurd (omega arith)
+value-parts p zero (b ∷ c ∷ s) e = absurd (omega arith)
+value-parts p (suc n) (b ∷ c ∷ s) e = rw (value-parts p n (c ∷ s) (omega arith)) (and-assoc (inner-byte p b) (all (inner-byte p) (take n (c ∷ s))) (last-byte p (getD (c ∷ s) n 0)))
+
+value-none : (p : Bool) (s : Bytes) → length s ≡ 0 → value-bytes p s ≡ false
 unfolding value-bytes
-scan-cons p b c bs = refl
+value-none p [] e = refl
+value-none p (b ∷ s) e = absurd (omega arith)
 
-scan-one : (p : Bool) (b : ℕ) → value-bytes p (b ∷ []) ≡ last-byte p b
-unfolding value-bytes
-scan-one p b = refl
+module _ (p : Bool) (s : Bytes) where
+  pub no-bytes : length s ≡ 0 → false ≡ is-done (meaning (decimal-format p) s)
+  no-bytes e = sym (value-scan p s ∙ value-none p s e)
 
-scan-nil : (p : Bool) → value-bytes p [] ≡ false
-unfolding value-bytes
-scan-nil p = refl
+  module _ (o : length s ≡ 0 → ⊥) where
+    parts : is-done (meaning (decimal-format p) s) ≡ (all (inner-byte p) (take (length s - 1) s) && last-byte p (getD s (length s - 1) 0))
+    parts = value-scan p s ∙ value-parts p (length s - 1) s (omega arith)
 
-pub scan-turn : (p : Bool) (s : Bytes) (i : ℕ) → i + 1 < length s
-    → value-bytes p (drop i s) ≡ (inner-byte p (getD s i 0) && value-bytes p (drop (i + 1) s))
-scan-turn p s i h = rw (drop-cons s i 0 (omega arith), ← add-one i, drop-cons s (i + 1) 0 h) (scan-cons p _ _ _)
+    pub all-inner : {r a : Bool} → a ≡ all (inner-byte p) (take (length s - 1) s) → a ≡ true → r ≡ last-byte p (getD s (length s - 1) 0)
+        → r ≡ is-done (meaning (decimal-format p) s)
+    all-inner e f g = sym (parts ∙ rw (← e, f, ← g))
 
-pub scan-last : (p : Bool) (s : Bytes) (i : ℕ) → i + 1 ≡ length s → value-bytes p (drop i s) ≡ last-byte p (getD s i 0)
-scan-last p s i h = rw (drop-cons s i 0 (omega arith), ← add-one i, drop-of-length-le s {i = i + 1} (omega arith)) (scan-one p _)
+    pub not-inner : {a : Bool} → a ≡ all (inner-byte p) (take (length s - 1) s) → a ≡ false → false ≡ is-done (meaning (decimal-format p) s)
+    not-inner e f = sym (parts ∙ rw (← e, f))
 
-pub scan-none : (p : Bool) (s : Bytes) (i : ℕ) → length s ≤ i → value-bytes p (drop i s) ≡ false
-scan-none p s i h = rw (drop-of-length-le s h) (scan-nil p)
+-- ---- a scan of the first n bytes: those from i on answer as all do
+
+pub record Scan (f : ℕ → Bool) (n : ℕ) (s : Bytes) (i : ℕ) : Type 0 where
+  pub within : n ≤ length s
+  pub upto : i ≤ n
+  pub left : all f (take (n - i) (drop i s)) ≡ all f (take n s)
+
+all-cons : (f : ℕ → Bool) (b : ℕ) (s : Bytes) → all f (b ∷ s) ≡ (f b && all f s)
+unfolding all
+all-cons f b s = refl
+
+pub all-none : (f : ℕ → Bool) → all f [] ≡ true
+unfolding all
+all-none f = refl
+
+pub scan-start : {f : ℕ → Bool} {n : ℕ} {s : Bytes} → n ≤ length s → Scan f n s 0
+scan-start {f} {n} {s} h =
+    let e : n - 0 ≡ n = omega arith in
+    record { within = h; upto = omega arith; left = rw e }
+
+module _ {f : ℕ → Bool} {n : ℕ} {s : Bytes} {i : ℕ} (w : Scan f n s i) where
+  first : i < n → all f (take (n - i) (drop i s)) ≡ (f (getD s i 0) && all f (take (n - (i + 1)) (drop (i + 1) s)))
+  first h =
+      let e : n - i ≡ suc (n - (i + 1)) = omega arith in
+      let k = w .within in
+      rw (e, drop-cons s i 0 (omega arith), ← add-one i) (all-cons f (getD s i 0) (take (n - (i + 1)) (drop (i + 1) s)))
+
+  pub scan-turn : i < n → f (getD s i 0) ≡ true → Scan f n s (i + 1)
+  scan-turn h e = record { within = w .within; upto = omega arith; left = sym (first h ∙ rw e) ∙ w .left }
+
+  pub scan-stop : i < n → f (getD s i 0) ≡ false → false ≡ all f (take n s)
+  scan-stop h e = sym (first h ∙ rw e) ∙ w .left
+
+  pub scan-end : n ≤ i → true ≡ all f (take n s)
+  scan-end h =
+      let e : n - i ≡ 0 = omega arith in
+      sym (rw e (all-none f)) ∙ w .left
+
+-- ---- a byte before the last, by its number
+
+module _ (b : ℕ) where
+  pub pair-digits : b ≤ 0x99 → b % 16 ≤ 9 → inner-byte true b ≡ true
+  unfolding inner-byte
+  pair-digits h k = rw (le-leb (b / 16) 9 (omega arith), le-leb (b % 16) 9 k)
+
+  pub pair-low : 9 < b % 16 → inner-byte true b ≡ false
+  unfolding inner-byte
+  pair-low h = rw (lt-leb (b % 16) 9 h) (and-false (leb (b / 16) 9))
+
+  pub pair-high : 0x99 < b → inner-byte true b ≡ false
+  unfolding inner-byte
+  pair-high h = by-order 9 (b / 16) (λ k. rw (lt-leb (b / 16) 9 k)) (λ k. pair-low (omega arith))
+
+  pub zone-digit : 0xF0 ≤ b → b ≤ 0xF9 → inner-byte false b ≡ true
+  unfolding inner-byte
+  zone-digit h k = rw (eq-eqb (b / 16) 0xF (omega arith), le-leb (b % 16) 9 (omega arith))
+
+  pub zone-below : b < 0xF0 → inner-byte false b ≡ false
+  unfolding inner-byte
+  zone-below h = rw (ne-eqb (b / 16) 0xF (λ e. omega arith))
+
+  pub zone-above : 0xF9 < b → inner-byte false b ≡ false
+  unfolding inner-byte
+  zone-above h = by-order 9 (b % 16) (λ k. rw (lt-leb (b % 16) 9 k) (and-false (eqb (b / 16) 0xF))) (λ k. rw (ne-eqb (b / 16) 0xF (λ e. omega arith)))

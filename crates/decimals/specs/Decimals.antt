@@ -3,9 +3,10 @@
 use mathlib.Core.Bool.{Bool, true, false, _&&_, _||_}
 use mathlib.Core.List.{List, [], _∷_, _++_, map}
 use mathlib.Core.Path.{_≡_}
-use Prim.Native.Nat.{ℕ, zero, suc, _-_, _*_, _/_, _%_, _≤_, _<_}
+use Prim.Native.Nat.{ℕ, suc, _+_, _-_, _*_, _/_, _%_, _≤_, _<_}
 use lib.Dec.{eqb, leb, ltb}
-use lib.ListN.{length}
+use lib.ListN.{length, take}
+use Rattle.rules.specs.Limits.{greatest-word}
 use Rattle.rules.specs.Lists.{Bytes, all, spelled, digits, but-last, last}
 use Rattle.rules.specs.Values.{Format, packed, unpacked, halves, pairs, zoned, accepted-plus, accepted-minus, sign-written}
 
@@ -25,6 +26,10 @@ sign-of false bs = last bs / 16
 unfoldable pub magnitude-of : Bool → Bytes → ℕ
 magnitude-of p bs = spelled 10 (digits-of p bs) 0
 
+-- The number that the first j digits spell.
+unfoldable pub before : Bool → Bytes → ℕ → ℕ
+before p bs j = spelled 10 (take j (digits-of p bs)) 0
+
 -- Below zero: "zero with D means zero".
 unfoldable pub is-minus : Bool → Bytes → Bool
 is-minus p bs = accepted-minus (sign-of p bs) && ltb 0 (magnitude-of p bs)
@@ -38,6 +43,11 @@ pub record Readable (p : Bool) (bs : Bytes) : Type 0 where
   pub some : 0 < length bs
   pub short : length bs ≤ 253
   pub nines : all-digits p bs ≡ true
+
+-- A number that is the magnitude, unless it is greater than any in a conversion range: then the magnitude is no less.
+pub record Reckoned (p : Bool) (bs : Bytes) (x : ℕ) : Type 0 where
+  pub reached : x ≤ magnitude-of p bs
+  pub exact : x ≤ suc greatest-word → x ≡ magnitude-of p bs
 
 -- How many digits n bytes hold.
 unfoldable pub places : Bool → ℕ → ℕ
@@ -53,10 +63,22 @@ encoded false ds s = zoned ds s
 unfoldable pub written : Bool → ℕ → Bool → ℕ → Bytes
 written p n below x = encoded p (digits 10 (places p n) x) (sign-written below)
 
--- The digit of a number in a base with k digits after it.
-unfoldable pub place : ℕ → ℕ → ℕ → ℕ
-place base x zero = x % base
-place base x (suc k) = place base (x / base) k
+-- A byte before the last has two digits in P and one in U; the m bytes with the last digits of a number.
+unfoldable pub byte-base : Bool → ℕ
+byte-base true = 100
+byte-base false = 10
+
+unfoldable pub inner-written : Bool → ℕ → ℕ
+inner-written true d = d / 10 * 16 + d % 10
+inner-written false d = 0xF0 + d
+
+unfoldable pub front : Bool → ℕ → ℕ → Bytes
+front p m x = map (inner-written p) (digits (byte-base p) m x)
+
+-- The last byte has a digit and the sign.
+unfoldable pub last-written : Bool → ℕ → ℕ → ℕ
+last-written true d s = d * 16 + s
+last-written false d s = s * 16 + d
 
 -- An accepted sign.
 unfoldable pub is-sign : ℕ → Bool

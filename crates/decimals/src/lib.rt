@@ -2,15 +2,15 @@
 // `packed` selects the format of a value, P where it is true, else U; `target` likewise that of the bytes to write.
 ghost use mathlib.Core.Path.{_≡_};
 ghost use mathlib.Core.Bool.{_&&_, true, false};
-ghost use Prim.Native.Nat.{_+_, _-_, _≤_, _<_, _^_};
-ghost use lib.Dec.{leb, ltb};
-ghost use lib.ListN.{length, getD};
+ghost use Prim.Native.Nat.{_+_, _-_, _*_, _/_, _%_, _≤_, _<_, _^_};
+ghost use lib.Dec.{eqb, leb, ltb};
+ghost use lib.ListN.{length, take};
 ghost use Rattle.rules.specs.Outcome.{is-done};
-ghost use Rattle.rules.specs.Lists.{bytes-of, digits};
-ghost use Rattle.rules.specs.Values.{meaning, normal, carried, in-normal-form, sign-written};
+ghost use Rattle.rules.specs.Lists.{all, bytes-of};
+ghost use Rattle.rules.specs.Values.{meaning, normal, carried, in-normal-form, accepted-minus, sign-written};
 ghost use Rattle.buffer.specs.Splice.{splice};
 ghost use Rattle.words.specs.Words.{signed-value, word-of, value-of};
-ghost use Rattle.decimals.specs.Decimals.{decimal-format, digits-of, sign-of, magnitude-of, is-minus, Readable, places, written, place, is-sign, inner-byte, last-byte};
+ghost use Rattle.decimals.specs.Decimals.{decimal-format, sign-of, magnitude-of, is-minus, before, Readable, Reckoned, places, inner-written, front, last-written, is-sign, inner-byte, last-byte};
 use words::Signed;
 use words::Word;
 
@@ -37,17 +37,7 @@ fn digit_and_sign(d: u8, h: u8) -> bool
     if d <= 9 { is_sign(h) } else { false }
 }
 
-// A byte before the last, and the last.
-fn inner_byte(b: u8, packed: bool) -> bool
-    ensures { λ r. ⌜ r ≡ inner-byte packed b ⌝ }
-{
-    if packed {
-        b / 16 <= 9 && b % 16 <= 9
-    } else {
-        b / 16 == 0xF && b % 16 <= 9
-    }
-}
-
+// Whether the last byte can be one: a digit and a sign.
 fn last_byte(b: u8, packed: bool) -> bool
     ensures { λ r. ⌜ r ≡ last-byte packed b ⌝ }
 {
@@ -58,23 +48,62 @@ fn last_byte(b: u8, packed: bool) -> bool
     }
 }
 
+// Whether the first n bytes of P have two digits each.
+fn packed_pairs(s: &[u8], n: usize) -> bool
+    requires { ⌜ n ≤ length (now s) ⌝ }
+    ensures { λ r. ⌜ r ≡ all (inner-byte true) (take n (now (s .entry))) ⌝ }
+{
+    let mut i = 0;
+    while i < n {
+        let b = s[i];
+        if 0x99 < b {
+            return false;
+        }
+        if 9 < b % 16 {
+            return false;
+        }
+        i += 1;
+    }
+    true
+}
+
+// Whether the first n bytes of U have F and a digit each.
+fn zoned_digits(s: &[u8], n: usize) -> bool
+    requires { ⌜ n ≤ length (now s) ⌝ }
+    ensures { λ r. ⌜ r ≡ all (inner-byte false) (take n (now (s .entry))) ⌝ }
+{
+    let mut i = 0;
+    while i < n {
+        let b = s[i];
+        if b < 0xF0 {
+            return false;
+        }
+        if 0xF9 < b {
+            return false;
+        }
+        i += 1;
+    }
+    true
+}
+
 // Whether s is a value.
 pub fn is_value(s: &[u8], packed: bool) -> bool
     ensures { λ r. ⌜ r ≡ is-done (meaning (decimal-format packed) (now (s .entry))) ⌝ }
 {
-    let mut i = 0;
-    while i + 1 < s.len() {
-        if inner_byte(s[i], packed) {
-            i += 1;
-        } else {
-            return false;
+    if s.len() == 0 {
+        return false;
+    }
+    let n = s.len() - 1;
+    if packed {
+        if packed_pairs(s, n) {
+            return last_byte(s[n], true);
         }
+        return false;
     }
-    if i < s.len() {
-        last_byte(s[i], packed)
-    } else {
-        false
+    if zoned_digits(s, n) {
+        return last_byte(s[n], false);
     }
+    false
 }
 
 // How many digits n bytes hold.
@@ -83,22 +112,6 @@ fn digit_count(packed: bool, n: usize) -> usize
     ensures { λ r. ⌜ r ≡ places packed n ⌝ }
 {
     if packed { 2 * n - 1 } else { n }
-}
-
-// The digit at i, from the left.
-fn digit(s: &[u8], packed: bool, i: usize) -> u8
-    requires { ⌜ (0 < length (now s)) × (i < places packed (length (now s))) ⌝ }
-    ensures { λ r. ⌜ r ≡ getD (digits-of packed (now (s .entry))) i 0 ⌝ }
-{
-    if packed {
-        if i % 2 == 0 {
-            s[i / 2] / 16
-        } else {
-            s[i / 2] % 16
-        }
-    } else {
-        s[i] % 16
-    }
 }
 
 // The sign's half byte.
@@ -160,16 +173,50 @@ fn within(s: &[u8], packed: bool, m: usize) -> bool
     }
 }
 
-// Whether it is below zero: zero is not, whatever its sign.
-fn negative(s: &[u8], packed: bool) -> bool
+// A byte before the last with zeros for digits.
+fn zero_byte(packed: bool) -> u8
+    ensures { λ r. ⌜ r ≡ inner-written packed 0 ⌝ }
+{
+    if packed { 0 } else { 0xF0 }
+}
+
+// Whether the first n bytes have zeros for digits.
+fn zeros_before(s: &[u8], packed: bool, n: usize) -> bool
+    requires { ⌜ n ≤ length (now s) ⌝ }
+    ensures { λ r. ⌜ r ≡ all (λ b. eqb b (inner-written packed 0)) (take n (now (s .entry))) ⌝ }
+{
+    let zeros = zero_byte(packed);
+    let mut i = n;
+    while 0 < i {
+        i -= 1;
+        if s[i] != zeros {
+            return false;
+        }
+    }
+    true
+}
+
+// The last digit.
+fn last_digit(s: &[u8], packed: bool) -> u8
     requires { ⌜ Readable packed (now s) ⌝ }
+    ensures { λ r. ⌜ r ≡ magnitude-of packed (now (s .entry)) % 10 ⌝ }
+{
+    let b = s[s.len() - 1];
+    if packed { b / 16 } else { b % 16 }
+}
+
+// Whether the value s is below zero: zero is not, whatever its sign.
+fn negative(s: &[u8], packed: bool) -> bool
+    requires { ⌜ (is-done (meaning (decimal-format packed) (now s)) ≡ true) × (length (now s) ≤ 253) ⌝ }
     ensures { λ r. ⌜ r ≡ is-minus packed (now (s .entry)) ⌝ }
 {
-    if sign(s, packed) == 0xD {
-        !within(s, packed, 0)
-    } else {
-        false
+    if sign(s, packed) != 0xD {
+        return false;
     }
+    if last_digit(s, packed) != 0 {
+        return true;
+    }
+    !zeros_before(s, packed, s.len() - 1)
 }
 
 // The sign of the normal form.
@@ -199,98 +246,171 @@ pub fn fits(s: &[u8], packed: bool, target: bool, n: usize) -> bool
     within(s, packed, digit_count(target, n))
 }
 
+// The magnitude of P, two digits a byte; it stops where it is greater than any in a conversion range.
+fn packed_number(s: &[u8]) -> u64
+    requires { ⌜ Readable true (now s) ⌝ }
+    ensures { λ r. ⌜ Reckoned true (now (s .entry)) r ⌝ }
+{
+    let n = s.len() - 1;
+    let mut x: u64 = 0;
+    let mut i = 0;
+    while i < n {
+        let b = s[i];
+        x = x * 100 + (b / 16 * 10 + b % 16) as u64;
+        if GREATEST_MAGNITUDE < x {
+            return x;
+        }
+        i += 1;
+    }
+    x * 10 + (s[n] / 16) as u64
+}
+
+// Likewise of U, a digit a byte.
+fn unpacked_number(s: &[u8]) -> u64
+    requires { ⌜ Readable false (now s) ⌝ }
+    ensures { λ r. ⌜ Reckoned false (now (s .entry)) r ⌝ }
+{
+    let n = s.len();
+    let mut x: u64 = 0;
+    let mut i = 0;
+    while i < n {
+        x = x * 10 + (s[i] % 16) as u64;
+        if GREATEST_MAGNITUDE < x {
+            return x;
+        }
+        i += 1;
+    }
+    x
+}
+
+// The magnitude of either, or what tells that it is too great.
+fn reckoned(s: &[u8], packed: bool) -> u64
+    requires { ⌜ Readable packed (now s) ⌝ }
+    ensures { λ r. ⌜ Reckoned packed (now (s .entry)) r ⌝ }
+{
+    if packed {
+        packed_number(s)
+    } else {
+        unpacked_number(s)
+    }
+}
+
+// Whether a magnitude with a sign is below zero: zero is not, whatever its sign.
+fn below_zero(x: u64, sign: u8) -> bool
+    ensures { λ r. ⌜ r ≡ (accepted-minus sign && ltb 0 x) ⌝ }
+{
+    if x == 0 { false } else { sign == 0xD }
+}
+
 // The number that s means.
 pub fn to_word(s: &[u8], packed: bool) -> Word
     requires { ⌜ (is-done (meaning (decimal-format packed) (now s)) ≡ true) × (length (now s) ≤ 253) ⌝ }
     ensures { λ r. ⌜ r ≡ word-of (value-of (meaning (decimal-format packed) (now (s .entry)))) ⌝ }
 {
-    let n = digit_count(packed, s.len());
-    let mut x: u64 = 0;
-    let mut i = 0;
-    while i < n {
-        let d = digit(s, packed, i);
-        x = x * 10 + d as u64;
-        if GREATEST_MAGNITUDE < x {
-            return Word::Outside;
-        }
-        i += 1;
+    let x = reckoned(s, packed);
+    if GREATEST_MAGNITUDE < x {
+        return Word::Outside;
     }
     Word::Number(Signed {
-        negative: negative(s, packed),
+        negative: below_zero(x, sign(s, packed)),
         magnitude: x as u32,
     })
 }
 
-// The digit of the magnitude with k digits after it: 0 past its first.
-fn digit_before(s: &[u8], packed: bool, k: usize) -> u8
-    requires { ⌜ Readable packed (now s) ⌝ }
-    ensures { λ r. ⌜ (r ≡ place 10 (magnitude-of packed (now (s .entry))) k) × (r < 10) ⌝ }
+// The last byte: a digit and the sign.
+fn last_written(d: u8, negative: bool, target: bool) -> u8
+    requires { ⌜ d < 10 ⌝ }
+    ensures { λ r. ⌜ r ≡ last-written target d (sign-written negative) ⌝ }
 {
-    let n = digit_count(packed, s.len());
-    if k < n {
-        digit(s, packed, n - 1 - k)
+    let sign = written_sign(negative);
+    if target { d * 16 + sign } else { sign * 16 + d }
+}
+
+// The bytes before the last of n, those of a value in the same format: the last of its own, or all behind zeros.
+fn copy_digits(s: &[u8], packed: bool, n: usize, out: &mut [u8], at: usize)
+    requires { ⌜ (is-done (meaning (decimal-format packed) (now s)) ≡ true) × (0 < n) × (at + n ≤ length (now out)) ⌝ }
+    ensures { λ _. ⌜ now (out .exit) ≡ splice at (front packed (n - 1) (magnitude-of packed (now (s .entry)) / 10)) (now (out .entry)) ⌝ }
+{
+    let len = s.len();
+    if n < len {
+        buffer::put(&s[len - n..len - 1], out, at);
     } else {
-        0
+        buffer::fill(out, at, n - len, zero_byte(packed));
+        buffer::put(&s[..len - 1], out, at + (n - len));
     }
 }
 
-// Byte i of the n bytes of P with the digits of s.
-fn packed_byte(s: &[u8], packed: bool, negative: bool, n: usize, i: usize) -> u8
-    requires { ⌜ Readable packed (now s) × (i < n) × (n ≤ 29) ⌝ }
-    ensures { λ r. ⌜ r ≡ getD (written true n negative (magnitude-of packed (now (s .entry)))) i 0 ⌝ }
+// The place k before j, or the first.
+fn back(j: usize, k: usize) -> usize
+    ensures { λ r. ⌜ r ≡ j - k ⌝ }
 {
-    let rest = n - 1 - i;
-    let d = digit_before(s, packed, 2 * rest);
-    if rest == 0 {
-        d * 16 + written_sign(negative)
-    } else {
-        d * 16 + digit_before(s, packed, 2 * rest - 1)
-    }
+    if k < j { j - k } else { 0 }
 }
 
-// Byte i of the n bytes of U with the digits of s.
-fn unpacked_byte(s: &[u8], packed: bool, negative: bool, n: usize, i: usize) -> u8
-    requires { ⌜ Readable packed (now s) × (i < n) × (n ≤ 29) ⌝ }
-    ensures { λ r. ⌜ r ≡ getD (written false n negative (magnitude-of packed (now (s .entry)))) i 0 ⌝ }
+// The last two of the first j digits of U, as a byte of P.
+fn last_pair(s: &[u8], j: usize) -> u8
+    requires { ⌜ Readable false (now s) × (j ≤ length (now s)) ⌝ }
+    ensures { λ r. ⌜ r ≡ inner-written true (before false (now (s .entry)) j % 100) ⌝ }
 {
-    let rest = n - 1 - i;
-    let d = digit_before(s, packed, rest);
-    if rest == 0 {
-        written_sign(negative) * 16 + d
-    } else {
-        0xF0 + d
+    if 1 < j {
+        return s[j - 2] % 16 * 16 + s[j - 1] % 16;
     }
+    if j == 1 { s[0] % 16 } else { 0 }
 }
 
-// Byte i of the n bytes with the digits of s.
-fn written_byte(s: &[u8], packed: bool, negative: bool, target: bool, n: usize, i: usize) -> u8
-    requires { ⌜ Readable packed (now s) × (i < n) × (n ≤ 29) ⌝ }
-    ensures { λ r. ⌜ r ≡ getD (written target n negative (magnitude-of packed (now (s .entry)))) i 0 ⌝ }
+// The digits of U before the last, to the bytes before the last of n of P.
+fn pack_digits(s: &[u8], n: usize, out: &mut [u8], at: usize)
+    requires { ⌜ Readable false (now s) × (0 < n) × (at + n ≤ length (now out)) ⌝ }
+    ensures { λ _. ⌜ now (out .exit) ≡ splice at (front true (n - 1) (magnitude-of false (now (s .entry)) / 10)) (now (out .entry)) ⌝ }
 {
-    if target {
-        packed_byte(s, packed, negative, n, i)
-    } else {
-        unpacked_byte(s, packed, negative, n, i)
-    }
-}
-
-// The digits of s, with the sign of negative, to n bytes of out from at on.
-fn write_digits(
-    s: &[u8],
-    packed: bool,
-    negative: bool,
-    target: bool,
-    n: usize,
-    out: &mut [u8],
-    at: usize,
-)
-    requires { ⌜ Readable packed (now s) × (0 < n) × (n ≤ 29) × (at + n ≤ length (now out)) ⌝ }
-    ensures { λ _. ⌜ now (out .exit) ≡ splice at (written target n negative (magnitude-of packed (now (s .entry)))) (now (out .entry)) ⌝ }
-{
-    let mut i = n;
+    let mut j = s.len() - 1;
+    let mut i = n - 1;
     while 0 < i {
         i -= 1;
-        out[at + i] = written_byte(s, packed, negative, target, n, i);
+        out[at + i] = last_pair(s, j);
+        j = back(j, 2);
+    }
+}
+
+// The last of the first j digits of P.
+fn last_half(s: &[u8], j: usize) -> u8
+    requires { ⌜ Readable true (now s) × (j < 2 * length (now s)) ⌝ }
+    ensures { λ r. ⌜ r ≡ before true (now (s .entry)) j % 10 ⌝ }
+{
+    if j == 0 {
+        return 0;
+    }
+    let b = s[(j - 1) / 2];
+    if j % 2 == 0 { b % 16 } else { b / 16 }
+}
+
+// The digits of P before the last, to the bytes before the last of n of U.
+fn unpack_digits(s: &[u8], n: usize, out: &mut [u8], at: usize)
+    requires { ⌜ Readable true (now s) × (0 < n) × (at + n ≤ length (now out)) ⌝ }
+    ensures { λ _. ⌜ now (out .exit) ≡ splice at (front false (n - 1) (magnitude-of true (now (s .entry)) / 10)) (now (out .entry)) ⌝ }
+{
+    let mut j = 2 * s.len() - 2;
+    let mut i = n - 1;
+    while 0 < i {
+        i -= 1;
+        out[at + i] = 0xF0 + last_half(s, j);
+        j = back(j, 1);
+    }
+}
+
+// The digits of the value s before the last, to the bytes before the last of n.
+fn carry_digits(s: &[u8], packed: bool, target: bool, n: usize, out: &mut [u8], at: usize)
+    requires { ⌜ (is-done (meaning (decimal-format packed) (now s)) ≡ true) × (length (now s) ≤ 253) × (0 < n) × (at + n ≤ length (now out)) ⌝ }
+    ensures { λ _. ⌜ now (out .exit) ≡ splice at (front target (n - 1) (magnitude-of packed (now (s .entry)) / 10)) (now (out .entry)) ⌝ }
+{
+    if packed == target {
+        copy_digits(s, packed, n, out, at);
+    } else {
+        if target {
+            pack_digits(s, n, out, at);
+        } else {
+            unpack_digits(s, n, out, at);
+        }
     }
 }
 
@@ -299,22 +419,8 @@ pub fn carry(s: &[u8], packed: bool, target: bool, n: usize, out: &mut [u8], at:
     requires { ⌜ (is-done (carried (decimal-format packed) (decimal-format target) n (now s)) ≡ true) × (length (now s) ≤ 253) × (0 < n) × (n ≤ 29) × (at + n ≤ length (now out)) ⌝ }
     ensures { λ _. ⌜ now (out .exit) ≡ splice at (bytes-of (carried (decimal-format packed) (decimal-format target) n (now (s .entry)))) (now (out .entry)) ⌝ }
 {
-    write_digits(s, packed, negative(s, packed), target, n, out, at);
-}
-
-// The last ten digits of x, which are all.
-fn ten_digits(x: u32) -> [u8; 10]
-    ensures { λ r. ⌜ r ≡ digits 10 10 x ⌝ }
-{
-    let mut ds = [0u8; 10];
-    let mut rest = x;
-    let mut i = 10;
-    while 0 < i {
-        i -= 1;
-        ds[i] = (rest % 10) as u8;
-        rest = rest / 10;
-    }
-    ds
+    out[at + (n - 1)] = last_written(last_digit(s, packed), negative(s, packed), target);
+    carry_digits(s, packed, target, n, out, at);
 }
 
 // A power of ten that a magnitude can reach.
@@ -347,11 +453,45 @@ pub fn fits_word(v: Signed, packed: bool, n: usize) -> bool
     v.magnitude < power_of_ten(m)
 }
 
+// The last n pairs of digits of x, to n bytes of P from at on.
+fn pack_number(x: u32, n: usize, out: &mut [u8], at: usize)
+    requires { ⌜ at + n ≤ length (now out) ⌝ }
+    ensures { λ _. ⌜ now (out .exit) ≡ splice at (front true n x) (now (out .entry)) ⌝ }
+{
+    let mut rest = x;
+    let mut i = n;
+    while 0 < i {
+        i -= 1;
+        let b = (rest % 100) as u8;
+        out[at + i] = b / 10 * 16 + b % 10;
+        rest = rest / 100;
+    }
+}
+
+// The last n digits of x, to n bytes of U from at on.
+fn unpack_number(x: u32, n: usize, out: &mut [u8], at: usize)
+    requires { ⌜ at + n ≤ length (now out) ⌝ }
+    ensures { λ _. ⌜ now (out .exit) ≡ splice at (front false n x) (now (out .entry)) ⌝ }
+{
+    let mut rest = x;
+    let mut i = n;
+    while 0 < i {
+        i -= 1;
+        out[at + i] = 0xF0 + (rest % 10) as u8;
+        rest = rest / 10;
+    }
+}
+
 // The number v, which fits, to n bytes of out from at on.
 pub fn write_word(v: Signed, packed: bool, n: usize, out: &mut [u8], at: usize)
     requires { ⌜ (is-done (normal (decimal-format packed) n (signed-value v)) ≡ true) × (0 < n) × (n ≤ 29) × (at + n ≤ length (now out)) ⌝ }
     ensures { λ _. ⌜ now (out .exit) ≡ splice at (bytes-of (normal (decimal-format packed) n (signed-value v))) (now (out .entry)) ⌝ }
 {
-    let ds = ten_digits(v.magnitude);
-    write_digits(&ds, false, v.negative, packed, n, out, at);
+    let x = v.magnitude;
+    out[at + (n - 1)] = last_written((x % 10) as u8, v.negative, packed);
+    if packed {
+        pack_number(x / 10, n - 1, out, at);
+    } else {
+        unpack_number(x / 10, n - 1, out, at);
+    }
 }

@@ -1,26 +1,64 @@
--- `decimals::carry` meets its contract: a value is carried by its digits and by whether it is below zero. Assumes nothing.
-use Rattle.decimals.proofs.Normal.{carried-readable, carried-bytes}
+-- `decimals::carry` meets its contract: the last byte is written, and the digits before it to the bytes before it. Assumes nothing.
+use mathlib.Core.Path.{refl, _∙_}
+use lib.ListN.{length-set}
+use Rattle.decimals.specs.Decimals.{magnitude-of, is-minus}
+use Rattle.decimals.proofs.Written.{written-last-first}
+use Rattle.decimals.proofs.Normal.{carried-value, carried-readable, carried-bytes}
 use borrow.Author.Needs.{needs}
 use Rattle.decimals.proofs.carry.Statement.{statement}
 use Rattle.decimals.proofs.carry.Tie as tie
 
-negative-requires : tie.Need-negative-requires
-negative-requires c κs =
+last-digit-requires : tie.Need-last-digit-requires
+last-digit-requires c κs =
     let a = c .before .before in
     carried-readable (a .args .packed) (a .args .target) (a .args .n) (a .args .s .now) (a .pre .0) (a .pre .1)
 
-write-digits-requires : tie.Need-write-digits-requires
-write-digits-requires c κs =
-    let a = c .before .before .before .before in
-    (carried-readable (a .args .packed) (a .args .target) (a .args .n) (a .args .s .now) (a .pre .0) (a .pre .1), a .pre .2, a .pre .3, a .pre .4)
+negative-requires : tie.Need-negative-requires
+negative-requires c κs =
+    let a = c .before .before .before in
+    (carried-value _ _ (a .args .n) (a .args .s .now) (a .pre .0), a .pre .1)
+
+last-written-requires : tie.Need-last-written-requires
+last-written-requires c κs = search needs
+
+sub-out : tie.Need-sub-out
+sub-out c = search needs
+
+add-out : tie.Need-add-out
+add-out c = search needs
+
+slice-write-out : tie.Need-slice-write-out
+slice-write-out c = search needs
+
+carry-digits-requires : tie.Need-carry-digits-requires
+carry-digits-requires c κs =
+    let a = c .before .before .before .before .before .before in
+    (carried-value _ _ (a .args .n) (a .args .s .now) (a .pre .0), a .pre .1, a .pre .2, simp length-set (a .pre .4))
 
 same-length : tie.Need-same-length
-same-length c = search needs
+same-length c = c .before .before .carry-digits .kept .1 .1 .1 .1 .0 ∙ simp length-set
 
 returns : tie.Need-returns
 returns c =
-    let a = c .before .before .before .before .before .before .before in
-    rw (carried-bytes (a .args .packed) (a .args .target) (a .args .n) (a .args .s .now) (a .pre .0), ← c .before .before .before .before .negative .ensures) (c .before .before .write-digits .ensures)
+    let w = c .before .before .before .before in
+    let a = w .before .before .before .before .before in
+    let s = a .args .s .now in
+    let p = a .args .packed in
+    let t = a .args .target in
+    let e = rw (w .before .before .last-digit .ensures, w .before .negative .ensures) at (w .last-written .ensures) in
+    rw (carried-bytes p t (a .args .n) s (a .pre .0))
+    (written-last-first t (a .args .n) (is-minus p s) (magnitude-of p s) (a .args .at) (a .args .out .now) _ _ _ (a .pre .2) (a .pre .4) refl e (c .before .before .carry-digits .ensures))
 
 pub carry-spec : {M : Type 1} → statement M
-carry-spec = tie.close (tie.spec negative-requires write-digits-requires same-length returns)
+carry-spec =
+    tie.close
+    (tie.spec
+    last-digit-requires
+    negative-requires
+    last-written-requires
+    sub-out
+    add-out
+    slice-write-out
+    carry-digits-requires
+    same-length
+    returns)

@@ -1,6 +1,6 @@
 -- `decimals::is_normal` meets its contract: a value is in normal form where its sign is the one that is written. Assumes nothing.
 use mathlib.Core.Path.{sym, _∙_}
-use Rattle.decimals.proofs.Sound.{sound, readable}
+use Rattle.decimals.proofs.Sound.{sound}
 use Rattle.decimals.proofs.Normal.{no-form, form-sign}
 use borrow.Author.Needs.{needs}
 use Rattle.decimals.proofs.is_normal.Statement.{statement}
@@ -10,10 +10,7 @@ is-value-requires : tie.Need-is-value-requires
 is-value-requires c κs = search needs
 
 negative-requires : tie.Need-negative-requires
-negative-requires c κs =
-    let a = c .before .before .before in
-    let v = sound (a .args .packed) (a .args .s .now) (sym (c .before .is-value .ensures) ∙ c .if1 .taken) in
-    readable v (a .pre .1)
+negative-requires c κs = (sym (c .before .is-value .ensures) ∙ c .if1 .taken, c .before .before .before .pre .1)
 
 written-sign-requires : tie.Need-written-sign-requires
 written-sign-requires c κs = search needs

@@ -1,83 +1,66 @@
--- `decimals::is_value` meets its contract: what is left to scan answers as the whole does. Assumes nothing.
-use Prim.Native.Nat.{_-_, _≤_}
-use native.Mathlib.Omega.{arith}
-use mathlib.Core.Path.{_≡_, refl, sym, _∙_}
-use lib.ListN.{length, drop}
-use Rattle.decimals.specs.Decimals.{value-bytes}
-use Rattle.decimals.proofs.Meanings.{value-scan, scan-turn, scan-last, scan-none}
+-- `decimals::is_value` meets its contract: the bytes before the last, and the last, by the format. Assumes nothing.
+use Rattle.decimals.proofs.Meanings.{no-bytes, all-inner, not-inner}
 use borrow.Author.Needs.{needs}
 use Rattle.decimals.proofs.is_value.Statement.{statement}
 use Rattle.decimals.proofs.is_value.Tie as tie
 
-abbrev Inv-loop : tie.InvT-loop
-Inv-loop s packed i₀ i = (i ≤ length s) × (value-bytes packed (drop i s) ≡ value-bytes packed s)
+returns : tie.Need-returns
+returns c = no-bytes _ _ (c .if1 .taken)
 
-abbrev μ-loop : tie.MeasureT-loop
-μ-loop s packed i₀ i = length s - i
+sub-n : tie.Need-sub-n
+sub-n c = search needs
 
-loop-holds : tie.Need-loop-holds Inv-loop μ-loop
-loop-holds c = (omega arith, refl)
+packed-pairs-requires : tie.Need-packed-pairs-requires
+packed-pairs-requires c κs = search needs
 
-add-loop : tie.Need-add-loop Inv-loop μ-loop
-add-loop c = search needs
-
-shared-slice-read-inner-byte : tie.Need-shared-slice-read-inner-byte Inv-loop μ-loop
-shared-slice-read-inner-byte c = search needs
-
-inner-byte-requires : tie.Need-inner-byte-requires Inv-loop μ-loop
-inner-byte-requires c κs = search needs
-
-add-i : tie.Need-add-i Inv-loop μ-loop
-add-i c = search needs
-
-loop-less : tie.Need-loop-less Inv-loop μ-loop
-loop-less c = search needs
-
-loop-again : tie.Need-loop-again Inv-loop μ-loop
-loop-again c =
-    let l = c .before .before .before .before in
-    let a = l .before .before .args in
-    (omega arith, sym (scan-turn (a .packed) (a .s .now) (l .loop .i) (omega arith) ∙ rw (← c .before .inner-byte .ensures, c .if1 .taken)) ∙ l .loop .inv .1)
-
-returns : tie.Need-returns Inv-loop μ-loop
-returns c =
-    let l = c .before .before .before .before in
-    let a = l .before .before .args in
-    rw (value-scan (a .packed) (a .s .now), ← l .loop .inv .1, scan-turn (a .packed) (a .s .now) (l .loop .i) (omega arith), ← c .before .inner-byte .ensures, c .if1 .left)
-
-shared-slice-read-last-byte : tie.Need-shared-slice-read-last-byte Inv-loop μ-loop
+shared-slice-read-last-byte : tie.Need-shared-slice-read-last-byte
 shared-slice-read-last-byte c = search needs
 
-last-byte-requires : tie.Need-last-byte-requires Inv-loop μ-loop
+last-byte-requires : tie.Need-last-byte-requires
 last-byte-requires c κs = search needs
 
-returns-2 : tie.Need-returns-2 Inv-loop μ-loop
+returns-2 : tie.Need-returns-2
 returns-2 c =
-    let l = c .before .before .before .before in
-    let a = l .before .before .args in
-    rw (value-scan (a .packed) (a .s .now), ← l .loop .inv .1, scan-last (a .packed) (a .s .now) (l .loop .i) (omega arith), ← c .last-byte .ensures)
+    let f = c .before .before .before in
+    rw (f .before .if2 .taken) (all-inner _ _ (f .before .before .if1 .left) (f .packed-pairs .ensures) (c .before .before .if3 .taken) (c .last-byte .ensures))
 
-returns-3 : tie.Need-returns-3 Inv-loop μ-loop
+returns-3 : tie.Need-returns-3
 returns-3 c =
-    let l = c .before .before in
-    let a = l .before .before .args in
-    rw (value-scan (a .packed) (a .s .now), ← l .loop .inv .1, scan-none (a .packed) (a .s .now) (l .loop .i) (c .if2 .left))
+    let f = c .before in
+    rw (f .before .if2 .taken) (not-inner _ _ (f .before .before .if1 .left) (f .packed-pairs .ensures) (c .if3 .left))
+
+zoned-digits-requires : tie.Need-zoned-digits-requires
+zoned-digits-requires c κs = search needs
+
+shared-slice-read-last-byte-2 : tie.Need-shared-slice-read-last-byte-2
+shared-slice-read-last-byte-2 c = search needs
+
+last-byte-requires-2 : tie.Need-last-byte-requires-2
+last-byte-requires-2 c κs = search needs
+
+returns-4 : tie.Need-returns-4
+returns-4 c =
+    let f = c .before .before .before in
+    rw (f .before .if2 .left) (all-inner _ _ (f .before .before .if1 .left) (f .zoned-digits .ensures) (c .before .before .if4 .taken) (c .last-byte2 .ensures))
+
+returns-5 : tie.Need-returns-5
+returns-5 c =
+    let f = c .before in
+    rw (f .before .if2 .left) (not-inner _ _ (f .before .before .if1 .left) (f .zoned-digits .ensures) (c .if4 .left))
 
 pub is-value-spec : {M : Type 1} → statement M
 is-value-spec =
     tie.close
     (tie.spec
-    Inv-loop
-    μ-loop
-    loop-holds
-    add-loop
-    shared-slice-read-inner-byte
-    inner-byte-requires
-    add-i
-    loop-less
-    loop-again
     returns
+    sub-n
+    packed-pairs-requires
     shared-slice-read-last-byte
     last-byte-requires
     returns-2
-    returns-3)
+    returns-3
+    zoned-digits-requires
+    shared-slice-read-last-byte-2
+    last-byte-requires-2
+    returns-4
+    returns-5)
