@@ -1,57 +1,109 @@
--- A span in one occurrence: fields as they are stored, or what is wanted of its one field.
-use mathlib.Core.Path.{_≡_, ap, subst}
+-- What is wanted of a span's one field is what its items ask for.
+use mathlib.Core.Path.{_≡_, refl, sym, _∙_, ap, subst}
 use mathlib.Core.Bool.{Bool, true, false}
-use mathlib.Core.List.{List, [], _∷_}
-use Prim.Native.Nat.{ℕ, _-_, _≤_}
+use mathlib.Core.List.{List, _∷_, map}
+use Prim.Native.Nat.{ℕ, zero, suc, pred, _-_, _<_}
 use native.Mathlib.Omega.{arith}
-use Rattle.rules.specs.Lists.{Bytes}
-use Rattle.rules.specs.Table.{Entry}
-use Rattle.rules.specs.Record.{Record}
+use lib.ListN.{length, getD, drop}
+use Rattle.rules.specs.Outcome.{Outcome}
+use Rattle.rules.specs.Lists.{Bytes, run}
+use Rattle.rules.specs.Values.{Format, converts, null}
+use Rattle.rules.specs.Table.{Entry, parts}
+use Rattle.rules.specs.Record.{Record, values-at, value-at}
 use Rattle.rules.specs.Use.{Asked, value-items, just}
+use Rattle.rules.specs.Services.{item-bytes}
+use Rattle.rules.proofs.Ranges.{item-at, one-field}
 use Rattle.kinds.specs.Formats.{format-at}
-use Rattle.tables.specs.Entries.{Valid, entries-of}
+use Rattle.tables.specs.Entries.{Valid, entries-of, blank, decoded}
+use Rattle.tables.specs.Groups.{field-at}
+use Rattle.tables.specs.declared.Entry.{Entry as Row}
 use Rattle.formats.specs.Elements.{range}
-use Rattle.uses.specs.Meant.{Span-held}
+use Rattle.uses.specs.Meant.{Span-held, One-field}
 use Rattle.uses.specs.declared.Span.{Span}
-use Rattle.uses.proofs.SpanFields.{asked-one, asked-stored}
+use Rattle.uses.proofs.SpanFields.{asked-one}
 use Rattle.records.specs.Places.{Held, Cell-of}
+use Rattle.records.proofs.Placed.{cell-numbers}
 use Rattle.records.specs.declared.places.Cell.{Cell}
+use Rattle.records.specs.declared.places.Cell.the-variants.{At as Stands, Nothing as None}
 use Rattle.reading.specs.Filling.{Filling}
-use Rattle.reading.specs.Runs.{Fills, together, Wants, wanted, wanted-at, Cell-holds, asked-at, Askable, field-items, row-items}
+use Rattle.reading.specs.Runs.{Fills, together, Wants, carried-to, wanted, wanted-at, Cell-holds, row-items}
 use Rattle.reading.specs.declared.Next.{Next}
 use Rattle.reading.specs.declared.Wanted.{Wanted}
-use Rattle.reading.proofs.Running.{fills-as}
-use Rattle.reading.proofs.Spans.{bounds, span-askable}
-use Rattle.reading.proofs.Values as values
+use Rattle.reading.proofs.Going.{filled-together}
+use Rattle.reading.proofs.Spans.{bounds}
+use Rattle.reading.proofs.Values.{name-at, own-small, own-allowed, own-format, own-size}
 
-pub row-stored : (es : List Entry) (s : Span) → s .standard ≡ true → (o : ℕ) → row-items es s o ≡ field-items es (s .first) (s .end) o (s .«value_from») (s .«value_upto»)
-row-stored es s e o = ap (λ (fs : List Asked). value-items fs (just o) (range (s .«value_from») (s .«value_upto»)) false) (asked-stored es s (s .standard) e)
+map-run : {X Y : Type 0} (h : X → Y) (f : ℕ → X) (g : ℕ → Y) → ((k : ℕ) → h (f k) ≡ g k) → (i n : ℕ) → map h (run f i n) ≡ run g i n
+unfolding run
+map-run h f g e i zero = refl
+map-run {Y = Y} h f g e i (suc n) = ap (λ (y : Y). y ∷ map h (run f (suc i) n)) (e i) ∙ ap (λ (ys : List Y). g i ∷ ys) (map-run h f g e (suc i) n)
 
-row-one : (es : List Entry) (s : Span) → s .standard ≡ false → (o : ℕ)
-    → row-items es s o ≡ value-items (asked-at es (s .first) (s .format) (s .size) ∷ []) (just o) (range (s .«value_from») (s .«value_upto»)) false
-row-one es s e o = ap (λ (fs : List Asked). value-items fs (just o) (range (s .«value_from») (s .«value_upto»)) false) (asked-one es s (s .standard) e)
+module _ (t b : Bytes) (places : List ℕ) (v : Valid t) (s : Span) (h : Span-held (entries-of t) s) (alone : s .standard ≡ false) (o : ℕ) where
+  abbrev es : List Entry
+  es = entries-of t
 
--- In an occurrence that is asked for.
-module _ (t b : Bytes) (places : List ℕ) (v : Valid t) (s : Span) (h : Span-held (entries-of t) s) (alone : s .standard ≡ false) (o : ℕ) (low : 1 ≤ o) (high : o ≤ s .upto) where
-  pub column-ask : Askable (entries-of t) (s .first) o (s .format) (s .size)
-  column-ask = span-askable (entries-of t) s h alone o low (λ j m n k. (let u = h .only j m n k in omega arith))
+  one : One-field es s
+  one = h .alone alone
 
-  module _ (w : Wanted) (q : w ≡ wanted-at (entries-of t) (s .first) (s .«value_from») (s .«value_upto») (s .format) (s .size)) where
+  known : s .first < length es
+  known = omega (arith, h .ordered, h .upto)
+
+  abbrev row : Row
+  row = decoded (getD es (s .first) blank)
+
+  abbrev asks : Asked
+  asks = record { field = field-at es (s .first); format = format-at (s .format); size = s .size }
+
+  abbrev wants : Wanted
+  wants = wanted-at es (s .first) (s .«value_from») (s .«value_upto») (s .format) (s .size)
+
+  abbrev values-of : Record → List Bytes
+  values-of r = values-at (parts es) r (getD es (s .first) blank .name) o
+
+  item-found : (r : Record) (k : ℕ) → item-bytes (parts es) r (item-at false asks o k) ≡ carried-to wants (getD (values-of r) (pred k) (null (format-at (row .format)) (row .size)))
+  unfolding item-bytes value-at
+  item-found r k = rw (own-format t v known (one .field) row refl, own-size t v known (one .field) row refl, name-at es (s .first))
+
+  items-found : (r : Record) → map (item-bytes (parts es) r) (row-items es s o) ≡ wanted wants (values-of r)
+  items-found r =
+      let vs = range (s .«value_from») (s .«value_upto») in
+      ap (λ (fs : List Asked). map (item-bytes (parts es) r) (value-items fs (just o) vs false)) (asked-one es s (s .standard) alone)
+      ∙ ap (map (item-bytes (parts es) r)) (one-field o vs false asks)
+      ∙ map-run (item-bytes (parts es) r) _ _ (item-found r) (s .«value_from») (suc (s .«value_upto») - s .«value_from»)
+
+  module _ (w : Wanted) (q : w ≡ wants) where
     pub column-wants : Wants w
     column-wants =
-        let r = bounds (s .«value_from») (s .«value_upto») (h .values) in
-        values.wants t b places v column-ask (s .«value_from») (s .«value_upto») w q (r .0) (r .1) (r .2)
+        let m = bounds (s .«value_from») (s .«value_upto») (h .values) in
+        subst Wants (sym q) (record {
+          own = own-small t v known (one .field) row refl;
+          standard = own-allowed t v known (one .field) row refl;
+          format = one .format;
+          size = one .allowed;
+          converts = subst (λ (x : Format). converts x (format-at (s .format)) ≡ true) (own-format t v known (one .field) row refl) (one .converts);
+          first = m .0;
+          ordered = m .1;
+          last = m .2;
+        })
 
     -- The cell is found by the number of its entry.
-    module _ (i : ℕ) (e : i ≡ s .first) (cell : Cell) (found : (r : Record) → Held (entries-of t) b places r → Cell-of (entries-of t) b i o r cell) where
-      here : (r : Record) → Held (entries-of t) b places r → Cell-of (entries-of t) b (s .first) o r cell
-      here r k = subst (λ (j : ℕ). Cell-of (entries-of t) b j o r cell) e (found r k)
+    module _ (i : ℕ) (e : i ≡ s .first) (cell : Cell) (found : (r : Record) → Held es b places r → Cell-of es b i o r cell) where
+      holds : (r : Record) → Held es b places r → Cell-holds b (format-at (w .own)) (w .standard) (w .multiple) (values-of r) cell
+      holds r k =
+          subst (λ (x : Wanted). Cell-holds b (format-at (x .own)) (x .standard) (x .multiple) (values-of r) cell) (sym q)
+          (held cell (subst (λ (j : ℕ). Cell-of es b j o r cell) e (found r k)))
+        where
+          held : (c : Cell) → Cell-of es b (s .first) o r c → Cell-holds b (format-at (row .format)) (row .size) (row .multiple) (values-of r) c
+          held (Stands p) x = (x .0, x .1, sym (cell-numbers es (s .first) (drop p b) (one .field)) ∙ x .2)
+          held None x = x
 
-      pub column-holds : (r : Record) → Held (entries-of t) b places r → (vs : List Bytes) × Cell-holds b (format-at (w .own)) (w .standard) (w .multiple) vs cell
-      column-holds r k = (_, values.cell-holds t b places v column-ask (s .«value_from») (s .«value_upto») w q cell here r k)
+      pub column-holds : (r : Record) → Held es b places r → (vs : List Bytes) × Cell-holds b (format-at (w .own)) (w .standard) (w .multiple) vs cell
+      column-holds r k = (_, holds r k)
 
       pub column-fills : (at end : ℕ) (write : Bool) {out out′ : Bytes} {m : Next}
           → ((vs : List Bytes) → Cell-holds b (format-at (w .own)) (w .standard) (w .multiple) vs cell → Filling (together (end - at) (wanted w vs)) at write out out′ m)
-          → Fills (entries-of t) b places (row-items (entries-of t) s o) at end write out out′ m
-      column-fills at end write f = fills-as (entries-of t) b places (row-one (entries-of t) s alone o) at end write
-          (values.cell-fills t b places v column-ask (s .«value_from») (s .«value_upto») w q cell here at end write f)
+          → Fills es b places (row-items es s o) at end write out out′ m
+      column-fills at end write {out} {out′} {m} f r k = subst (λ (x : Outcome Bytes). Filling x at write out out′ m)
+          (ap (λ (x : Wanted). together (end - at) (wanted x (values-of r))) q
+          ∙ sym (filled-together (parts es) r (row-items es s o) (end - at) ∙ ap (together (end - at)) (items-found r)))
+          (f (values-of r) (holds r k))

@@ -14,4 +14,5 @@ pub mod Together
 pub mod Turns
 pub mod Unbare
 pub mod Values
+pub mod Nulls
 pub mod Pieces

@@ -1,7 +1,7 @@
 -- A row of fields as they are stored is put in one piece: each field has one value, carried to its own format and length it is itself, and they stand one behind the other.
 use mathlib.Core.Path.{_≡_, refl, sym, _∙_, ap, subst}
 use mathlib.Core.Bool.{Bool, true, false}
-use mathlib.Core.List.{List, [], _∷_, _++_, map, map-append, append-nil, append-assoc}
+use mathlib.Core.List.{List, [], _∷_, _++_, map, map-map, append-nil}
 use Prim.Native.Nat.{ℕ, zero, suc, _+_, _-_, _≤_, _<_}
 use native.Mathlib.Numerals.{add-one}
 use native.Mathlib.Omega.{arith}
@@ -12,7 +12,7 @@ use Rattle.rules.specs.Lists.{Bytes, all, join, filter, run}
 use Rattle.rules.specs.Values.{carried, content}
 use Rattle.rules.specs.Table.{What, field, group, Entry, Field, parts}
 use Rattle.rules.specs.Record.{Record, stored-cell, stored-value, values-at, value-at}
-use Rattle.rules.specs.Use.{Item, Asked, plain, as-stored, value-items, just}
+use Rattle.rules.specs.Use.{Asked, plain, as-stored}
 use Rattle.rules.specs.Services.{item-bytes, filled}
 use Rattle.rules.proofs.Ranges.{one-field}
 use Rattle.rules.proofs.Steps.{by-test}
@@ -33,15 +33,13 @@ use Rattle.records.specs.Places.{Held, values-of, Celled, Piece-of}
 use Rattle.records.specs.declared.paths.Path.{Path}
 use Rattle.records.specs.declared.places.Content.the-variants.{At as Lies}
 use Rattle.records.proofs.Cells.{counted-once, value-first}
-use Rattle.records.proofs.Pieces.{values-append}
-use Rattle.records.proofs.Strips.{own, first-own}
+use Rattle.records.proofs.Strips.{first-own}
 use Rattle.reading.specs.Filling.{within, Filling}
-use Rattle.reading.specs.Runs.{Fills, together, Way, field-items, row-items}
+use Rattle.reading.specs.Runs.{Fills, together, Way, row-items}
 use Rattle.reading.specs.declared.Next.{Next}
 use Rattle.reading.proofs.Going.{filled-together}
 use Rattle.reading.proofs.Together.{together-done}
-use Rattle.reading.proofs.Spans.{no-fields-left, one-group, one-entry, first-entry}
-use Rattle.reading.proofs.Columns.{row-stored}
+use Rattle.reading.proofs.Spans.{stored-items, row-once, each-field}
 use Rattle.reading.proofs.Values.{name-at}
 
 -- The field that an entry is, if it is one.
@@ -98,79 +96,38 @@ module _ (es : List Entry) where
       (λ g. let x = one-single (as-stored (field-at es j)) (map as-stored (fields-from es (j + 1) end)) (rw (field-entry es j end less l g) at h) in
       left (sym (multiple-at es j) ∙ x .0) (x .1))
 
-join-both : (xs ys : List Bytes) → join (xs ++ ys) ≡ join xs ++ join ys
-unfolding join
-join-both [] ys = refl
-join-both (x ∷ xs) ys = ap (λ (bs : Bytes). x ++ bs) (join-both xs ys) ∙ sym (append-assoc x (join xs) (join ys))
-
 -- A field that has one value, at its own format and length: its item is that value.
 module _ (es : List Entry) (r : Record) (o : ℕ) where
+  abbrev value-of : Field → Bytes
+  value-of f = join (values-at (parts es) r (f .name) o)
+
   own-item : (f : Field) (bs rest : Bytes) → f .multiple ≡ false → stored-cell f bs ≡ done (values-at (parts es) r (f .name) o, rest)
-      → map (item-bytes (parts es) r) (value-items (as-stored f ∷ []) (just o) (range 1 1) false) ≡ map done (values-at (parts es) r (f .name) o)
-  unfolding stored-cell item-bytes value-at as-stored run
+      → map (item-bytes (parts es) r) (stored-items o (f ∷ [])) ≡ done (value-of f) ∷ []
+  unfolding stored-cell item-bytes value-at as-stored run join
   own-item f bs rest m h =
       counted-once (stored-value (f .format) (f .size)) bs (rw m at h) λ v e q.
       value-first (f .format) (f .size) bs q λ c g k l i s.
       let w : carried (f .format) (f .format) (f .size) (content (f .size) v) ≡ done v = ap (carried (f .format) (f .format) (f .size)) i ∙ carried-itself (f .format) (f .size) c k ∙ ap done (sym l) in
-      ap (map (item-bytes (parts es) r)) (one-field o (range 1 1) false (as-stored f)) ∙ rw (e, w) refl
+      ap (map (item-bytes (parts es) r)) (one-field o (range 1 1) false (as-stored f)) ∙ rw (e, w, append-nil v) refl
 
-  -- The items of a row, and the bytes that they are together.
-  record Row (first end : ℕ) : Type 0 where
-    bytes : List Bytes
-    items : map (item-bytes (parts es) r) (field-items es first end o 1 1) ≡ map done bytes
-    whole : join bytes ≡ values-of es r o (fields-of (slice first end es))
-
-  row : (n j end : ℕ) → j + n ≡ end → end ≤ length es → ((k : ℕ) → j ≤ k → k < end → is-multiple (getD es k blank .what) ≡ false) → Celled es j end o r → Row j end
-  unfolding join values-of fields-of field-at
-  row zero j end e l single cells = let z : j ≡ end = omega arith in record {
-    bytes = [];
-    items = ap (map (item-bytes (parts es) r)) (no-fields-left es o 1 1 j end (omega arith));
-    whole = rw (z, slice-empty end es) refl;
-  }
-  row (suc n) j end e l single cells =
-      let less : j < end = omega arith in
-      let known : j < length es = omega arith in
-      let x = row n (j + 1) end (omega arith) l (λ k low. single k (omega arith)) (λ k low. cells k (omega arith)) in
-      let fs = fields-of (slice (suc j) end es) in
-      let rest : join (x .bytes) ≡ values-of es r o fs = x .whole ∙ ap (λ (m : ℕ). values-of es r o (fields-of (slice m end es))) (add-one j) in
-      let parted : map (item-bytes (parts es) r) (field-items es j end o 1 1) ≡ map (item-bytes (parts es) r) (field-items es j (j + 1) o 1 1) ++ map done (x .bytes)
-      = ap (map (item-bytes (parts es) r)) (first-entry es o 1 1 j known end less l) ∙ map-append (item-bytes (parts es) r) (field-items es j (j + 1) o 1 1) (field-items es (j + 1) end o 1 1)
-      ∙ ap (λ (os : List (Outcome Bytes)). map (item-bytes (parts es) r) (field-items es j (j + 1) o 1 1) ++ os) (x .items) in
-      let all-of = ap (values-of es r o) (first-own es j end less l) ∙ values-append es r o (own es j) fs in
-      by-test (is-group (getD es j blank .what))
-      (λ g. record {
-        bytes = x .bytes;
-        items = parted ∙ ap (λ (xs : List Item). map (item-bytes (parts es) r) xs ++ map done (x .bytes)) (one-group es o 1 1 j known g);
-        whole = rest ∙ sym (all-of ∙ ap (λ (gs : List Field). values-of es r o gs ++ values-of es r o fs) (own-group (getD es j blank .name) (getD es j blank .what) g));
-      })
-      (λ g.
-      let vs = values-at (parts es) r (field-at es j .name) o in
-      let c = cells j (omega arith) less g in
-      let p = ap (map (item-bytes (parts es) r)) (one-entry es o 1 1 j known g)
-      ∙ own-item (field-at es j) (c .0) (c .1) (multiple-at es j ∙ single j (omega arith) less) (subst (λ (m : ℕ). stored-cell (field-at es j) (c .0) ≡ done (values-at (parts es) r m o, c .1)) (sym (name-at es j)) (c .2)) in
-      record {
-        bytes = vs ++ x .bytes;
-        items = parted ∙ ap (λ (os : List (Outcome Bytes)). os ++ map done (x .bytes)) p ∙ sym (map-append done vs (x .bytes));
-        whole = join-both vs (x .bytes) ∙ ap (λ (bs : Bytes). join vs ++ bs) rest
-            ∙ sym (all-of ∙ ap (λ (gs : List Field). values-of es r o gs ++ values-of es r o fs) (own-field (getD es j blank .name) (getD es j blank .what) g)
-            ∙ ap (λ (bs : Bytes). bs ++ values-of es r o fs) (append-nil (join vs)));
-      })
+  values-joined : (fs : List Field) → join (map value-of fs) ≡ values-of es r o fs
+  unfolding join values-of
+  values-joined [] = refl
+  values-joined (f ∷ fs) = ap (λ (bs : Bytes). value-of f ++ bs) (values-joined fs)
 
   pub row-filled : (first end : ℕ) → first ≤ end → end ≤ length es → ((k : ℕ) → first ≤ k → k < end → is-multiple (getD es k blank .what) ≡ false) → Celled es first end o r → (room : ℕ)
-      → filled (parts es) r room (field-items es first end o 1 1) ≡ within room (done (values-of es r o (fields-of (slice first end es))))
+      → filled (parts es) r room (stored-items o (fields-from es first end)) ≡ within room (done (values-of es r o (fields-of (slice first end es))))
   row-filled first end h l single cells room =
-      let x = row (end - first) first end (omega arith) l single cells in
-      filled-together (parts es) r (field-items es first end o 1 1) room ∙ ap (together room) (x .items) ∙ together-done (x .bytes) room ∙ ap (λ (bs : Bytes). within room (done bs)) (x .whole)
+      let fs = fields-from es first end in
+      filled-together (parts es) r (stored-items o fs) room
+      ∙ ap (together room) (each-field es o (item-bytes (parts es) r) (λ (f : Field). done (value-of f)) (end - first) first end (omega arith) l λ k low high g.
+      let c = cells k low high g in
+      own-item (field-at es k) (c .0) (c .1) (multiple-at es k ∙ single k low high) (subst (λ (m : ℕ). stored-cell (field-at es k) (c .0) ≡ done (values-at (parts es) r m o, c .1)) (sym (name-at es k)) (c .2)))
+      ∙ ap (together room) (sym (map-map done value-of fs))
+      ∙ together-done (map value-of fs) room
+      ∙ ap (λ (bs : Bytes). within room (done bs)) (values-joined fs ∙ ap (values-of es r o) (same-fields es (end - first) first end (omega arith) l))
 
--- A span of fields as they are stored has value 1 alone of each.
 module _ (es : List Entry) (b : Bytes) (places : List ℕ) (s : Span) (held : Span-held es s) (standard : s .standard ≡ true) (o : ℕ) where
-  pub row-once : row-items es s o ≡ field-items es (s .first) (s .end) o 1 1
-  row-once =
-      let one = held .once standard in
-      row-stored es s standard o
-      ∙ ap (λ (k : ℕ). field-items es (s .first) (s .end) o k (s .«value_upto»)) (one .0)
-      ∙ ap (λ (k : ℕ). field-items es (s .first) (s .end) o 1 k) (one .1)
-
   pub row-single : (k : ℕ) → s .first ≤ k → k < s .end → is-multiple (getD es k blank .what) ≡ false
   row-single = none-multiple es (s .end - s .first) (s .first) (s .end) (omega (arith, held .ordered)) (held .upto) (held .single standard)
 
@@ -182,7 +139,8 @@ module _ (es : List Entry) (b : Bytes) (places : List ℕ) (s : Span) (held : Sp
         let p = found r h in
         subst (λ (x : Outcome Bytes). Filling x at write out out′ m)
         (ap (λ (bs : Bytes). within (end - at) (done bs)) (p .2)
-        ∙ sym (ap (filled (parts es) r (end - at)) row-once ∙ row-filled es r o (s .first) (s .end) (omega (arith, held .ordered)) (held .upto) row-single (p .3) (end - at)))
+        ∙ sym (ap (filled (parts es) r (end - at)) (row-once es s held standard o)
+        ∙ row-filled es r o (s .first) (s .end) (omega (arith, held .ordered)) (held .upto) row-single (p .3) (end - at)))
         f
 
 -- The way to a span.

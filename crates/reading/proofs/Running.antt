@@ -74,19 +74,10 @@ module _ {es : List Entry} {b : Bytes} {places : List ℕ} {end : ℕ} {whole re
   pub run-end : rest ≡ [] → Fills es b places whole start end write out₀ out (At at)
   run-end e r p = going-end (end - at) (subst (Left r) (ap (filled (parts es) r (end - at)) e ∙ filled-together (parts es) r [] (end - at)) (g .going r p))
 
--- One item in its room, and no item.
+-- One item in its room.
 pub filled-one : (ps : List Part) (r : Record) (room : ℕ) (x : Item) → filled ps r room (x ∷ []) ≡ within room (item-bytes ps r x)
 filled-one ps r room x = filled-together ps r (x ∷ []) room ∙ together-one room (item-bytes ps r x)
 
 pub run-same : {es : List Entry} {b : Bytes} {places : List ℕ} {end : ℕ} {whole rest : List Item} {start at : ℕ} {write : Bool} {out₀ out : Bytes}
     → Running es b places end whole rest start at write out₀ out → length out ≡ length out₀
 run-same g = g .going (g .holds .0) (g .holds .1) .same
-
--- The same items, said otherwise.
-module _ (es : List Entry) (b : Bytes) (places : List ℕ) {xs ys : List Item} (e : xs ≡ ys) (at end : ℕ) (write : Bool) where
-  pub fills-as : {out out′ : Bytes} {n : Next} → Fills es b places ys at end write out out′ n → Fills es b places xs at end write out out′ n
-  fills-as {out} {out′} {n} = subst (λ (zs : List Item). Fills es b places zs at end write out out′ n) (sym e)
-
-  -- No item: nothing changes.
-  pub fills-none : {out : Bytes} → ys ≡ [] → Holds es b places → at ≤ end → end ≤ length out → Fills es b places xs at end write out out (At at)
-  fills-none {out} none k h l = run-end (run-start es b places end xs at write out k h l) (e ∙ none)

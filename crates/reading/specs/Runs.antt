@@ -10,16 +10,14 @@ use Rattle.rules.specs.Outcome.{Outcome, done, _>>=_, need}
 use Rattle.rules.specs.Limits.{highest-index}
 use Rattle.rules.specs.Lists.{Bytes}
 use Rattle.rules.specs.Values.{Format, allowed, converts, carried, content, null}
-use Rattle.rules.specs.Table.{Entry, parts}
+use Rattle.rules.specs.Table.{Entry, Field, parts}
 use Rattle.rules.specs.Record.{Record, times, counted, stored-value}
-use Rattle.rules.specs.Use.{Item, Asked, as-stored, value-items, just, over}
+use Rattle.rules.specs.Use.{Item, value-items, just, over}
 use Rattle.rules.specs.Services.{filled}
 use Rattle.kinds.specs.Formats.{format-at}
 use Rattle.tables.specs.Entries.{blank, is-group, is-multiple, format-number, size-of}
-use Rattle.tables.specs.Places.{inside-at}
-use Rattle.tables.specs.Groups.{field-at}
 use Rattle.formats.specs.Elements.{range}
-use Rattle.uses.specs.Meant.{fields-from, asked-of}
+use Rattle.uses.specs.Meant.{asked-of}
 use Rattle.uses.specs.declared.Span.{Span}
 use Rattle.records.specs.Where.{fields-of}
 use Rattle.records.specs.Paths.{Wide, Leads}
@@ -88,27 +86,13 @@ pub record Exist (w : Wanted) (b : Bytes) (vs : List Bytes) (r : Run) : Type 0 w
   pub place : r .at ≤ length b
   pub stand : Stand w b (r .at) (r .count) (existing w vs)
 
--- The field that entry i is, at a format and a length.
-abbrev pub asked-at : List Entry → ℕ → ℕ → ℕ → Asked
-asked-at es i format size = record { field = field-at es i; format = format-at format; size = size }
+-- The first n of some numbers are those of entries that are fields.
+abbrev pub Numbered : List Entry → List ℕ → ℕ → Type 0
+Numbered es ns n = (k : ℕ) → k < n → (getD ns k 0 < length es) × (is-group (getD es (getD ns k 0) blank .what) ≡ false)
 
--- Entry i is a field that may be asked for in occurrence o, outside periodic groups the only one, at a format and a length.
-pub record Askable (es : List Entry) (i o g n : ℕ) : Type 0 where
-  pub known : i < length es
-  pub field : is-group (getD es i blank .what) ≡ false
-  pub first : 1 ≤ o
-  pub only : inside-at es i ≡ false → o ≡ 1
-  pub format : g < 5
-  pub allowed : allowed (format-at g) n ≡ true
-  pub converts : converts (field-at es i .format) (format-at g) ≡ true
-
--- In occurrence o, each of the entries from one number up to another lies in a periodic group, or o is 1.
-abbrev pub Only : List Entry → ℕ → ℕ → ℕ → Type 0
-Only es first end o = (j : ℕ) → first ≤ j → j < end → inside-at es j ≡ false → o ≡ 1
-
--- The items, in one occurrence, of the fields among the entries from one number up to another, each as it is stored.
-abbrev pub field-items : List Entry → ℕ → ℕ → ℕ → ℕ → ℕ → List Item
-field-items es first stop o low high = value-items (map as-stored (fields-from es first stop)) (just o) (range low high) false
+-- Null for each of some fields, at its own format and length.
+abbrev pub nulls-of : List Field → List (Outcome Bytes)
+nulls-of fs = map (λ (f : Field). done (null (f .format) (f .size))) fs
 
 -- The items of a span in one occurrence; and in those from one on.
 abbrev pub row-items : List Entry → Span → ℕ → List Item

@@ -3,27 +3,28 @@ ghost use mathlib.Core.Path.{_≡_};
 ghost use mathlib.Core.List.{_∷_, [], List, map};
 ghost use mathlib.Core.Bool.{true, false};
 ghost use Prim.Native.Nat.{_+_, _-_, _≤_, _<_};
-ghost use lib.ListN.{length, replicate, drop};
+ghost use lib.ListN.{length, replicate, take, drop};
 ghost use lib.Seq.{slice};
 ghost use Rattle.rules.specs.Outcome.{done, is-done};
 ghost use Rattle.rules.specs.Characters.{space};
 ghost use Rattle.rules.specs.Values.{every, allowed, meaning, null, conversion, converts, carried};
 ghost use Rattle.rules.specs.Limits.{highest-index};
 ghost use Rattle.rules.specs.Lists.{Bytes, all, join};
-ghost use Rattle.rules.specs.Use.{plain, value-items, just, items-of};
+ghost use Rattle.rules.specs.Use.{plain, items-of};
 ghost use Rattle.rules.specs.Record.{Record};
 ghost use Rattle.kinds.specs.Formats.{format-at};
 ghost use Rattle.values.specs.Formats.{ranged};
 ghost use Rattle.values.specs.Fits.{Asked};
 ghost use Rattle.tables.specs.Entries.{Valid, entries-of};
 ghost use Rattle.tables.specs.Places.{inside-at};
-ghost use Rattle.formats.specs.Elements.{range, sound};
-ghost use Rattle.uses.specs.Meant.{Span-held, Use-held, use-meant};
+ghost use Rattle.tables.specs.Groups.{field-at};
+ghost use Rattle.formats.specs.Elements.{sound};
+ghost use Rattle.uses.specs.Meant.{Span-held, Use-held, fields-from, use-meant};
 ghost use Rattle.records.specs.Where.{fields-of};
 ghost use Rattle.records.specs.Paths.{Wide};
 ghost use Rattle.records.specs.Places.{Held, Holds, Piece-of};
 ghost use Rattle.reading.specs.Filling.{Filling, within};
-ghost use Rattle.reading.specs.Runs.{Fills, together, Wants, carried-to, wanted, Stand, Exist, wanted-at, Cell-holds, asked-at, Askable, Only, Way, field-items, row-items, span-items};
+ghost use Rattle.reading.specs.Runs.{Fills, together, Wants, carried-to, wanted, Stand, Exist, wanted-at, Cell-holds, Numbered, nulls-of, Way, row-items, span-items};
 ghost use Rattle.reading.specs.Turns.{place-of, answer-of, standing-of, unused, Puts, Scans};
 ghost use Rattle.records.specs.declared.places.Cell.the-variants.{At};
 use formats::Element;
@@ -384,103 +385,6 @@ fn wanted_of(t: &[u8], i: usize, first: usize, last: usize, format: usize, size:
     }
 }
 
-// The values from first to last of entry i, a field, in occurrence o, at a format and a length.
-fn put_values(
-    t: &[u8],
-    b: &[u8],
-    places: &[u16; records::DIRECTORY],
-    i: usize,
-    o: usize,
-    first: usize,
-    last: usize,
-    format: usize,
-    size: usize,
-    out: &mut [u8],
-    at: usize,
-    end: usize,
-    write: bool,
-) -> Next
-    requires { ⌜ Valid (now t) × Askable (entries-of (now t)) i o format size × (1 ≤ first) × (first ≤ last) × (last ≤ highest-index) × Holds (entries-of (now t)) (now b) (now places) × (at ≤ end) × (end ≤ length (now out)) ⌝ }
-    ensures { λ r. ⌜ Fills (entries-of (now (t .entry))) (now (b .entry)) (now (places .entry)) (value-items (asked-at (entries-of (now (t .entry))) i format size ∷ []) (just o) (range first last) false) at end write (now (out .entry)) (now (out .exit)) r ⌝ }
-{
-    let w = wanted_of(t, i, first, last, format, size);
-    let cell = records::places::cell_at(t, b, places, i, o);
-    put_cell(b, cell, w, out, at, end, write)
-}
-
-// The values from low to high of entry j in occurrence o, where it is a field, at its own format and length; a group adds nothing.
-fn put_field(
-    t: &[u8],
-    b: &[u8],
-    places: &[u16; records::DIRECTORY],
-    j: usize,
-    o: usize,
-    low: usize,
-    high: usize,
-    out: &mut [u8],
-    at: usize,
-    end: usize,
-    write: bool,
-) -> Next
-    requires { ⌜ Valid (now t) × (j < length (entries-of (now t))) × (1 ≤ o) × (inside-at (entries-of (now t)) j ≡ false → o ≡ 1) × (1 ≤ low) × (low ≤ high) × (high ≤ highest-index) × Holds (entries-of (now t)) (now b) (now places) × (at ≤ end) × (end ≤ length (now out)) ⌝ }
-    ensures { λ r. ⌜ Fills (entries-of (now (t .entry))) (now (b .entry)) (now (places .entry)) (field-items (entries-of (now (t .entry))) j (j + 1) o low high) at end write (now (out .entry)) (now (out .exit)) r ⌝ }
-{
-    let e = tables::entry_at(t, j);
-    if e.format == tables::GROUP {
-        return Next::At(at);
-    }
-    put_values(
-        t,
-        b,
-        places,
-        j,
-        o,
-        low,
-        high,
-        e.format as usize,
-        e.size as usize,
-        out,
-        at,
-        end,
-        write,
-    )
-}
-
-// The same of the entries from first up to stop.
-fn put_fields(
-    t: &[u8],
-    b: &[u8],
-    places: &[u16; records::DIRECTORY],
-    first: usize,
-    stop: usize,
-    o: usize,
-    low: usize,
-    high: usize,
-    out: &mut [u8],
-    at: usize,
-    end: usize,
-    write: bool,
-) -> Next
-    requires { ⌜ Valid (now t) × (first ≤ stop) × (stop ≤ length (entries-of (now t))) × (1 ≤ o) × Only (entries-of (now t)) first stop o × (1 ≤ low) × (low ≤ high) × (high ≤ highest-index) × Holds (entries-of (now t)) (now b) (now places) × (at ≤ end) × (end ≤ length (now out)) ⌝ }
-    ensures { λ r. ⌜ Fills (entries-of (now (t .entry))) (now (b .entry)) (now (places .entry)) (field-items (entries-of (now (t .entry))) first stop o low high) at end write (now (out .entry)) (now (out .exit)) r ⌝ }
-{
-    let mut p = at;
-    let mut j = first;
-    while j < stop {
-        let next = put_field(t, b, places, j, o, low, high, out, p, end, write);
-        match next {
-            Next::Refused(n) => {
-                return Next::Refused(n);
-            }
-            Next::At(place) => {
-                p = place;
-            }
-        }
-        j += 1;
-    }
-    Next::At(p)
-}
-
 // The bytes of a span's fields together, where all are of fixed length and none is MU.
 fn width(t: &[u8], s: Span) -> usize
     requires { ⌜ Valid (now t) × Span-held (entries-of (now t)) s ⌝ }
@@ -512,6 +416,47 @@ fn piece(
     records::places::piece_outside(t, b, places, s.first, s.end)
 }
 
+// The nulls of n fields, by their entry numbers, each at its own format and length.
+fn put_null_fields(
+    t: &[u8],
+    fields: &[u8; 64],
+    n: usize,
+    out: &mut [u8],
+    at: usize,
+    end: usize,
+    write: bool,
+) -> Next
+    requires { ⌜ Valid (now t) × (length (now fields) ≡ 64) × (n ≤ 64) × Numbered (entries-of (now t)) (now fields) n × (at ≤ end) × (end ≤ length (now out)) ⌝ }
+    ensures { λ r. ⌜ Filling (together (end - at) (nulls-of (map (field-at (entries-of (now (t .entry)))) (take n (now (fields .entry)))))) at write (now (out .entry)) (now (out .exit)) r ⌝ }
+{
+    let mut p = at;
+    let mut k = 0;
+    while k < n {
+        let e = tables::entry_at(t, fields[k] as usize);
+        let next = put_nulls(1, e.format as usize, e.size as usize, out, p, end, write);
+        match next {
+            Next::Refused(number) => {
+                return Next::Refused(number);
+            }
+            Next::At(place) => {
+                p = place;
+            }
+        }
+        k += 1;
+    }
+    Next::At(p)
+}
+
+// The nulls of a group's fields, for an occurrence that does not exist.
+fn put_null_row(t: &[u8], s: Span, out: &mut [u8], at: usize, end: usize, write: bool) -> Next
+    requires { ⌜ Valid (now t) × Span-held (entries-of (now t)) s × (s .standard ≡ true) × (inside-at (entries-of (now t)) (s .first) ≡ true) × (at ≤ end) × (end ≤ length (now out)) ⌝ }
+    ensures { λ r. ⌜ Filling (together (end - at) (nulls-of (fields-from (entries-of (now (t .entry))) (s .first) (s .end)))) at write (now (out .entry)) (now (out .exit)) r ⌝ }
+{
+    let mut fields = [0u8; 64];
+    let n = tables::expand(t, s.first - 1, &mut fields);
+    put_null_fields(t, &fields, n, out, at, end, write)
+}
+
 // A span of fields as they are stored, in occurrence o: copied in one piece, or null for each where there is no such occurrence.
 fn put_row(
     t: &[u8],
@@ -532,7 +477,7 @@ fn put_row(
     let found = piece(t, b, places, s, path, width, o);
     match found {
         Content::At(from, upto) => put_text(&b[from..upto], out, at, end, write),
-        Content::Nothing => put_fields(t, b, places, s.first, s.end, o, 1, 1, out, at, end, write),
+        Content::Nothing => put_null_row(t, s, out, at, end, write),
     }
 }
 

@@ -21,7 +21,7 @@ use Rattle.tables.proofs.Nesting.{members-inside}
 use Rattle.records.specs.Walk.{rest-of, Walked, occurrence}
 use Rattle.records.specs.Where.{field-of, fields-of}
 use Rattle.records.specs.Paths.{lengths}
-use Rattle.records.specs.Places.{Held, values-of, Celled, Piece-of}
+use Rattle.records.specs.Places.{Held, values-of, Celled, Valueless, Piece-of}
 use Rattle.records.specs.declared.Step.the-variants as S
 use Rattle.records.specs.declared.places.Content.the-variants.{At}
 use Rattle.records.proofs.Entries.{never}
@@ -71,24 +71,9 @@ module _ (t : Bytes) (valid : Valid t) {b : Bytes} {places : List ℕ} {r : Reco
   }
 
   -- No such occurrence.
-  none-own : group-count-at (parts es) r (getD es g blank .name) < o → (j : ℕ) → g < j → j < group-end es g → (w : What) → getD es j blank .what ≡ w
-      → values-of es r o (field-of (getD es j blank .name) w) ≡ []
-  unfolding values-of field-of join
-  none-own few j l m (field f s mu) q =
-      rw (cell-missing held (valid-names t valid) j g o (omega (arith, group-within es g there .1)) (ap is-group q) some (home-in j l m) few) refl
-  none-own few j l m (group p) q = refl
-
-  pub none-in : group-count-at (parts es) r (getD es g blank .name) < o → (n first end : ℕ) → first + n ≡ end → g < first → end ≤ group-end es g
-      → values-of es r o (fields-of (slice first end es)) ≡ []
-  unfolding values-of fields-of
-  none-in few zero first end e k h = let z : first ≡ end = omega arith in rw (z, slice-empty end es) refl
-  none-in few (suc n) first end e k h =
-      rw (
-        first-own es first end (omega arith) (omega (arith, group-within es g there .1)),
-        values-append es r o (own es first) (fields-of (slice (suc first) end es)),
-        none-own few first k (omega arith) (getD es first blank .what) refl,
-      )
-      (none-in few n (suc first) end (omega arith) (omega arith) h)
+  pub none-in : group-count-at (parts es) r (getD es g blank .name) < o → (first end : ℕ) → g < first → end ≤ group-end es g → Valueless es first end o r
+  none-in few first end k h j low high single =
+      cell-missing held (valid-names t valid) j g o (omega (arith, group-within es g there .1)) single some (home-in j (omega arith) (omega arith)) few
 
   module _ (many : o ≤ group-count-at (parts es) r (getD es g blank .name)) (p : ℕ)
       (row : Walked b (rest-of (times (o - 1) (occurrence es g) (drop (getD places g 0 + 1) b))) (S.At p)) where

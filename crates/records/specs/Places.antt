@@ -78,8 +78,12 @@ abbrev pub Celled : List Entry → ℕ → ℕ → ℕ → Record → Type 0
 Celled es first end o r = (j : ℕ) → first ≤ j → j < end → is-group (getD es j blank .what) ≡ false
     → (bs : Bytes) × (rest : Bytes) × (stored-cell (field-at es j) bs ≡ done (values-at (parts es) r (getD es j blank .name) o, rest))
 
--- The piece of a record that those fields are; or there is no such occurrence.
+-- None of them has a value there.
+abbrev pub Valueless : List Entry → ℕ → ℕ → ℕ → Record → Type 0
+Valueless es first end o r = (j : ℕ) → first ≤ j → j < end → is-group (getD es j blank .what) ≡ false → values-at (parts es) r (getD es j blank .name) o ≡ []
+
+-- The piece of a record that those fields are; or they lie in a periodic group, and there is no such occurrence.
 abbrev pub Piece-of : List Entry → Bytes → ℕ → ℕ → ℕ → Record → Content → Type 0
 Piece-of es b first end o r (Lies from upto) =
     (from ≤ upto) × (upto ≤ length b) × (take (upto - from) (drop from b) ≡ values-of es r o (fields-of (slice first end es))) × Celled es first end o r
-Piece-of es b first end o r Absent = values-of es r o (fields-of (slice first end es)) ≡ []
+Piece-of es b first end o r Absent = (inside-at es first ≡ true) × Valueless es first end o r

@@ -5,7 +5,7 @@ use mathlib.Core.List.{List, [], _∷_, map}
 use Prim.Native.Nat.{ℕ, suc, _+_, _-_, _<_, _≤_}
 use native.Mathlib.Numerals.{add-one}
 use native.Mathlib.Omega.{arith}
-use borrow.Author.Tests.{ltb-true, ltb-false, eq-eqb, ne-eqb}
+use borrow.Author.Tests.{ltb-true, ltb-false}
 use lib.Dec.{eqb, ltb}
 use lib.ListN.{length, getD, take, drop, length-drop}
 use Rattle.rules.specs.Outcome.{Outcome, done, refused, _>>=_, need, is-done}
@@ -15,11 +15,9 @@ use Rattle.rules.specs.Use.{plain, as-stored, fields-to}
 use Rattle.rules.proofs.Steps.{by-test, true-T}
 use Rattle.rules.proofs.Uses.{by-what, Single, plain-single, to-picked}
 use Rattle.kinds.specs.Formats.{format-at}
-use Rattle.tables.specs.Entries.{blank, is-group, is-multiple, size-of, format-number, group-number, decoded}
-use Rattle.tables.specs.declared.Entry.{Entry as Row}
+use Rattle.tables.specs.Entries.{blank, is-group, is-multiple, size-of, format-number}
 use Rattle.tables.specs.Groups.{run-below, group-end, field-by, field-at, with-field, fields-in}
 use Rattle.tables.proofs.Bools.{clash}
-use Rattle.tables.proofs.Tables.{is-group-number}
 use Rattle.tables.proofs.Nesting.{below-deeper, below-ends, below-nil, run-nil, run-deeper, run-ends, run-short}
 use Rattle.uses.specs.Meant.{fields-from}
 use Rattle.uses.proofs.Effects.{own-number, number-small}
@@ -53,13 +51,6 @@ module _ (es : List Entry) (i : ℕ) where
       → (field-at es i .format ≡ format-at (format-number (getD es i blank .what))) × (format-number (getD es i blank .what) < 5)
   unfolding field-at
   format-of-field e = format-by (getD es i blank .name) (getD es i blank .what) e
-
-  -- by the format of its decoded entry
-  pub group-known : (r : Row) → r ≡ decoded (getD es i blank) → r .format ≡ group-number → is-group (getD es i blank .what) ≡ true
-  group-known r e q = sym (is-group-number (getD es i blank .what)) ∙ eq-eqb _ group-number (sym (ap (λ (r : Row). r .format) e) ∙ q)
-
-  pub field-known : (r : Row) → r ≡ decoded (getD es i blank) → (r .format ≡ group-number → ⊥) → is-group (getD es i blank .what) ≡ false
-  field-known r e q = sym (is-group-number (getD es i blank .what)) ∙ ne-eqb _ group-number (λ k. q (ap (λ (r : Row). r .format) e ∙ k))
 
 -- The fields of a group stand among the entries behind it that are deeper.
 pub no-fields : fields-in [] ≡ []

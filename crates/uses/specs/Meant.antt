@@ -3,7 +3,7 @@ use mathlib.Core.Path.{_≡_}
 use mathlib.Core.Bool.{Bool, true, false, cond, _&&_}
 use mathlib.Core.List.{List, [], _∷_, map}
 use mathlib.Core.Option.{Option, some, none}
-use Prim.Native.Nat.{ℕ, _-_, _+_, _<_, _≤_}
+use Prim.Native.Nat.{ℕ, suc, _-_, _+_, _<_, _≤_}
 use lib.Dec.{ltb}
 use lib.ListN.{length, take, drop, getD}
 use Rattle.rules.specs.Outcome.{Outcome, done, refused, _>>=_, need}
@@ -139,6 +139,8 @@ pub record Span-held (es : List Entry) (s : Span) : Type 0 where
   pub together : s .standard ≡ true → (g : ℕ) → Home es (s .first) g → (s .end ≤ group-end es g) × (all plain (fields-from es (s .first) (s .end)) ≡ true)
   -- Where it lies outside, all do.
   pub outside : s .standard ≡ true → inside-at es (s .first) ≡ false → (j : ℕ) → s .first ≤ j → j < s .end → inside-at es j ≡ false
+  -- Where it lies in one, they are the members of the group that the entry before the first is.
+  pub grouped : s .standard ≡ true → inside-at es (s .first) ≡ true → (i : ℕ) × (s .first ≡ suc i) × (is-group (getD es i blank .what) ≡ true) × (s .end ≡ group-end es i)
 
 abbrev pub Use-held : List Entry → Bytes → Use → Type 0
 Use-held es f (code.Blanks n) = n < 256

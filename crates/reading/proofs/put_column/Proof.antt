@@ -11,7 +11,7 @@ use Rattle.formats.specs.Elements.{range}
 use Rattle.uses.specs.Meant.{asked-of}
 use Rattle.reading.specs.Runs.{row-items, span-items}
 use Rattle.reading.proofs.Running.{Running, run-start, run-on, run-off, run-end, run-same}
-use Rattle.reading.proofs.Columns.{column-ask, column-wants, column-holds, column-fills}
+use Rattle.reading.proofs.Columns.{column-wants, column-holds, column-fills}
 use Rattle.reading.proofs.Spans.{bounds}
 use borrow.Author.Needs.{needs}
 use Rattle.reading.proofs.put_column.Statement.{statement}
@@ -50,12 +50,13 @@ cell-by-requires c κs =
     let l = c .before .before .loop in
     let p = c .before .before .before .path-to in
     let e = sym (p .ensures .0) in
-    let k = column-ask (a .t .now) (a .b .now) (a .places .now) (s .pre .0) (a .s) (s .pre .1) (s .pre .2) (l .o) (l .inv .1) (c .if1 .taken) in (
+    let held = s .pre .1 in (
       s .pre .0,
-      subst (λ (j : ℕ). j < length (entries-of (a .t .now))) e (k .known),
-      subst (λ (j : ℕ). is-group (getD (entries-of (a .t .now)) j blank .what) ≡ false) e (k .field),
+      subst (λ (j : ℕ). j < length (entries-of (a .t .now))) e (omega (arith, held .ordered, held .upto)),
+      subst (λ (j : ℕ). is-group (getD (entries-of (a .t .now)) j blank .what) ≡ false) e (held .alone (s .pre .2) .field),
       l .inv .1,
-      subst (λ (j : ℕ). inside-at (entries-of (a .t .now)) j ≡ false → l .o ≡ 1) e (k .only),
+      subst (λ (j : ℕ). inside-at (entries-of (a .t .now)) j ≡ false → l .o ≡ 1) e
+          (λ out. (let u = held .only (a .s .first) (omega arith) (held .ordered) out in omega (arith, l .inv .1, c .if1 .taken))),
       p .ensures .1,
       s .pre .3,
     )
@@ -68,8 +69,8 @@ put-cell-requires c κs =
     let w = c .before .before .before .before .before .before .wanted-of in
     let y = c .before .cell-by in
     let p = c .before .before .before .before .before .path-to in (
-      column-wants (a .t .now) (a .b .now) (a .places .now) (s .pre .0) (a .s) (s .pre .1) (s .pre .2) (l .o) (l .inv .1) (c .before .before .if1 .taken) (w .result) (w .ensures),
-      column-holds (a .t .now) (a .b .now) (a .places .now) (s .pre .0) (a .s) (s .pre .1) (s .pre .2) (l .o) (l .inv .1) (c .before .before .if1 .taken) (w .result) (w .ensures) (p .result .entry) (p .ensures .0) (y .result) (y .ensures) (s .pre .3 .0) (s .pre .3 .1),
+      column-wants (a .t .now) (a .b .now) (a .places .now) (s .pre .0) (a .s) (s .pre .1) (s .pre .2) (l .o) (w .result) (w .ensures),
+      column-holds (a .t .now) (a .b .now) (a .places .now) (s .pre .0) (a .s) (s .pre .1) (s .pre .2) (l .o) (w .result) (w .ensures) (p .result .entry) (p .ensures .0) (y .result) (y .ensures) (s .pre .3 .0) (s .pre .3 .1),
       l .inv .0 .fits,
       l .inv .0 .room,
     )
@@ -88,7 +89,7 @@ returns c =
     let w = c .before .before .before .before .before .before .before .before .before .before .before .before .wanted-of in
     let y = c .before .before .before .before .before .before .before .cell-by in
     let p = c .before .before .before .before .before .before .before .before .before .before .before .path-to in
-    let f = column-fills (a .t .now) (a .b .now) (a .places .now) (s .pre .0) (a .s) (s .pre .1) (s .pre .2) (l .o) (l .inv .1) (c .before .before .before .before .before .before .before .before .if1 .taken) (w .result) (w .ensures) (p .result .entry) (p .ensures .0) (y .result) (y .ensures) (l .p) (a .end) (a .write) (c .before .before .before .before .before .put-cell .ensures) in
+    let f = column-fills (a .t .now) (a .b .now) (a .places .now) (s .pre .0) (a .s) (s .pre .1) (s .pre .2) (l .o) (w .result) (w .ensures) (p .result .entry) (p .ensures .0) (y .result) (y .ensures) (l .p) (a .end) (a .write) (c .before .before .before .before .before .put-cell .ensures) in
     run-off (l .inv .0) (row-items (entries-of (a .t .now)) (a .s) (l .o)) (span-items (entries-of (a .t .now)) (a .s) (l .o + 1)) (first-occurrence (asked-of (entries-of (a .t .now)) (a .s)) (range (a .s .«value_from») (a .s .«value_upto»)) false (l .o) (a .s .upto) (c .before .before .before .before .before .before .before .before .if1 .taken)) f _ (c .before .next .given .1)
 
 enum-known-next-2 : tie.Need-enum-known-next-2 Inv-loop μ-loop
@@ -111,7 +112,7 @@ loop-again c =
     let w = c .before .before .before .before .before .before .before .before .before .before .before .before .wanted-of in
     let y = c .before .before .before .before .before .before .before .cell-by in
     let p = c .before .before .before .before .before .before .before .before .before .before .before .path-to in
-    let f = column-fills (a .t .now) (a .b .now) (a .places .now) (s .pre .0) (a .s) (s .pre .1) (s .pre .2) (l .o) (l .inv .1) (c .before .before .before .before .before .before .before .before .if1 .taken) (w .result) (w .ensures) (p .result .entry) (p .ensures .0) (y .result) (y .ensures) (l .p) (a .end) (a .write) (c .before .before .before .before .before .put-cell .ensures) in (
+    let f = column-fills (a .t .now) (a .b .now) (a .places .now) (s .pre .0) (a .s) (s .pre .1) (s .pre .2) (l .o) (w .result) (w .ensures) (p .result .entry) (p .ensures .0) (y .result) (y .ensures) (l .p) (a .end) (a .write) (c .before .before .before .before .before .put-cell .ensures) in (
       run-on (l .inv .0) (row-items (entries-of (a .t .now)) (a .s) (l .o)) (span-items (entries-of (a .t .now)) (a .s) (l .o + 1)) (first-occurrence (asked-of (entries-of (a .t .now)) (a .s)) (range (a .s .«value_from») (a .s .«value_upto»)) false (l .o) (a .s .upto) (c .before .before .before .before .before .before .before .before .if1 .taken)) f _ (c .before .next2 .given .1),
       omega arith,
     )

@@ -4,9 +4,9 @@ use native.Mathlib.Omega.{arith}
 use Rattle.rules.specs.Record.{Record}
 use Rattle.tables.specs.Entries.{entries-of}
 use Rattle.records.specs.Places.{Held, Piece-of}
-use Rattle.records.specs.declared.places.Content.the-variants.{At}
-use Rattle.reading.proofs.Running.{fills-as}
-use Rattle.reading.proofs.Pieces.{row-once, row-put}
+use Rattle.records.specs.declared.places.Content.the-variants.{At, Nothing}
+use Rattle.reading.proofs.Pieces.{row-put}
+use Rattle.reading.proofs.Nulls.{row-null}
 use borrow.Author.Needs.{needs}
 use Rattle.reading.proofs.put_row.Statement.{statement}
 use Rattle.reading.proofs.put_row.Tie as tie
@@ -39,22 +39,18 @@ put-text-requires c κs = search needs
 enum-told : tie.Need-enum-told
 enum-told c = search needs
 
-put-fields-requires : tie.Need-put-fields-requires
-put-fields-requires c κs =
+missing : (c : tie.After-enum-told) (r : Record)
+    → (let a = c .before .before .before .before .before .before .args in Held (entries-of (a .t .now)) (a .b .now) (a .places .now) r
+    → Piece-of (entries-of (a .t .now)) (a .b .now) (a .s .first) (a .s .end) (a .o) r Nothing)
+missing c r held =
+    let a = c .before .before .before .before .before .before .args in
+    subst (Piece-of (entries-of (a .t .now)) (a .b .now) (a .s .first) (a .s .end) (a .o) r) (c .enum-told .given .1) (c .before .before .piece .ensures r held)
+
+put-null-row-requires : tie.Need-put-null-row-requires
+put-null-row-requires c κs =
     let s = c .before .before .before .before .before .before .before in
-    let held = s .pre .1 in (
-      s .pre .0,
-      omega (arith, held .ordered),
-      held .upto,
-      s .pre .4,
-      λ j low high out. (let u = held .only j low high out in omega (arith, s .pre .4, s .pre .5)),
-      omega arith,
-      omega arith,
-      omega arith,
-      s .pre .6,
-      s .pre .7,
-      s .pre .8,
-    )
+    let h = s .pre .6 in
+    (s .pre .0, s .pre .1, s .pre .2, missing (c .before) (h .0) (h .1) .0, s .pre .7, s .pre .8)
 
 same-length : tie.Need-same-length
 same-length c = search needs
@@ -71,9 +67,10 @@ same-length-2 c = search needs
 
 returns-2 : tie.Need-returns-2
 returns-2 c =
+    let d = c .before .before .before .before in
     let s = c .before .before .before .before .before .before .before .before .before .before in
     let a = s .args in
-    fills-as (entries-of (a .t .now)) (a .b .now) (a .places .now) (row-once (entries-of (a .t .now)) (a .b .now) (a .places .now) (a .s) (s .pre .1) (s .pre .2) (a .o)) (a .at) (a .end) (a .write) (c .before .before .put-fields .ensures)
+    row-null (a .t .now) (a .b .now) (a .places .now) (s .pre .0) (a .s) (s .pre .1) (s .pre .2) (a .o) (missing d) (a .at) (a .end) (a .write) (c .before .before .put-null-row .ensures)
 
 pub put-row-spec : {M : Type 1} → statement M
 put-row-spec =
@@ -86,7 +83,7 @@ put-row-spec =
     part-put-text-end
     put-text-requires
     enum-told
-    put-fields-requires
+    put-null-row-requires
     same-length
     returns
     same-length-2

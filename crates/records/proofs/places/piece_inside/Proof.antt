@@ -50,8 +50,7 @@ returns c r held =
     let es = entries-of (a .t .now) in
     let home = s .pre .6 .home (s .pre .7) in
     let e = subst (Entered es (a .b .now) (a .places .now) (a .path .group) (a .path .entry) (a .o) r) (c .enum-told .given .1) (c .before .before .entry-in .ensures r held) in
-    none-in (a .t .now) (s .pre .0) held (a .path .group) (a .o) (s .pre .5) (home .level) (home .periodic) (omega (arith, s .pre .1, s .pre .2, s .pre .3)) e
-    (a .end - a .path .entry) (a .path .entry) (a .end) (omega (arith, s .pre .2)) (s .pre .1) (s .pre .4)
+    (home .inside, none-in (a .t .now) (s .pre .0) held (a .path .group) (a .o) (s .pre .5) (home .level) (home .periodic) (omega (arith, s .pre .1, s .pre .2, s .pre .3)) e (a .path .entry) (a .end) (s .pre .1) (s .pre .4))
 
 returns-2 : tie.Need-returns-2
 returns-2 c r held = found c r held
