@@ -1,6 +1,7 @@
 -- `decimals::packed_pairs` meets its contract: what is left to scan answers as the whole does. Assumes nothing.
 use mathlib.Core.Bool.{true}
 use Prim.Native.Nat.{_-_}
+use native.Mathlib.Omega.{arith}
 use Rattle.decimals.specs.Decimals.{inner-byte}
 use Rattle.decimals.proofs.Meanings.{Scan, scan-start, scan-turn, scan-stop, scan-end, pair-digits, pair-high, pair-low}
 use borrow.Author.Needs.{needs}
@@ -22,12 +23,12 @@ shared-slice-read-b c = search needs
 returns : tie.Need-returns Inv-loop μ-loop
 returns c =
     let l = c .before .before .before in
-    scan-stop (l .loop .inv) (c .before .before .loop-test .taken) (pair-high _ (c .if1 .taken))
+    scan-stop (l .loop .inv) (c .before .before .loop-test .taken) (pair-high _ (omega arith))
 
 returns-2 : tie.Need-returns-2 Inv-loop μ-loop
 returns-2 c =
     let l = c .before .before .before .before in
-    scan-stop (l .loop .inv) (c .before .before .before .loop-test .taken) (pair-low _ (c .if2 .taken))
+    scan-stop (l .loop .inv) (c .before .before .before .loop-test .taken) (pair-low _ (omega arith))
 
 add-i : tie.Need-add-i Inv-loop μ-loop
 add-i c = search needs
