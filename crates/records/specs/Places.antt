@@ -54,16 +54,6 @@ pub record Content-of (f : Format) (size : ℕ) (b v : Bytes) (from upto : ℕ) 
   pub is : content size v ≡ take (upto - from) (drop from b)
   pub long : allowed f (upto - from) ≡ true
 
--- The same of the code's answer: a value that stands there is found.
-abbrev pub Contained : Format → ℕ → Bytes → Bytes → Content → Type 0
-Contained f size b v (Lies from upto) = Content-of f size b v from upto
-Contained f size b v Absent = ⊥
-
--- Value k of a cell: its content, or the cell has fewer values.
-abbrev pub Value-of : Format → ℕ → Bytes → List Bytes → ℕ → Content → Type 0
-Value-of f size b vs k (Lies from upto) = (k ≤ length vs) × Content-of f size b (getD vs (k - 1) []) from upto
-Value-of f size b vs k Absent = length vs < k
-
 -- The values of some fields in occurrence o, one behind the other.
 unfoldable pub values-of : List Entry → Record → ℕ → List Field → Bytes
 values-of es r o [] = []

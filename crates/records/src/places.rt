@@ -1,19 +1,15 @@
-// Where a value of a stored record lies.
+// Where the values of a stored record lie.
 ghost use mathlib.Core.Path.{_≡_};
 ghost use mathlib.Core.Bool.{true, false};
-ghost use mathlib.Core.List.{List};
 ghost use Prim.Native.Nat.{_+_, _-_, _≤_, _<_};
 ghost use lib.ListN.{length, drop, getD};
 ghost use lib.Seq.{slice};
-ghost use Rattle.rules.specs.Outcome.{done};
-ghost use Rattle.rules.specs.Lists.{Bytes};
-ghost use Rattle.rules.specs.Values.{Format, allowed};
 ghost use Rattle.rules.specs.Table.{group, parts};
-ghost use Rattle.rules.specs.Record.{Record, times, each, counted, stored-value, stored-cell, group-count-at, value-count-at};
-ghost use Rattle.tables.specs.Entries.{Valid, entries-of, blank, is-group, is-multiple, format-at};
+ghost use Rattle.rules.specs.Record.{Record, times, each, stored-cell, group-count-at, value-count-at};
+ghost use Rattle.tables.specs.Entries.{Valid, entries-of, blank, is-group, is-multiple};
 ghost use Rattle.tables.specs.Places.{inside-at};
 ghost use Rattle.tables.specs.Groups.{group-end};
-ghost use Rattle.records.specs.Places.{Held, Holds, Entered, Cell-of, Contained, Value-of, Outside, Piece-of};
+ghost use Rattle.records.specs.Places.{Held, Holds, Entered, Cell-of, Outside, Piece-of};
 ghost use Rattle.records.specs.Walk.{directory, rest-of, Walked, Ends, start-of, occurrence};
 ghost use Rattle.records.specs.Paths.{Wide, Leads};
 ghost use Rattle.records.specs.Where.{fields-of};
@@ -22,7 +18,6 @@ use crate::DIRECTORY;
 use crate::behind;
 use crate::paths;
 use crate::paths::Path;
-use values::First;
 
 // The cell of a field in an occurrence: the place where it begins, or there is no such occurrence.
 pub enum Cell {
@@ -30,7 +25,7 @@ pub enum Cell {
     Nothing,
 }
 
-// The content of a value, without its length byte: from a place up to another, or there is no such value.
+// The piece of a record that some fields are: from a place up to another, or there is no such occurrence.
 pub enum Content {
     At(usize, usize),
     Nothing,
@@ -125,50 +120,6 @@ pub fn value_count(t: &[u8], b: &[u8], places: &[u16; DIRECTORY], i: usize, o: u
         Cell::At(p) => b[p],
         Cell::Nothing => 0,
     }
-}
-
-// The content of the value that stands at a place.
-fn content_at(b: &[u8], at: usize, size: usize) -> Content
-    requires { ⌜ at ≤ length (now b) ⌝ }
-    ensures { λ c. ⌜ ((f : Format) (v rest : Bytes) → allowed f size ≡ true → stored-value f size (drop at (now (b .entry))) ≡ done (v, rest) → Contained f size (now (b .entry)) v c) ⌝ }
-{
-    let first = values::first_value(b, at, size);
-    match first {
-        First::Refused(_) => Content::Nothing,
-        First::Value(from, upto) => Content::At(from, upto),
-    }
-}
-
-// Value k of the cell of an MU field.
-fn value_among(b: &[u8], cell: usize, format: usize, size: usize, k: usize) -> Content
-    requires { ⌜ (cell ≤ length (now b)) × (allowed (format-at format) size ≡ true) × (1 ≤ k) × Ends (rest-of (counted true (stored-value (format-at format) size) (drop cell (now b)))) ⌝ }
-    ensures { λ c. ⌜ ((vs : List Bytes) (rest : Bytes) → counted true (stored-value (format-at format) size) (drop cell (now (b .entry))) ≡ done (vs, rest) → Value-of (format-at format) size (now (b .entry)) vs k c) ⌝ }
-{
-    if (b[cell] as usize) < k {
-        return Content::Nothing;
-    }
-    content_at(b, behind::skip(b, cell + 1, k - 1, size), size)
-}
-
-// Value k of the cell that stands at a place.
-pub fn value_at(
-    b: &[u8],
-    cell: usize,
-    format: usize,
-    size: usize,
-    multiple: bool,
-    k: usize,
-) -> Content
-    requires { ⌜ (cell ≤ length (now b)) × (format < 5) × (allowed (format-at format) size ≡ true) × (1 ≤ k) × Ends (rest-of (counted multiple (stored-value (format-at format) size) (drop cell (now b)))) ⌝ }
-    ensures { λ c. ⌜ ((vs : List Bytes) (rest : Bytes) → counted multiple (stored-value (format-at format) size) (drop cell (now (b .entry))) ≡ done (vs, rest) → Value-of (format-at format) size (now (b .entry)) vs k c) ⌝ }
-{
-    if multiple {
-        return value_among(b, cell, format, size, k);
-    }
-    if 1 < k {
-        return Content::Nothing;
-    }
-    content_at(b, cell, size)
 }
 
 // The place behind the parts of the entries before entry i.
