@@ -22,7 +22,7 @@ use Rattle.formats.specs.declared.Element.{Element}
 use Rattle.formats.specs.declared.syntax.Step.the-variants as step
 use Rattle.formats.proofs.StepLaws.{elements-parsed, elements-long, behind-last, behind-more}
 use Rattle.records.specs.Places.{Held, Holds}
-use Rattle.uses.specs.Meant.{Remembers, uses-of}
+use Rattle.uses.specs.Meant.{indexes-kept, Remembers, uses-of}
 use Rattle.uses.proofs.Testing.{no-index, zeros}
 use Rattle.reading.specs.Filling.{Filling, Going}
 use Rattle.reading.specs.Turns.{place-of, answer-of, left-of, Puts, Scans}
@@ -60,10 +60,10 @@ pub scan-as-answer : {es : List Entry} {b : Bytes} {places : List ℕ} (f : Byte
 scan-as-answer {es} {b} {places} f end {write} {out₀} {out} e h = subst (λ (k : Next). Scans es b places f end write out₀ out k) (sym e) h
 
 module _ {es : List Entry} {b : Bytes} {places : List ℕ} {f : Bytes} {end : ℕ} {write : Bool} {out₀ : Bytes} where
-  pub scan-start : length f ≤ longest-format → Scanning es b places f end write out₀ (replicate 64 0) (parsed (drop 0 f)) (At 0) out₀
+  pub scan-start : length f ≤ longest-format → Scanning es b places f end write out₀ (replicate indexes-kept 0) (parsed (drop 0 f)) (At 0) out₀
   scan-start s = record {
     indexes = [];
-    remembers = λ i k. zeros 64 i ∙ sym (no-index (getD es i _ .name));
+    remembers = λ i k. zeros indexes-kept i ∙ sym (no-index (getD es i _ .name));
     fits = omega arith;
     same = refl;
     going = λ r p. subst (λ (o : Outcome Bytes). Going (whole es f r end) o 0 0 write out₀ out₀) (whole-left es f r end s) (going-start (whole es f r end) 0 write out₀);

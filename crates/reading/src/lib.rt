@@ -19,7 +19,7 @@ ghost use Rattle.tables.specs.Entries.{Valid, entries-of};
 ghost use Rattle.tables.specs.Places.{inside-at};
 ghost use Rattle.tables.specs.Groups.{field-at};
 ghost use Rattle.formats.specs.Elements.{sound};
-ghost use Rattle.uses.specs.Meant.{Span-held, Use-held, fields-from, use-meant};
+ghost use Rattle.uses.specs.Meant.{Span-held, Use-held, fields-from, use-meant, indexes-kept};
 ghost use Rattle.records.specs.Where.{fields-of};
 ghost use Rattle.records.specs.Paths.{Wide};
 ghost use Rattle.records.specs.Places.{Held, Holds, Piece-of};
@@ -637,13 +637,13 @@ fn put_element(
     places: &[u16; records::DIRECTORY],
     f: &[u8],
     e: Element,
-    last: &mut [u8; 64],
+    last: &mut [u8; uses::INDEXES],
     state: Standing,
     out: &mut [u8],
     end: usize,
     write: bool,
 ) -> Standing
-    requires { ⌜ Valid (now t) × sound (now f) e × (length (now last) ≡ 64) × Holds (entries-of (now t)) (now b) (now places) × (place-of state ≤ end) × (end ≤ length (now out)) ⌝ }
+    requires { ⌜ Valid (now t) × sound (now f) e × (length (now last) ≡ indexes-kept) × Holds (entries-of (now t)) (now b) (now places) × (place-of state ≤ end) × (end ≤ length (now out)) ⌝ }
     ensures { λ r. ⌜ Puts (entries-of (now (t .entry))) (now (b .entry)) (now (places .entry)) (now (f .entry)) end write e (now (last .entry)) (now (last .exit)) state (now (out .entry)) (now (out .exit)) r ⌝ }
 {
     if is_unused(state) {
@@ -679,7 +679,7 @@ pub fn scan(
     if rules::LONGEST_FORMAT < f.len() {
         return Next::Refused(3);
     }
-    let mut last = [0u8; 64];
+    let mut last = [0u8; uses::INDEXES];
     let mut state = Standing::At(0);
     let mut at = 0;
     loop {

@@ -373,6 +373,21 @@ pub fn find(t: &[u8], name: u16) -> Found
     Found::Nothing
 }
 
+// The entry that has a name: the one given, where it has it, else the one that is found from the first on.
+pub fn find_near(t: &[u8], near: usize, name: u16) -> Found
+    requires { ⌜ Valid (now t) ⌝ }
+    ensures { λ r. ⌜ Finds name (entries-of (now (t .entry))) r ⌝ }
+{
+    if near < count(t) {
+        let a = (name / 256) as u8;
+        let b = (name % 256) as u8;
+        if named_in(t, near, a, b) {
+            return Found::At(near);
+        }
+    }
+    find(t, name)
+}
+
 // The number behind the members of entry i.
 pub fn group_end(t: &[u8], i: usize) -> usize
     requires { ⌜ Valid (now t) × (i < length (entries-of (now t))) ⌝ }

@@ -20,7 +20,7 @@ use Rattle.formats.specs.declared.Element.{Element}
 use Rattle.formats.specs.declared.syntax.Step.{Step}
 use Rattle.formats.specs.declared.syntax.Step.the-variants as step
 use Rattle.formats.proofs.StepLaws.{behind-last, behind-more}
-use Rattle.uses.specs.Meant.{use-meant, Means, Remembered, uses-of}
+use Rattle.uses.specs.Meant.{use-meant, Means, indexes-kept, Remembered, uses-of}
 use Rattle.uses.specs.Ahead.{Ahead, Nexts}
 use Rattle.uses.specs.declared.Use.{Use}
 use Rattle.uses.specs.declared.Meant.{Meant}
@@ -107,12 +107,12 @@ module _ {es : List Entry} {f : Bytes} {at : ℕ} {before : List ℕ} where
     }
 
 -- The uses of all elements, before any index.
-pub uses-all : {es : List Entry} {f : Bytes} {us : List Meaning} → uses-of es f ≡ done us → Ahead es f (replicate 64 0) 0 us
+pub uses-all : {es : List Entry} {f : Bytes} {us : List Meaning} → uses-of es f ≡ done us → Ahead es f (replicate indexes-kept 0) 0 us
 unfolding uses-of
 uses-all {es} {f} e = from-bind (elements f) _ e λ xs p q. record {
   indexes = [];
   left = xs;
-  remembers = λ i h. zeros 64 i ∙ sym (no-index (getD es i _ .name));
+  remembers = λ i h. zeros indexes-kept i ∙ sym (no-index (getD es i _ .name));
   parsed = parsed-all f xs p;
   meant = q;
 }

@@ -2,7 +2,8 @@
 use mathlib.Core.Path.{_≡_, refl, sym, ap, _∙_}
 use mathlib.Core.Bool.{Bool, true, false}
 use mathlib.Core.List.{List, [], _∷_, map}
-use Prim.Native.Nat.{ℕ, _<_}
+use Prim.Native.Nat.{ℕ, _<_, _≤_}
+use native.Mathlib.Omega.{arith}
 use borrow.Author.Tests.{eqb-true, eqb-false}
 use lib.Dec.{eqb}
 use lib.ListN.{length, getD, set, length-set}
@@ -84,6 +85,14 @@ module _ (es : List Entry) (s : Span) (last : List ℕ) where
     same = simp length-set;
     indexes = λ f ls r. rw (one-mark es s (s .«value_upto») (s .standard) q m) (remembers-set es last (s .first) (s .«value_upto») h u ls r);
   }
+
+-- What is kept behind the index of the last entry is no entry's index.
+pub behind-remembered : (es : List Entry) (u : Use) (last after : List ℕ) (n v : ℕ) → length es ≤ n
+    → Remembered es u (set last n v) after → Remembered es u last after
+behind-remembered es u last after n v h r = record {
+  same = r .same ∙ length-set last n v;
+  indexes = λ f ls k. r .indexes f ls (λ j q. getD-set-other last n j v 0 (λ e. omega arith) ∙ k j q);
+}
 
 -- Blanks, text and counts leave the indexes as they are.
 pub others-remembered : (es : List Entry) (u : Use) (last : List ℕ) → ((f : Bytes) (ls : Indexes) → indexes-after (use-meant es f u) ls ≡ ls)

@@ -15,7 +15,7 @@ use Rattle.rules.specs.Use.{Use as Meaning}
 use Rattle.rules.specs.Update.{name-alike, named-twice}
 use Rattle.rules.proofs.Steps.{from-bind, from-need}
 use Rattle.tables.proofs.Bools.{or-false, or-true}
-use Rattle.uses.specs.Meant.{use-meant, uses-of}
+use Rattle.uses.specs.Meant.{use-meant, indexes-kept, uses-of}
 use Rattle.uses.specs.Ahead.{Ahead, Nexts}
 use Rattle.uses.specs.Twice.{met-before, Ends, Met, Keeps, Named-twice}
 use Rattle.uses.specs.declared.Use.{Use}
@@ -70,15 +70,15 @@ module _ (m : Meaning → Bool) where
 -- A place of a format, with the spans kept of the elements before it, none of which meet: those that are left tell the answer.
 pub record Seen (es : List Entry) (f : Bytes) (kept last : List ℕ) (at count : ℕ) : Type 0 where
   pub place : at ≤ length f
-  pub indexes : length last ≡ 64
+  pub indexes : length last ≡ indexes-kept
   pub fewer : count ≤ at
   pub room : 6 * length f ≤ length kept
   pub ends : Ends es kept count
-  pub left : (us : List Meaning) → Ahead es f (replicate 64 0) 0 us
+  pub left : (us : List Meaning) → Ahead es f (replicate indexes-kept 0) 0 us
       → (vs : List Meaning) × Ahead es f last at vs × (twice-after (met-before es kept count) vs ≡ named-twice us)
 
 module _ {es : List Entry} {f : Bytes} {kept : List ℕ} where
-  pub seen-start : 6 * length f ≤ length kept → Seen es f kept (replicate 64 0) 0 0
+  pub seen-start : 6 * length f ≤ length kept → Seen es f kept (replicate indexes-kept 0) 0 0
   seen-start h = record {
     place = omega arith;
     indexes = refl;

@@ -21,7 +21,7 @@ use Rattle.formats.specs.Syntax.{parsed, before, behind, by-step}
 use Rattle.formats.specs.declared.Element.{Element}
 use Rattle.formats.specs.declared.syntax.Step.the-variants.{At, Bad}
 use Rattle.formats.proofs.StepLaws.{behind-last, behind-more}
-use Rattle.uses.specs.Meant.{use-meant, Means, Remembers, Remembered, Tested, uses-of, Use-held, Span-known}
+use Rattle.uses.specs.Meant.{use-meant, Means, indexes-kept, Remembers, Remembered, Tested, uses-of, Use-held, Span-known}
 use Rattle.uses.specs.declared.Use.{Use}
 use Rattle.uses.specs.declared.Use.the-variants as code
 use Rattle.uses.specs.declared.Meant.the-variants as meant
@@ -74,12 +74,12 @@ unfolding elements parsed
 parsed-all f xs e = from-need (leb (length f) longest-format) 3 _ e λ t k. k
 
 module _ (es : List Entry) (f : Bytes) where
-  pub testing-start : is-done (elements f) ≡ true → Testing es f (replicate 64 0) 0
+  pub testing-start : is-done (elements f) ≡ true → Testing es f (replicate indexes-kept 0) 0
   testing-start d = from-is-done (elements f) d λ xs e. record {
     indexes = [];
     left = xs;
     parsed = parsed-all f xs e;
-    remembers = λ i h. zeros 64 i ∙ sym (no-index (getD es i _ .name));
+    remembers = λ i h. zeros indexes-kept i ∙ sym (no-index (getD es i _ .name));
     rest = λ r t. rw (uses-all es f xs e) t;
   }
 

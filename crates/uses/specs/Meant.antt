@@ -7,7 +7,7 @@ use Prim.Native.Nat.{ℕ, suc, _-_, _+_, _<_, _≤_}
 use lib.Dec.{ltb}
 use lib.ListN.{length, take, drop, getD}
 use Rattle.rules.specs.Outcome.{Outcome, done, refused, _>>=_, need}
-use Rattle.rules.specs.Limits.{highest-index, longest-text}
+use Rattle.rules.specs.Limits.{most-entries, highest-index, longest-text}
 use Rattle.rules.specs.Lists.{Bytes, all, filter}
 use Rattle.rules.specs.Values.{Format, allowed, converts}
 use Rattle.rules.specs.Table.{Field, Entry, group}
@@ -201,6 +201,10 @@ field-span i r format size = record {
   size = size;
   bare = r .bare;
 }
+
+-- How many numbers are kept: an index for each entry, and behind them where the next name is looked for first.
+abbrev pub indexes-kept : ℕ
+indexes-kept = most-entries + 1
 
 -- The last index so far of each entry.
 abbrev pub Remembers : List Entry → List ℕ → Indexes → Type 0

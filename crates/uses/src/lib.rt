@@ -15,8 +15,14 @@ ghost use Rattle.rules.specs.Format.{elements};
 ghost use Rattle.rules.specs.Use.{in-order, spread};
 ghost use Rattle.tables.specs.Entries.{letter-number, Valid, entries-of, blank, is-group, is-multiple};
 ghost use Rattle.formats.specs.Elements.{range};
-ghost use Rattle.uses.specs.Meant.{occurrences, bracket, spread-of, ranged, Spread-inside, Format-in-effect, Length-in-effect, Asks, Settles, field-use, group-use, count-use, series-use, stored-span, field-span, Means, Name-means, Count-means, Series-means, Span-held, Span-known, Remembered, Tested, uses-of};
+ghost use Rattle.uses.specs.Meant.{occurrences, bracket, spread-of, ranged, Spread-inside, Format-in-effect, Length-in-effect, Asks, Settles, field-use, group-use, count-use, series-use, stored-span, field-span, Means, Name-means, Count-means, Series-means, Span-held, Span-known, indexes-kept, Remembered, Tested, uses-of};
 ghost use Rattle.uses.specs.Ahead.{Nexts};
+
+// The place of the number behind the entry that was named last: the next name is looked for at that number first.
+pub const NEAR: usize = rules::MOST_ENTRIES;
+
+// How many numbers are kept along a format: the last index so far of each entry, and behind them the one at NEAR.
+pub const INDEXES: usize = NEAR + 1;
 
 // Occurrences: of the fields among the entries from first up to end, those from-upto and in each the values value_from-value_upto.
 // Each field is at its own format and length where standard holds; else first is the one field, at the format and the size in effect.
@@ -366,12 +372,13 @@ fn use_of_series(t: &[u8], i: usize, j: usize) -> Meant
     Meant::Refused(5)
 }
 
-// A name, behind the last index so far of each entry.
-fn use_of_name(t: &[u8], last: &[u8; 64], n: Named) -> Meant
+// A name, behind the last index so far of each entry. A format mostly names fields in table order, so the entry behind the one that was
+// named last is tried first.
+fn use_of_name(t: &[u8], last: &[u8; INDEXES], n: Named) -> Meant
     requires { ⌜ Valid (now t) ⌝ }
     ensures { λ r. ⌜ Name-means (entries-of (now (t .entry))) (now (last .entry)) n r ⌝ }
 {
-    let found = tables::find(t, n.name);
+    let found = tables::find_near(t, byte(last[NEAR]), n.name);
     match found {
         Found::At(i) => {
             if tables::group_at(t, i) {
@@ -410,7 +417,7 @@ fn use_of_names(t: &[u8], from: u16, upto: u16) -> Meant
 }
 
 // What an element means.
-pub fn use_of(t: &[u8], last: &[u8; 64], e: Element) -> Meant
+pub fn use_of(t: &[u8], last: &[u8; INDEXES], e: Element) -> Meant
     requires { ⌜ Valid (now t) ⌝ }
     ensures { λ r. ⌜ Means (entries-of (now (t .entry))) (now (last .entry)) e r ⌝ }
 {
@@ -423,11 +430,12 @@ pub fn use_of(t: &[u8], last: &[u8; 64], e: Element) -> Meant
     }
 }
 
-// Keeps the last index of the MU field of a span.
-fn remember_span(t: &[u8], last: &mut [u8; 64], s: Span)
-    requires { ⌜ Valid (now t) × Span-held (entries-of (now t)) s × (length (now last) ≡ 64) ⌝ }
+// Keeps the number behind the entries of a span, and the last index of its MU field.
+fn remember_span(t: &[u8], last: &mut [u8; INDEXES], s: Span)
+    requires { ⌜ Valid (now t) × Span-held (entries-of (now t)) s × (length (now last) ≡ indexes-kept) ⌝ }
     ensures { λ _. ⌜ Remembered (entries-of (now (t .entry))) (Use.Values s) (now (last .entry)) (now (last .exit)) ⌝ }
 {
+    last[NEAR] = s.end as u8;
     if s.standard {
         return;
     }
@@ -438,9 +446,9 @@ fn remember_span(t: &[u8], last: &mut [u8; 64], s: Span)
     }
 }
 
-// Keeps the last index so far of each MU field, behind what an element meant.
-pub fn remember(t: &[u8], last: &mut [u8; 64], u: Use)
-    requires { ⌜ Valid (now t) × Span-known (entries-of (now t)) u × (length (now last) ≡ 64) ⌝ }
+// Keeps the last index so far of each MU field, and where the next name is looked for first, behind what an element meant.
+pub fn remember(t: &[u8], last: &mut [u8; INDEXES], u: Use)
+    requires { ⌜ Valid (now t) × Span-known (entries-of (now t)) u × (length (now last) ≡ indexes-kept) ⌝ }
     ensures { λ _. ⌜ Remembered (entries-of (now (t .entry))) u (now (last .entry)) (now (last .exit)) ⌝ }
 {
     match u {
@@ -463,8 +471,8 @@ pub fn remember(t: &[u8], last: &mut [u8; 64], u: Use)
 }
 
 // The use of the element at a place, behind the last indexes so far, which it adds to.
-pub fn next_use(t: &[u8], f: &[u8], at: usize, last: &mut [u8; 64]) -> Next
-    requires { ⌜ Valid (now t) × (at ≤ length (now f)) × (length (now last) ≡ 64) ⌝ }
+pub fn next_use(t: &[u8], f: &[u8], at: usize, last: &mut [u8; INDEXES]) -> Next
+    requires { ⌜ Valid (now t) × (at ≤ length (now f)) × (length (now last) ≡ indexes-kept) ⌝ }
     ensures { λ r. ⌜ Nexts (entries-of (now (t .entry))) (now (f .entry)) at (now (last .entry)) (now (last .exit)) r ⌝ }
 {
     match formats::syntax::next(f, at) {
@@ -487,7 +495,7 @@ pub fn test(t: &[u8], f: &[u8]) -> u8
     requires { ⌜ Valid (now t) × (is-done (elements (now f)) ≡ true) ⌝ }
     ensures { λ r. ⌜ Tested (uses-of (entries-of (now (t .entry))) (now (f .entry))) r ⌝ }
 {
-    let mut last = [0u8; 64];
+    let mut last = [0u8; INDEXES];
     let mut at = 0;
     loop {
         match formats::syntax::next(f, at) {

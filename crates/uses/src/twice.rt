@@ -1,5 +1,6 @@
 // Refusal 6: whether two elements of a format name an occurrence in common. Six numbers are kept of each element that names any: its
 // entries, its occurrences and its values, each from and up to. So an element is read once, and compared with all that are kept.
+use super::INDEXES;
 use super::Next;
 use super::Span;
 use super::Use;
@@ -137,7 +138,7 @@ fn named_twice_by(t: &[u8], f: &[u8], kept: &mut [u8]) -> bool
     requires { ⌜ Valid (now t) × (6 * length (now f) ≤ length (now kept)) ⌝ }
     ensures { λ r. ⌜ Named-twice (entries-of (now (t .entry))) (now (f .entry)) r ⌝ }
 {
-    let mut last = [0u8; 64];
+    let mut last = [0u8; INDEXES];
     let mut at = 0;
     let mut count = 0;
     loop {

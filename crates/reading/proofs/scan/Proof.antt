@@ -5,6 +5,7 @@ use native.Mathlib.Omega.{arith}
 use lib.ListN.{length, drop}
 use Rattle.formats.specs.Syntax.{parsed}
 use Rattle.tables.specs.Entries.{entries-of}
+use Rattle.uses.specs.Meant.{indexes-kept}
 use Rattle.uses.proofs.Ahead.{step-as}
 use Rattle.reading.proofs.Scanning.{Scanning, scan-long, scan-start, scan-bad, scan-last, scan-more, scan-as-answer}
 use borrow.Author.Needs.{needs}
@@ -13,7 +14,7 @@ use Rattle.reading.proofs.scan.Tie as tie
 
 abbrev Inv-loop : tie.InvT-loop
 Inv-loop t b places f out₀ end write last₀ state₀ at₀ out last state at =
-    (at ≤ length f) × (length last ≡ 64) × Scanning (entries-of t) b places f end write out₀ last (parsed (drop at f)) state out
+    (at ≤ length f) × (length last ≡ indexes-kept) × Scanning (entries-of t) b places f end write out₀ last (parsed (drop at f)) state out
 
 abbrev μ-loop : tie.MeasureT-loop
 μ-loop t b places f out₀ end write last₀ state₀ at₀ out last state at = length f - at

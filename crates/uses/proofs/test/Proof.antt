@@ -4,6 +4,7 @@ use Prim.Native.Nat.{_≤_, _-_}
 use native.Mathlib.Omega.{arith}
 use lib.ListN.{length}
 use Rattle.tables.specs.Entries.{entries-of}
+use Rattle.uses.specs.Meant.{indexes-kept}
 use Rattle.uses.proofs.Testing.{Testing, testing-start, testing-bad, testing-last, testing-refused, testing-more, span-known}
 use Rattle.uses.proofs.Ahead.{step-as, means-as}
 use borrow.Author.Needs.{needs}
@@ -11,7 +12,7 @@ use Rattle.uses.proofs.test.Statement.{statement}
 use Rattle.uses.proofs.test.Tie as tie
 
 abbrev Inv-loop : tie.InvT-loop
-Inv-loop t f last₀ at₀ last at = (at ≤ length f) × (length last ≡ 64) × Testing (entries-of t) f last at
+Inv-loop t f last₀ at₀ last at = (at ≤ length f) × (length last ≡ indexes-kept) × Testing (entries-of t) f last at
 
 abbrev μ-loop : tie.MeasureT-loop
 μ-loop t f last₀ at₀ last at = length f - at

@@ -12,68 +12,76 @@ use Rattle.uses.proofs.use_of_name.Statement.{statement}
 use Rattle.uses.proofs.use_of_name.Tie as tie
 
 -- The entry that was found.
-found-at-entry : (c : tie.After-found) → (let a = c .before .before .before .before .args in Finds (a .n .name) (entries-of (a .t .now)) (At (c .found .given .0 .0)))
+found-at-entry : (c : tie.After-found) → (let a = c .before .before .before .before .before .before .args in Finds (a .n .name) (entries-of (a .t .now)) (At (c .found .given .0 .0)))
 found-at-entry c =
-    let a = c .before .before .before .before .args in
-    subst (Finds (a .n .name) (entries-of (a .t .now))) (c .found .given .1) (c .before .before .find .ensures)
+    let a = c .before .before .before .before .before .before .args in
+    subst (Finds (a .n .name) (entries-of (a .t .now))) (c .found .given .1) (c .before .before .find-near .ensures)
 
-find-requires : tie.Need-find-requires
-find-requires c κs = search needs
+element-copy-out-byte : tie.Need-element-copy-out-byte
+element-copy-out-byte c = search needs
+
+byte-requires : tie.Need-byte-requires
+byte-requires c κs = search needs
+
+find-near-requires : tie.Need-find-near-requires
+find-near-requires c κs = search needs
 
 enum-known-found : tie.Need-enum-known-found
 enum-known-found c = search needs
 
 group-at-requires : tie.Need-group-at-requires
-group-at-requires c κs = (c .before .before .before .before .before .pre, found-at-entry (c .before) .0)
+group-at-requires c κs = (c .before .before .before .before .before .before .before .pre, found-at-entry (c .before) .0)
 
 use-of-group-requires : tie.Need-use-of-group-requires
-use-of-group-requires c κs = (c .before .before .before .before .before .before .before .pre, found-at-entry (c .before .before .before) .0, sym (c .before .group-at .ensures) ∙ c .if1 .taken)
+use-of-group-requires c κs = (c .before .before .before .before .before .before .before .before .before .pre, found-at-entry (c .before .before .before) .0, sym (c .before .group-at .ensures) ∙ c .if1 .taken)
 
 returns : tie.Need-returns
 returns c =
-    let s = c .before .before .before .before .before .before .before .before in
+    let s = c .before .before .before .before .before .before .before .before .before .before in
     name-group (entries-of (s .args .t .now)) _ (s .args .n) _ (found-at-entry (c .before .before .before .before) .1) _
     (sym (c .before .before .group-at .ensures) ∙ c .before .if1 .taken) (c .use-of-group .ensures)
 
-element-copy-out-byte : tie.Need-element-copy-out-byte
-element-copy-out-byte c =
-    let s = c .before .before .before .before .before .before .before in
+element-copy-out-byte-2 : tie.Need-element-copy-out-byte-2
+element-copy-out-byte-2 c =
+    let s = c .before .before .before .before .before .before .before .before .before in
     omega (arith, found-at-entry (c .before .before .before) .0, valid-most (s .args .t .now) (s .pre))
 
-byte-requires : tie.Need-byte-requires
-byte-requires c κs = search needs
+byte-requires-2 : tie.Need-byte-requires-2
+byte-requires-2 c κs = search needs
 
 use-of-field-requires : tie.Need-use-of-field-requires
 use-of-field-requires c κs =
-    let s = c .before .before .before .before .before .before .before .before .before in
-    (s .pre, found-at-entry (c .before .before .before .before .before) .0, sym (c .before .before .before .group-at .ensures) ∙ c .before .before .if1 .left, c .byte .ensures .1)
+    let s = c .before .before .before .before .before .before .before .before .before .before .before in
+    (s .pre, found-at-entry (c .before .before .before .before .before) .0, sym (c .before .before .before .group-at .ensures) ∙ c .before .before .if1 .left, c .byte2 .ensures .1)
 
 enum-told : tie.Need-enum-told
 enum-told c = search needs
 
 returns-2 : tie.Need-returns-2
 returns-2 c =
-    let s = c .before .before .before .before .before .before .before .before .before .before in
+    let s = c .before .before .before .before .before .before .before .before .before .before .before .before in
     name-field (entries-of (s .args .t .now)) (s .args .last .now) (s .args .n) _ (found-at-entry (c .before .before .before .before .before .before) .1) _ (found-at-entry (c .before .before .before .before .before .before) .0)
     (sym (c .before .before .before .before .group-at .ensures) ∙ c .before .before .before .if1 .left)
-    (subst (λ k. Settles (entries-of (s .args .t .now)) (field-use (entries-of (s .args .t .now)) (c .before .before .before .before .before .before .found .given .0 .0) k (s .args .n)) (c .use-of-field .result)) (c .before .byte .ensures .0) (c .use-of-field .ensures))
+    (subst (λ k. Settles (entries-of (s .args .t .now)) (field-use (entries-of (s .args .t .now)) (c .before .before .before .before .before .before .found .given .0 .0) k (s .args .n)) (c .use-of-field .result)) (c .before .byte2 .ensures .0) (c .use-of-field .ensures))
 
 returns-3 : tie.Need-returns-3
 returns-3 c =
-    let s = c .before .before .before .before in
-    name-nothing (entries-of (s .args .t .now)) _ (s .args .n) (subst (Finds (s .args .n .name) (entries-of (s .args .t .now))) (c .enum-told .given .1) (c .before .before .find .ensures))
+    let s = c .before .before .before .before .before .before in
+    name-nothing (entries-of (s .args .t .now)) _ (s .args .n) (subst (Finds (s .args .n .name) (entries-of (s .args .t .now))) (c .enum-told .given .1) (c .before .before .find-near .ensures))
 
 pub use-of-name-spec : {M : Type 1} → statement M
 use-of-name-spec =
     tie.close
     (tie.spec
-    find-requires
+    element-copy-out-byte
+    byte-requires
+    find-near-requires
     enum-known-found
     group-at-requires
     use-of-group-requires
     returns
-    element-copy-out-byte
-    byte-requires
+    element-copy-out-byte-2
+    byte-requires-2
     use-of-field-requires
     enum-told
     returns-2
