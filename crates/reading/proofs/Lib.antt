@@ -14,3 +14,4 @@ pub mod Turns
 pub mod Unbare
 pub mod Values
 pub mod Pieces
+pub mod Rows
