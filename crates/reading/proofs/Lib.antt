@@ -16,3 +16,4 @@ pub mod Unbare
 pub mod Values
 pub mod Nulls
 pub mod Pieces
+pub mod Rows

@@ -81,3 +81,8 @@ filled-one ps r room x = filled-together ps r (x ∷ []) room ∙ together-one r
 pub run-same : {es : List Entry} {b : Bytes} {places : List ℕ} {end : ℕ} {whole rest : List Item} {start at : ℕ} {write : Bool} {out₀ out : Bytes}
     → Running es b places end whole rest start at write out₀ out → length out ≡ length out₀
 run-same g = g .going (g .holds .0) (g .holds .1) .same
+
+-- No item: nothing changes.
+pub fills-none : (es : List Entry) (b : Bytes) (places : List ℕ) {xs : List Item} → xs ≡ [] → (at end : ℕ) (write : Bool) {out : Bytes} → Holds es b places → at ≤ end → end ≤ length out
+    → Fills es b places xs at end write out out (At at)
+fills-none es b places {xs} none at end write {out} k h l = run-end (run-start es b places end xs at write out k h l) none

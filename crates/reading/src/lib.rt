@@ -2,7 +2,7 @@
 ghost use mathlib.Core.Path.{_≡_};
 ghost use mathlib.Core.List.{_∷_, [], List, map};
 ghost use mathlib.Core.Bool.{true, false};
-ghost use Prim.Native.Nat.{_+_, _-_, _≤_, _<_};
+ghost use Prim.Native.Nat.{_+_, _-_, _≤_, _<_, min};
 ghost use lib.ListN.{length, replicate, take, drop};
 ghost use lib.Seq.{slice};
 ghost use Rattle.rules.specs.Outcome.{done, is-done};
@@ -21,10 +21,11 @@ ghost use Rattle.tables.specs.Groups.{field-at};
 ghost use Rattle.formats.specs.Elements.{sound};
 ghost use Rattle.uses.specs.Meant.{Span-held, Use-held, fields-from, use-meant, indexes-kept};
 ghost use Rattle.records.specs.Where.{fields-of};
-ghost use Rattle.records.specs.Paths.{Wide};
+ghost use Rattle.records.specs.Paths.{Wide, Leads};
 ghost use Rattle.records.specs.Places.{Held, Holds, Piece-of};
 ghost use Rattle.reading.specs.Filling.{Filling, within};
 ghost use Rattle.reading.specs.Runs.{Fills, together, Wants, carried-to, wanted, Stand, Exist, wanted-at, Cell-holds, Numbered, nulls-of, Way, row-items, span-items};
+ghost use Rattle.reading.specs.Rows.{rows-items, Adjoin};
 ghost use Rattle.reading.specs.Turns.{place-of, answer-of, standing-of, unused, Puts, Scans};
 ghost use Rattle.records.specs.declared.places.Cell.the-variants.{At};
 use formats::Element;
@@ -481,7 +482,69 @@ fn put_row(
     }
 }
 
-// A span of fields as they are stored, occurrence by occurrence; the way to them is found once.
+// How many of the occurrences from one up to another exist, where there are so many.
+fn rows_existing(count: usize, from: usize, upto: usize) -> usize
+    requires { ⌜ (from ≤ upto) × (upto ≤ highest-index) ⌝ }
+    ensures { λ n. ⌜ n ≡ min count upto + 1 - from ⌝ }
+{
+    if count < from {
+        return 0;
+    }
+    if count < upto {
+        return count + 1 - from;
+    }
+    upto + 1 - from
+}
+
+// How many occurrences of a span stand one behind the other, from its first on: those that exist, where the span is the whole of a
+// periodic group.
+fn rows_together(
+    t: &[u8],
+    b: &[u8],
+    places: &[u16; records::DIRECTORY],
+    s: Span,
+    path: Path,
+) -> usize
+    requires { ⌜ Valid (now t) × Span-held (entries-of (now t)) s × (path .entry ≡ s .first) × Leads (entries-of (now t)) path × Holds (entries-of (now t)) (now b) (now places) ⌝ }
+    ensures { λ n. ⌜ Adjoin (entries-of (now (t .entry))) (now (b .entry)) (now (places .entry)) s path n ⌝ }
+{
+    if path.inside {
+        if s.first == path.group + 1 {
+            if s.end == tables::group_end(t, path.group) {
+                let count = records::places::group_count(t, b, places, path.group);
+                return rows_existing(count as usize, s.from, s.upto);
+            }
+        }
+    }
+    0
+}
+
+// The first n occurrences of a span of fields as they are stored, which stand so: copied in one piece.
+fn put_together(
+    t: &[u8],
+    b: &[u8],
+    places: &[u16; records::DIRECTORY],
+    s: Span,
+    path: Path,
+    width: usize,
+    n: usize,
+    out: &mut [u8],
+    at: usize,
+    end: usize,
+    write: bool,
+) -> Next
+    requires { ⌜ Valid (now t) × Span-held (entries-of (now t)) s × (s .standard ≡ true) × Way (entries-of (now t)) s path width × Adjoin (entries-of (now t)) (now b) (now places) s path n × Holds (entries-of (now t)) (now b) (now places) × (at ≤ end) × (end ≤ length (now out)) ⌝ }
+    ensures { λ r. ⌜ Fills (entries-of (now (t .entry))) (now (b .entry)) (now (places .entry)) (rows-items (entries-of (now (t .entry))) s (s .from) (s .from + n - 1)) at end write (now (out .entry)) (now (out .exit)) r ⌝ }
+{
+    if n == 0 {
+        return Next::At(at);
+    }
+    let from = records::places::rows_inside(t, b, places, path.group, width, s.from, n);
+    let upto = from + n * width;
+    put_text(&b[from..upto], out, at, end, write)
+}
+
+// A span of fields as they are stored: the occurrences that stand together first, then one by one; the way to them is found once.
 fn put_rows(
     t: &[u8],
     b: &[u8],
@@ -497,13 +560,18 @@ fn put_rows(
 {
     let path = records::paths::path_to(t, s.first);
     let width = width(t, s);
-    let mut p = at;
-    let mut o = s.from;
+    let n = rows_together(t, b, places, s, path);
+    let first = put_together(t, b, places, s, path, width, n, out, at, end, write);
+    let Next::At(start) = first else {
+        return first;
+    };
+    let mut p = start;
+    let mut o = s.from + n;
     while o <= s.upto {
         let next = put_row(t, b, places, s, path, width, o, out, p, end, write);
         match next {
-            Next::Refused(n) => {
-                return Next::Refused(n);
+            Next::Refused(k) => {
+                return Next::Refused(k);
             }
             Next::At(place) => {
                 p = place;

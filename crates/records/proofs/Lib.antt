@@ -20,3 +20,4 @@ pub mod Skips
 pub mod Widths
 pub mod Pieces
 pub mod Strips
+pub mod Rows

@@ -2,16 +2,16 @@
 use mathlib.Core.Path.{_≡_}
 use mathlib.Core.Bool.{true, false}
 use mathlib.Core.List.{List, [], _∷_, _++_}
-use Prim.Native.Nat.{ℕ, _+_, _-_, _≤_, _<_}
+use Prim.Native.Nat.{ℕ, _+_, _*_, _-_, _≤_, _<_}
 use lib.ListN.{length, take, drop, getD}
 use lib.Seq.{slice}
 use Rattle.rules.specs.Outcome.{done}
-use Rattle.rules.specs.Lists.{Bytes, join}
+use Rattle.rules.specs.Lists.{Bytes, join, run}
 use Rattle.rules.specs.Values.{Format, content, allowed}
 use Rattle.rules.specs.Table.{Entry, Field, parts}
 use Rattle.rules.specs.Record.{Record, times, each, stored-cell, stored, group-count-at, values-at}
 use Rattle.tables.specs.Entries.{blank, is-group, is-multiple}
-use Rattle.tables.specs.Groups.{field-at}
+use Rattle.tables.specs.Groups.{group-end, field-at}
 use Rattle.tables.specs.Places.{inside-at}
 use Rattle.records.specs.Walk.{rest-of, Walked, occurrence, Starts, Rows}
 use Rattle.records.specs.Where.{fields-of}
@@ -77,3 +77,9 @@ abbrev pub Piece-of : List Entry → Bytes → ℕ → ℕ → ℕ → Record �
 Piece-of es b first end o r (Lies from upto) =
     (from ≤ upto) × (upto ≤ length b) × (take (upto - from) (drop from b) ≡ values-of es r o (fields-of (slice first end es))) × Celled es first end o r
 Piece-of es b first end o r Absent = (inside-at es first ≡ true) × Valueless es first end o r
+
+-- n occurrences of the periodic group that entry g is, from occurrence o on, stand one behind the other from a place on, each so many bytes wide.
+pub record Rows-of (es : List Entry) (b : Bytes) (g o n width : ℕ) (r : Record) (from : ℕ) : Type 0 where
+  pub inside : from + n * width ≤ length b
+  pub bytes : take (n * width) (drop from b) ≡ join (run (λ k. values-of es r k (fields-of (slice (g + 1) (group-end es g) es))) o n)
+  pub cells : (k : ℕ) → o ≤ k → k < o + n → Celled es (g + 1) (group-end es g) k r

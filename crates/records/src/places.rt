@@ -9,7 +9,7 @@ ghost use Rattle.rules.specs.Record.{Record, times, each, stored-cell, group-co
 ghost use Rattle.tables.specs.Entries.{Valid, entries-of, blank, is-group, is-multiple};
 ghost use Rattle.tables.specs.Places.{inside-at};
 ghost use Rattle.tables.specs.Groups.{group-end};
-ghost use Rattle.records.specs.Places.{Held, Holds, Entered, Cell-of, Outside, Piece-of};
+ghost use Rattle.records.specs.Places.{Held, Holds, Entered, Cell-of, Outside, Piece-of, Rows-of};
 ghost use Rattle.records.specs.Walk.{directory, rest-of, Walked, Ends, start-of, occurrence};
 ghost use Rattle.records.specs.Paths.{Wide, Leads};
 ghost use Rattle.records.specs.Where.{fields-of};
@@ -167,4 +167,21 @@ pub fn piece_inside(
         Cell::Nothing => Content::Nothing,
         Cell::At(from) => Content::At(from, from + width),
     }
+}
+
+// Where n occurrences of the periodic group that entry g is stand, from occurrence o on, all of which exist; its fields are of fixed
+// length, and so many bytes together.
+pub fn rows_inside(
+    t: &[u8],
+    b: &[u8],
+    places: &[u16; DIRECTORY],
+    g: usize,
+    width: usize,
+    o: usize,
+    n: usize,
+) -> usize
+    requires { ⌜ Valid (now t) × (g < length (entries-of (now t))) × (getD (entries-of (now t)) g blank .what ≡ group true) × (1 ≤ o) × (1 ≤ n) × ((r : Record) → Held (entries-of (now t)) (now b) (now places) r → o + n ≤ group-count-at (parts (entries-of (now t))) r (getD (entries-of (now t)) g blank .name) + 1) × Wide (fields-of (slice (g + 1) (group-end (entries-of (now t)) g) (entries-of (now t)))) width × Holds (entries-of (now t)) (now b) (now places) ⌝ }
+    ensures { λ p. ⌜ ((r : Record) → Held (entries-of (now (t .entry))) (now (b .entry)) (now (places .entry)) r → Rows-of (entries-of (now (t .entry))) (now (b .entry)) g o n width r p) ⌝ }
+{
+    row_at(t, b, places, g, o)
 }
