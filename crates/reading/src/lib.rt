@@ -7,7 +7,7 @@ ghost use lib.ListN.{length, replicate, take, drop};
 ghost use lib.Seq.{slice};
 ghost use Rattle.rules.specs.Outcome.{done, is-done};
 ghost use Rattle.rules.specs.Characters.{space};
-ghost use Rattle.rules.specs.Values.{every, allowed, meaning, null, conversion, converts, carried};
+ghost use Rattle.rules.specs.Values.{alpha, every, allowed, meaning, null, conversion, converts, carried};
 ghost use Rattle.rules.specs.Limits.{highest-index};
 ghost use Rattle.rules.specs.Lists.{Bytes, all, join};
 ghost use Rattle.rules.specs.Use.{plain, items-of};
@@ -115,6 +115,26 @@ fn put_count(count: u8, out: &mut [u8], at: usize, end: usize, write: bool) -> N
     Next::At(at + 1)
 }
 
+// A value of format A, at a length: its text is found once.
+fn put_alpha(s: &[u8], size: usize, out: &mut [u8], at: usize, end: usize, write: bool) -> Next
+    requires { ⌜ (length (now s) ≤ 253) × (at ≤ end) × (end ≤ length (now out)) ⌝ }
+    ensures { λ r. ⌜ Filling (within (end - at) (carried alpha alpha size (now (s .entry)))) at write (now (out .entry)) (now (out .exit)) r ⌝ }
+{
+    let len = values::texts::text_length(s);
+    if !values::texts::length_fits(len, size) {
+        return Next::Refused(9);
+    }
+    let n = values::texts::length_at(len, size);
+    if end - at < n {
+        return Next::Refused(7);
+    }
+    if write {
+        values::texts::put_at(&s[..len], size, out, at);
+        return Next::At(at + n);
+    }
+    Next::At(at + n)
+}
+
 // A value, where every value converts.
 fn put_every(
     s: &[u8],
@@ -191,6 +211,9 @@ fn put_value(
     requires { ⌜ (own < 5) × (format < 5) × (allowed (format-at own) (length (now s)) ≡ true) × (allowed (format-at format) size ≡ true) × (is-done (meaning (format-at own) (now s)) ≡ true) × (converts (format-at own) (format-at format) ≡ true) × (at ≤ end) × (end ≤ length (now out)) ⌝ }
     ensures { λ r. ⌜ Filling (within (end - at) (carried (format-at own) (format-at format) size (now (s .entry)))) at write (now (out .entry)) (now (out .exit)) r ⌝ }
 {
+    if own == kinds::ALPHA {
+        return put_alpha(s, size, out, at, end, write);
+    }
     let kind = kinds::conversion(own, format);
     if kinds::is_every(kind) {
         return put_every(s, own, format, size, out, at, end, write);

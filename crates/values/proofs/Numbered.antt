@@ -148,6 +148,15 @@ module _ (from to : ℕ) (b : Bool) (e : conversion (format-at from) (format-at 
   pub ranged-to : 0 < to
   ranged-to = above-zero to (λ z. not-ranged _ b (to-alpha (format-at from)) (rw (at-alpha to z) at e))
 
+-- A converts with A alone.
+pub alpha-alone : (g : Format) → converts alpha g ≡ true → g ≡ alpha
+unfolding converts conversion
+alpha-alone alpha e = refl
+alpha-alone binary e = absurd (false≢true e)
+alpha-alone fixed e = absurd (false≢true e)
+alpha-alone packed e = absurd (false≢true e)
+alpha-alone unpacked e = absurd (false≢true e)
+
 -- The kind of formats that convert, by its two questions.
 pub every-kind : (k : Kind) → is-every k ≡ true → k ≡ every
 every-kind never e = absurd (false≢true e)

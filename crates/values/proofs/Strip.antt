@@ -6,16 +6,17 @@ use Prim.Native.Nat.{ℕ, zero, suc, _+_, _-_, _≤_, _<_}
 use native.Mathlib.Nat.{not-suc-le-zero, sub-zero}
 use native.Mathlib.Omega.{arith}
 use lib.Dec.{eqb, eqb·suc-suc, leb}
-use lib.ListN.{length, take, getD, replicate, length-append, length-replicate}
+use lib.ListN.{length, take, getD, replicate, length-append}
 use lib.Seq.{take-suc, take-length, length-take-le}
 use borrow.Author.Tests.{eq-eqb, ne-eqb, eqb-true, eqb-false, le-leb, leb-true}
-use Rattle.rules.specs.Outcome.{done, is-done}
+use Rattle.rules.specs.Outcome.{done, refused, is-done}
 use Rattle.rules.specs.Characters.{space}
 use Rattle.rules.specs.Lists.{Bytes, bytes-of, same}
 use Rattle.rules.specs.Values.{text, alpha, strip, meaning, normal, carried, converted, conversion, in-range, in-normal-form, with-length-byte}
 use Rattle.rules.proofs.Steps.{by-test, same-same}
 use Rattle.words.proofs.NormalForm.{is-normal-form, compares, no-length-byte}
 use Rattle.words.proofs.Fixed.{is-done-need, done-need}
+use Rattle.values.proofs.Carried.{no-fit, normal-length, done-bytes}
 
 -- One byte before a text.
 before : ℕ → Bytes → Bytes
@@ -109,19 +110,14 @@ strip-short s =
     let e = ap length (strip-pad s) in
     omega (arith, simp length-append at e)
 
--- A text carried to a length.
+-- A text carried to a length, and its refusal.
 carried-is : (n : ℕ) (s : Bytes) → carried alpha alpha n s ≡ normal alpha n (text (strip s))
 unfolding carried converted meaning conversion in-range
 carried-is n s = refl
 
-short-0 : (t : Bytes) → is-done (normal alpha 0 (text t)) ≡ leb (length t) 253
-unfolding normal
-short-0 t = is-done-need (leb (length t) 253) (suc (length t) ∷ t)
-
-short : (n : ℕ) (t : Bytes) → (n ≡ 0 → ⊥) → is-done (normal alpha n (text t)) ≡ leb (length t) n
-unfolding normal
-short zero t z = absurd (z refl)
-short (suc n) t z = is-done-need (leb (length t) (suc n)) (t ++ replicate (suc n - length t) space)
+pub text-refused : (n : ℕ) (s : Bytes) → is-done (carried alpha alpha n s) ≡ false → carried alpha alpha n s ≡ refused 9
+unfolding meaning
+text-refused n s d = no-fit alpha alpha n s refl d
 
 pub normal-text-0 : (t : Bytes) → length t ≤ 253 → normal alpha 0 (text t) ≡ done (suc (length t) ∷ t)
 unfolding normal
@@ -132,6 +128,42 @@ unfolding normal
 normal-text zero t z h = absurd (z refl)
 normal-text (suc n) t z h = done-need (leb (length t) (suc n)) (t ++ replicate (suc n - length t) space) (le-leb (length t) (suc n) h)
 
+-- Whether a text fits length 0, or a length n.
+pub fits-0 : (n : ℕ) (t : Bytes) → n ≡ 0 → leb (length t) 253 ≡ is-done (normal alpha n (text t))
+unfolding normal
+fits-0 n t z = sym (rw z (is-done-need (leb (length t) 253) (suc (length t) ∷ t)))
+
+pub fits-n : (n : ℕ) (t : Bytes) → (n ≡ 0 → ⊥) → leb (length t) n ≡ is-done (normal alpha n (text t))
+unfolding normal
+fits-n zero t z = absurd (z refl)
+fits-n (suc n) t z = sym (is-done-need (leb (length t) (suc n)) (t ++ replicate (suc n - length t) space))
+
+-- What is then written, and the room that it takes.
+module _ (n : ℕ) (t : Bytes) (z : n ≡ 0) (d : is-done (normal alpha n (text t)) ≡ true) where
+  counted-upto : length t ≤ 253
+  counted-upto = leb-true (length t) 253 (fits-0 n t z ∙ d)
+
+  pub counted-bytes : bytes-of (normal alpha n (text t)) ≡ suc (length t) ∷ t
+  unfolding bytes-of
+  counted-bytes = rw (z, normal-text-0 t counted-upto)
+
+  pub counted-room : (at room : ℕ) → at + length (bytes-of (normal alpha n (text t))) ≤ room → (length t ≤ 253) × (at + 1 + length t ≤ room)
+  counted-room at room h = let l = rw counted-bytes at h in (counted-upto, omega arith)
+
+module _ (n : ℕ) (t : Bytes) (z : n ≡ 0 → ⊥) (d : is-done (normal alpha n (text t)) ≡ true) where
+  padded-upto : length t ≤ n
+  padded-upto = leb-true (length t) n (fits-n n t z ∙ d)
+
+  pub padded-bytes : bytes-of (normal alpha n (text t)) ≡ t ++ replicate (n - length t) space
+  unfolding bytes-of
+  padded-bytes = rw (normal-text n t z padded-upto)
+
+  pub padded-length : length (bytes-of (normal alpha n (text t))) ≡ n
+  padded-length = normal-length alpha n (text t) (omega (arith, z)) (done-bytes (normal alpha n (text t)) d)
+
+  pub padded-room : (at room : ℕ) → at + length (bytes-of (normal alpha n (text t))) ≤ room → (length t ≤ n) × (at + n ≤ room)
+  padded-room at room h = (padded-upto, rw padded-length at h)
+
 same-cut : (s : Bytes) (r : ℕ) → same (suc r ∷ take r s) (suc (length s) ∷ s) ≡ eqb r (length s)
 unfolding same
 same-cut s r =
@@ -141,46 +173,11 @@ same-cut s r =
 
 -- The answers, from the length of the text.
 module _ (s : Bytes) (r : ℕ) (k : r ≤ length s) (e : strip s ≡ take r s) where
-  text-size : length (strip s) ≡ r
-  text-size = ap length e ∙ length-take-le r s k
-
-  pub text-fits-0 : (n : ℕ) → n ≡ 0 → leb r 253 ≡ is-done (carried alpha alpha n s)
-  text-fits-0 n z = sym (rw (z, carried-is 0 s) (short-0 (strip s) ∙ rw text-size))
-
-  pub text-fits : (n : ℕ) → (n ≡ 0 → ⊥) → leb r n ≡ is-done (carried alpha alpha n s)
-  text-fits n z = sym (rw (carried-is n s) (short n (strip s) z ∙ rw text-size))
-
   pub cut-size : length (take r s) ≡ r
   cut-size = length-take-le r s k
 
-  -- What is written at length 0, and at a length n, with the room that it takes.
-  module _ (n : ℕ) (z : n ≡ 0) (d : is-done (carried alpha alpha n s) ≡ true) where
-    counted-upto : r ≤ 253
-    counted-upto = leb-true r 253 (text-fits-0 n z ∙ d)
-
-    pub counted-bytes : bytes-of (carried alpha alpha n s) ≡ suc (length (take r s)) ∷ take r s
-    unfolding bytes-of
-    counted-bytes = rw (z, carried-is 0 s, normal-text-0 (strip s) (rw text-size counted-upto), e)
-
-    pub counted-room : (at room : ℕ) → at + length (bytes-of (carried alpha alpha n s)) ≤ room
-        → (length (take r s) ≤ 253) × (at + 1 + length (take r s) ≤ room)
-    counted-room at room h =
-        let l = rw counted-bytes at h in
-        (omega (arith, cut-size, counted-upto), omega arith)
-
-  module _ (n : ℕ) (z : n ≡ 0 → ⊥) (d : is-done (carried alpha alpha n s) ≡ true) where
-    padded-upto : r ≤ n
-    padded-upto = leb-true r n (text-fits n z ∙ d)
-
-    pub padded-bytes : bytes-of (carried alpha alpha n s) ≡ take r s ++ replicate (n - length (take r s)) space
-    unfolding bytes-of
-    padded-bytes = rw (carried-is n s, normal-text n (strip s) z (rw text-size padded-upto), e)
-
-    pub padded-room : (at room : ℕ) → at + length (bytes-of (carried alpha alpha n s)) ≤ room
-        → (length (take r s) ≤ n) × (at + n ≤ room)
-    padded-room at room h =
-        let l = rw (padded-bytes, length-append, length-replicate) at h in
-        (omega (arith, cut-size, padded-upto), omega (arith, cut-size, padded-upto))
+  pub carried-text : (n : ℕ) → carried alpha alpha n s ≡ normal alpha n (text (take r s))
+  carried-text n = carried-is n s ∙ rw e
 
   -- In normal form at length 0 where nothing was stripped.
   pub text-normal-0 : (n : ℕ) → n ≡ 0 → length s ≤ 253 → eqb r (length s) ≡ in-normal-form alpha n s
@@ -189,7 +186,7 @@ module _ (s : Bytes) (r : ℕ) (k : r ≤ length s) (e : strip s ≡ take r s) w
       rw z
       (sym
       (compares alpha 0 s (normal-text-0 (strip s) (omega (arith, strip-short s)))
-      ∙ rw (text-size, e) (same-cut s r)))
+      ∙ rw (e, cut-size) (same-cut s r)))
 
 -- At a length of its own every text is in normal form.
 pub text-normal : (s : Bytes) (n : ℕ) → (n ≡ 0 → ⊥) → n ≡ length s → in-normal-form alpha n s ≡ true

@@ -7,8 +7,8 @@ ghost use Prim.Native.Nat.{suc, _+_, _-_, _≤_};
 ghost use lib.ListN.{length, take, replicate};
 ghost use Rattle.rules.specs.Characters.{space};
 ghost use Rattle.rules.specs.Outcome.{is-done};
-ghost use Rattle.rules.specs.Lists.{bytes-of};
-ghost use Rattle.rules.specs.Values.{alpha, strip, carried, in-normal-form};
+ghost use Rattle.rules.specs.Lists.{Bytes, bytes-of};
+ghost use Rattle.rules.specs.Values.{text, alpha, strip, normal, carried, in-normal-form};
 ghost use Rattle.buffer.specs.Splice.{splice};
 
 const BLANK: u8 = 0x40;
@@ -30,12 +30,26 @@ pub fn text_length(s: &[u8]) -> usize
     0
 }
 
+// Whether a text of len bytes fits length n.
+pub fn length_fits(len: usize, n: usize) -> bool
+    ensures { λ r. ⌜ ((t : Bytes) → length t ≡ len → r ≡ is-done (normal alpha n (text t))) ⌝ }
+{
+    if n == 0 { len <= LONGEST } else { len <= n }
+}
+
+// The bytes that a text of len bytes takes at length n, which it fits.
+pub fn length_at(len: usize, n: usize) -> usize
+    requires { ⌜ len ≤ 253 ⌝ }
+    ensures { λ r. ⌜ ((t : Bytes) → length t ≡ len → is-done (normal alpha n (text t)) ≡ true → r ≡ length (bytes-of (normal alpha n (text t)))) ⌝ }
+{
+    if n == 0 { len + 1 } else { n }
+}
+
 // Whether the text of s fits length n.
 pub fn text_fits(s: &[u8], n: usize) -> bool
     ensures { λ r. ⌜ r ≡ is-done (carried alpha alpha n (now (s .entry))) ⌝ }
 {
-    let len = text_length(s);
-    if n == 0 { len <= LONGEST } else { len <= n }
+    length_fits(text_length(s), n)
 }
 
 // A length byte, which counts itself, and t behind it.
@@ -57,17 +71,25 @@ fn put_padded(t: &[u8], n: usize, out: &mut [u8], at: usize)
     buffer::fill(out, next, n - t.len(), BLANK);
 }
 
+// The text t, which fits length n, at that length, to out from at on.
+pub fn put_at(t: &[u8], n: usize, out: &mut [u8], at: usize)
+    requires { ⌜ (is-done (normal alpha n (text (now t))) ≡ true) × (at + length (bytes-of (normal alpha n (text (now t)))) ≤ length (now out)) ⌝ }
+    ensures { λ _. ⌜ now (out .exit) ≡ splice at (bytes-of (normal alpha n (text (now (t .entry))))) (now (out .entry)) ⌝ }
+{
+    if n == 0 {
+        put_counted(t, out, at);
+    } else {
+        put_padded(t, n, out, at);
+    }
+}
+
 // The text of s at length n, to out from at on.
 pub fn carry_text(s: &[u8], n: usize, out: &mut [u8], at: usize)
     requires { ⌜ (is-done (carried alpha alpha n (now s)) ≡ true) × (at + length (bytes-of (carried alpha alpha n (now s))) ≤ length (now out)) ⌝ }
     ensures { λ _. ⌜ now (out .exit) ≡ splice at (bytes-of (carried alpha alpha n (now (s .entry)))) (now (out .entry)) ⌝ }
 {
     let len = text_length(s);
-    if n == 0 {
-        put_counted(&s[..len], out, at);
-    } else {
-        put_padded(&s[..len], n, out, at);
-    }
+    put_at(&s[..len], n, out, at);
 }
 
 // Whether s is in normal form: at length 0 it has no trailing blank.

@@ -1,15 +1,30 @@
--- `reading::put_value` meets its contract, by the kind of the conversion. Assumes nothing.
+-- `reading::put_value` meets its contract: A converts with A alone, another format by the kind of the conversion. Assumes nothing.
 use mathlib.Core.Path.{sym, _∙_, ap}
 use Rattle.kinds.specs.Formats.{format-at, is-every, is-natural}
 use Rattle.values.specs.Formats.{ranged}
 use Rattle.values.specs.Fits.{Asked}
-use Rattle.values.proofs.Numbered.{every-kind, ranged-kind}
+use Rattle.values.proofs.Numbered.{at-alpha, alpha-alone, size-253, every-kind, ranged-kind}
 use borrow.Author.Needs.{needs}
 use Rattle.reading.proofs.put_value.Statement.{statement}
 use Rattle.reading.proofs.put_value.Tie as tie
 
 asked : (c : tie.Start) → Asked (c .args .own) (c .args .format) (c .args .size) (c .args .s .now)
 asked c = record { source = c .pre .0; target = c .pre .1; size = c .pre .2; length-there = c .pre .3; value = c .pre .4 }
+
+put-alpha-requires : tie.Need-put-alpha-requires
+put-alpha-requires c κs =
+    let a = c .before .before .before .before in
+    (size-253 (a .args .own) _ (a .pre .0) (a .pre .2), a .pre .6, a .pre .7)
+
+same-length : tie.Need-same-length
+same-length c = search needs
+
+returns : tie.Need-returns
+returns c =
+    let i = c .before .before .before .before in
+    let a = i .before .before .before in
+    let own = at-alpha (a .args .own) (i .if1 .taken) in
+    rw (own, alpha-alone (format-at (a .args .format)) (rw own at (a .pre .5))) (c .before .before .put-alpha .ensures)
 
 conversion-requires : tie.Need-conversion-requires
 conversion-requires c κs = search needs
@@ -21,14 +36,14 @@ put-every-requires : tie.Need-put-every-requires
 put-every-requires c κs =
     let i = c .before in
     let k = i .before .before in
-    let a = k .before .before .before in
-    (asked a, sym (k .conversion .ensures) ∙ every-kind _ (sym (i .before .is-every .ensures) ∙ i .if1 .taken), a .pre .6, a .pre .7)
+    let a = k .before .before .before .before in
+    (asked a, sym (k .conversion .ensures) ∙ every-kind _ (sym (i .before .is-every .ensures) ∙ i .if2 .taken), a .pre .6, a .pre .7)
 
-same-length : tie.Need-same-length
-same-length c = search needs
+same-length-2 : tie.Need-same-length-2
+same-length-2 c = search needs
 
-returns : tie.Need-returns
-returns c = search needs
+returns-2 : tie.Need-returns-2
+returns-2 c = search needs
 
 is-natural-requires : tie.Need-is-natural-requires
 is-natural-requires c κs = search needs
@@ -38,27 +53,30 @@ put-word-requires c κs =
     let n = c .before in
     let i = n .before in
     let k = i .before .before in
-    let a = k .before .before .before in
-    let e = ap is-every (sym (k .conversion .ensures)) ∙ sym (i .before .is-every .ensures) ∙ i .if1 .left in
+    let a = k .before .before .before .before in
+    let e = ap is-every (sym (k .conversion .ensures)) ∙ sym (i .before .is-every .ensures) ∙ i .if2 .left in
     let r = ranged-kind (format-at (a .args .own)) (format-at (a .args .format)) (a .pre .5) e in
     (asked a, r ∙ ap ranged (ap is-natural (sym (k .conversion .ensures)) ∙ sym (n .is-natural .ensures)), a .pre .6, a .pre .7)
 
-same-length-2 : tie.Need-same-length-2
-same-length-2 c = search needs
+same-length-3 : tie.Need-same-length-3
+same-length-3 c = search needs
 
-returns-2 : tie.Need-returns-2
-returns-2 c = search needs
+returns-3 : tie.Need-returns-3
+returns-3 c = search needs
 
 pub put-value-spec : {M : Type 1} → statement M
 put-value-spec =
     tie.close
     (tie.spec
+    put-alpha-requires
+    same-length
+    returns
     conversion-requires
     is-every-requires
     put-every-requires
-    same-length
-    returns
+    same-length-2
+    returns-2
     is-natural-requires
     put-word-requires
-    same-length-2
-    returns-2)
+    same-length-3
+    returns-3)

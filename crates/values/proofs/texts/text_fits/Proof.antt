@@ -1,5 +1,7 @@
 -- `values::texts::text_fits` meets its contract, from the length of the text.
-use Rattle.values.proofs.Strip.{text-fits-0, text-fits}
+use mathlib.Core.Path.{sym, ap, _∙_}
+use Rattle.rules.specs.Outcome.{is-done}
+use Rattle.values.proofs.Strip.{cut-size, carried-text}
 use borrow.Author.Needs.{needs}
 use Rattle.values.proofs.texts.text_fits.Statement.{statement}
 use Rattle.values.proofs.texts.text_fits.Tie as tie
@@ -7,11 +9,15 @@ use Rattle.values.proofs.texts.text_fits.Tie as tie
 text-length-requires : tie.Need-text-length-requires
 text-length-requires c κs = search needs
 
-returns : tie.Need-returns
-returns c = let t = c .before .text-length in text-fits-0 _ (t .result) (t .ensures .0) (t .ensures .1) _ (c .if1 .taken)
+length-fits-requires : tie.Need-length-fits-requires
+length-fits-requires c κs = search needs
 
-returns-2 : tie.Need-returns-2
-returns-2 c = let t = c .before .text-length in text-fits _ (t .result) (t .ensures .0) (t .ensures .1) _ (c .if1 .left)
+returns : tie.Need-returns
+returns c =
+    let a = c .before .before .before .args in
+    let t = c .before .text-length in
+    c .length-fits .ensures _ (cut-size (a .s .now) (t .result) (t .ensures .0) (t .ensures .1))
+    ∙ ap is-done (sym (carried-text (a .s .now) (t .result) (t .ensures .0) (t .ensures .1) (a .n)))
 
 pub text-fits-spec : {M : Type 1} → statement M
-text-fits-spec = tie.close (tie.spec text-length-requires returns returns-2)
+text-fits-spec = tie.close (tie.spec text-length-requires length-fits-requires returns)
