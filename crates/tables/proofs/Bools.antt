@@ -33,7 +33,3 @@ and-four a b c d e =
     let y = and-both (a && b) c (x .0) in
     let z = and-both a b (y .0) in
     (z .0, z .1, y .1, x .1)
-
-pub by-or : {C : Type 0} (a b : Bool) → (a || b) ≡ true → (a ≡ true → C) → (b ≡ true → C) → C
-by-or true b e f g = f refl
-by-or false b e f g = g e

@@ -4,7 +4,6 @@ use mathlib.Core.Bool.{Bool, true, false, not, _&&_}
 use mathlib.Core.List.{List, [], _∷_}
 use Prim.Native.Nat.{ℕ, _+_, _≤_, _<_}
 use native.Mathlib.Numerals.{add-one}
-use borrow.Author.Tests.{eq-eqb, ne-eqb}
 use lib.Dec.{eqb}
 use lib.ListN.{length, getD, drop, drop-of-length-le}
 use lib.Seq.{drop-cons}
@@ -54,19 +53,13 @@ differ-cons e es = refl
 
 -- ---- a turn at entry i, and the end
 module _ (es : List Entry) (i : ℕ) where
-  pub rest-at : i < length es → drop i es ≡ getD es i blank ∷ drop (i + 1) es
+  rest-at : i < length es → drop i es ≡ getD es i blank ∷ drop (i + 1) es
   rest-at h = rw (add-one) (drop-cons es i blank h)
 
   levels-at : i < length es → (g : Bool) (l : ℕ)
       → levels (mark g) l (drop i es)
       ≡ (follows g l (getD es i blank .level) && levels (mark (is-group (getD es i blank .what))) (getD es i blank .level) (drop (i + 1) es))
   levels-at h g l = rw (rest-at h) (levels-cons g l (getD es i blank) (drop (i + 1) es))
-
-  unused-at : i < length es → (n : ℕ) → unused n (drop i es) ≡ (not (eqb (getD es i blank .name) n) && unused n (drop (i + 1) es))
-  unused-at h n = rw (rest-at h) (unused-cons n (getD es i blank) (drop (i + 1) es))
-
-  differ-at : i < length es → differ (names (drop i es)) ≡ (unused (getD es i blank .name) (drop (i + 1) es) && differ (names (drop (i + 1) es)))
-  differ-at h = rw (rest-at h) (differ-cons (getD es i blank) (drop (i + 1) es))
 
   pub levels-turn : i < length es → (g h : Bool) (l k : ℕ) → k ≡ getD es i blank .level → h ≡ is-group (getD es i blank .what) → follows g l k ≡ true
       → levels (mark h) k (drop (i + 1) es) ≡ levels (mark g) l (drop i es)
@@ -77,22 +70,3 @@ module _ (es : List Entry) (i : ℕ) where
 
   pub levels-end : length es ≤ i → (g : Bool) (l : ℕ) → not g ≡ levels (mark g) l (drop i es)
   levels-end q g l = rw (drop-of-length-le es q) (sym (levels-nil g l))
-
-  pub unused-turn : i < length es → (n m : ℕ) → m ≡ getD es i blank .name → (m ≡ n → ⊥) → unused n (drop (i + 1) es) ≡ unused n (drop i es)
-  unused-turn q n m e f = sym (unused-at q n ∙ rw (← e, ne-eqb m n f))
-
-  pub unused-stop : i < length es → (n m : ℕ) → m ≡ getD es i blank .name → m ≡ n → false ≡ unused n (drop i es)
-  unused-stop q n m e f = sym (unused-at q n ∙ rw (← e, eq-eqb m n f))
-
-  pub unused-end : length es ≤ i → (n : ℕ) → true ≡ unused n (drop i es)
-  unused-end q n = rw (drop-of-length-le es q) (sym (unused-nil n))
-
-  pub differ-turn : i < length es → (n : ℕ) → n ≡ getD es i blank .name → unused n (drop (i + 1) es) ≡ true
-      → differ (names (drop (i + 1) es)) ≡ differ (names (drop i es))
-  differ-turn q n e f = sym (differ-at q ∙ rw (← e, f))
-
-  pub differ-stop : i < length es → (n : ℕ) → n ≡ getD es i blank .name → unused n (drop (i + 1) es) ≡ false → false ≡ differ (names (drop i es))
-  differ-stop q n e f = sym (differ-at q ∙ rw (← e, f))
-
-  pub differ-end : length es ≤ i → true ≡ differ (names (drop i es))
-  differ-end q = rw (drop-of-length-le es q) (sym differ-nil)

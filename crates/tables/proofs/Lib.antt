@@ -1,7 +1,7 @@
 pub mod Bools
 pub mod Rows
 pub mod Levels
-pub mod Index
+pub mod Marks
 pub mod Tables
 pub mod Names
 pub mod Nesting

@@ -217,7 +217,6 @@ module _ (l f s o : ℕ) where
 -- an entry and the six bytes that it was read from
 pub record Made (bs : Bytes) (e : Entry) : Type 0 where
   pub row : row-of bs ≡ decoded e
-  pub named : is-name (getD bs 0 0) (getD bs 1 0) ≡ true
   pub grouped : group-letter bs ≡ is-group (e .what)
   pub sound : Sound (e .level) (e .what)
 
@@ -251,7 +250,6 @@ entries-first n (a ∷ b ∷ l ∷ f ∷ s ∷ o ∷ bs) es p =
       long = omega arith;
       made = record {
         row = rw (r .number, r .size, r .multiple, r .periodic);
-        named = T-true (is-name a b) t;
         grouped = r .grouped;
         sound = r .sound;
       };
@@ -333,9 +331,6 @@ module _ (t : Bytes) (i : ℕ) where
   pub name-at-is : row-of (bytes-at t i) .name ≡ name-of (getD t (i * 6 + 6) 0) (getD t (i * 6 + 6 + 1) 0)
   unfolding row-of
   name-at-is = simp (getD-drop, add-zero)
-
-  pub named-at : is-name (getD (bytes-at t i) 0 0) (getD (bytes-at t i) 1 0) ≡ is-name (getD t (i * 6 + 6) 0) (getD t (i * 6 + 6 + 1) 0)
-  named-at = simp (getD-drop, add-zero)
 
   -- byte k of entry i, at the place that the code reads
   byte-is : (k p : ℕ) → i * 6 + 6 + k ≡ p → getD (bytes-at t i) k 0 ≡ getD t p 0

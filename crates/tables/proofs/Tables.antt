@@ -17,7 +17,6 @@ use Rattle.rules.proofs.Steps.{by-test, from-bind, from-need}
 use Rattle.tables.specs.Entries.{listed, Valid, entries-of, read-entries, blank, format-at, format-number, decoded, what-by, entry-of, row-of, bytes-at, Right, headed, group-number, is-group}
 use Rattle.tables.proofs.Bools.{clash, and-true, and-both, and-four}
 use Rattle.tables.specs.declared.Entry.{Entry as Row}
-use Rattle.tables.proofs.Index.{Placed, name-placed, All-placed}
 use Rattle.tables.proofs.Rows.{Sound, Made, entries-length, entry-made}
 
 done-listed : (m : Outcome (List Entry)) → is-done m ≡ true → m ≡ done (listed m)
@@ -47,12 +46,8 @@ module _ (n : ℕ) (t : Bytes) (v : Right n t) where
   pub read-row : (i : ℕ) → i < n → row-of (bytes-at t i) ≡ decoded (getD (read-entries n t) i blank)
   read-row i h = read-made i h .row
 
-  -- each name has a place in an index of names
-  pub read-placed : All-placed (read-entries n t)
-  unfolding row-of
-  read-placed j h =
-      let m = read-made j (omega (arith, read-count, h)) in
-      subst Placed (ap (λ (r : Row). r .name) (m .row)) (name-placed (getD (bytes-at t j) 0 0) (getD (bytes-at t j) 1 0) (m .named))
+  pub read-name : (i : ℕ) → i < n → row-of (bytes-at t i) .name ≡ getD (read-entries n t) i blank .name
+  read-name i h = ap (λ (r : Row). r .name) (read-row i h)
 
 pub is-group-number : (w : What) → eqb (format-number w) group-number ≡ is-group w
 is-group-number (field alpha n m) = refl

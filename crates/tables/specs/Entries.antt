@@ -3,7 +3,7 @@ use mathlib.Core.Path.{_≡_}
 use mathlib.Core.Bool.{Bool, true, false, not, _&&_}
 use mathlib.Core.List.{List, [], _∷_}
 use mathlib.Core.Option.{none, some}
-use Prim.Native.Nat.{ℕ, suc, _+_, _-_, _*_, _/_, _%_}
+use Prim.Native.Nat.{ℕ, suc, _+_, _*_, _/_, _%_, _<_}
 use lib.Dec.{eqb, leb}
 use lib.ListN.{length, getD, take, drop}
 use Rattle.rules.specs.Outcome.{Outcome, done, refused, is-done}
@@ -127,6 +127,11 @@ follows false before level = leb 1 level && leb level before
 unfoldable pub unused : ℕ → List Entry → Bool
 unused n es = all (λ m. not (eqb m n)) (names es)
 
--- The place of a name in an index of all names, by its two bytes, which are letters or digits.
-unfoldable pub index-of : ℕ → ℕ
-index-of n = (n / 256 - 0xC0) * 64 + (n % 256 - 0xC0)
+-- The mark of a name: the last four bits of each of its two bytes.
+unfoldable pub mark-of : ℕ → ℕ
+mark-of n = n / 256 % 16 * 16 + n % 16
+
+-- An answer to whether one of the entries before entry i has a name.
+abbrev pub Named-before : Bytes → ℕ → ℕ → Bool → Type 0
+Named-before t i n true = (j : ℕ) × (j < i) × (row-of (bytes-at t j) .name ≡ n)
+Named-before t i n false = (j : ℕ) → j < i → row-of (bytes-at t j) .name ≡ n → ⊥

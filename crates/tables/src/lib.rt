@@ -5,10 +5,10 @@ ghost use Prim.Native.Nat.{_<_, _≤_, _+_, _*_};
 ghost use lib.ListN.{length, getD, drop};
 ghost use lib.Dec.{eqb};
 ghost use Rattle.rules.specs.Outcome.{is-done};
-ghost use Rattle.rules.specs.Table.{group, is-name, name-of, what-of, entries, levels, differ, names, table, fields-below};
+ghost use Rattle.rules.specs.Table.{group, name-of, what-of, entries, levels, differ, names, table, fields-below};
 ghost use Rattle.rules.specs.Lists.{all};
 ghost use Rattle.rules.specs.Use.{plain};
-ghost use Rattle.tables.specs.Entries.{letter-number, is-group, is-multiple, is-periodic, row-of, group-letter, right-of, bytes-at, read-entries, Right, follows, unused, index-of, headed, Valid, entries-of, decoded, blank};
+ghost use Rattle.tables.specs.Entries.{letter-number, is-group, is-multiple, is-periodic, row-of, group-letter, right-of, bytes-at, read-entries, Right, follows, mark-of, Named-before, headed, Valid, entries-of, decoded, blank};
 ghost use Rattle.tables.specs.Places.{Finds, Homes, inside-at};
 ghost use Rattle.tables.specs.Groups.{group-end, Expanded, Fields-of, plain-row, Spanned};
 
@@ -195,75 +195,49 @@ fn levels_right(t: &[u8], n: usize) -> bool
     !after_group
 }
 
-// Whether no entry from the one given on has a name.
-fn name_unused(t: &[u8], n: usize, from: usize, name: u16) -> bool
-    requires { ⌜ Right n (now t) × (from ≤ n) ⌝ }
-    ensures { λ r. ⌜ r ≡ unused name (drop from (read-entries n (now (t .entry)))) ⌝ }
+// The mark of a name, one of 256. Names with different marks differ.
+fn mark_of(a: u8, b: u8) -> usize
+    ensures { λ r. ⌜ (r ≡ mark-of (name-of a b)) × (r < 256) ⌝ }
 {
-    let a = (name / 256) as u8;
-    let b = (name % 256) as u8;
-    let mut i = from;
-    while i < n {
-        if named_in(t, i, a, b) {
-            return false;
-        }
-        i += 1;
-    }
-    true
+    wide((a % 16) * 16 + b % 16)
 }
 
-// Whether the names of the n entries differ, by each pair of them.
-fn names_paired(t: &[u8], n: usize) -> bool
+// Whether one of the entries before entry i has the name of two bytes.
+fn named_before(t: &[u8], i: usize, a: u8, b: u8) -> bool
+    requires { ⌜ i * 6 + 6 ≤ length (now t) ⌝ }
+    ensures { λ r. ⌜ Named-before (now (t .entry)) i (name-of a b) r ⌝ }
+{
+    let mut j = 0;
+    while j < i {
+        if named_in(t, j, a, b) {
+            return true;
+        }
+        j += 1;
+    }
+    false
+}
+
+// Whether the names of the n entries differ. Names are compared only where a name before has the same mark.
+fn names_differ(t: &[u8], n: usize) -> bool
     requires { ⌜ Right n (now t) ⌝ }
     ensures { λ r. ⌜ r ≡ differ (names (read-entries n (now (t .entry)))) ⌝ }
 {
-    let mut i = 0;
-    while i < n {
-        if name_unused(t, n, i + 1, name_at(t, i)) {
-            i += 1;
-        } else {
-            return false;
-        }
-    }
-    true
-}
-
-// Where a name stands in an index of all names: its first byte is C1 to E9, its second C1 to F9.
-fn place_of(a: u8, b: u8) -> usize
-    requires { ⌜ is-name a b ≡ true ⌝ }
-    ensures { λ r. ⌜ (r ≡ index-of (name-of a b)) × (r < 2688) ⌝ }
-{
-    (wide(a) - 0xc0) * 64 + (wide(b) - 0xc0)
-}
-
-// The same by an index of the names that were seen.
-fn names_indexed(t: &[u8], n: usize) -> bool
-    requires { ⌜ Right n (now t) ⌝ }
-    ensures { λ r. ⌜ r ≡ differ (names (read-entries n (now (t .entry)))) ⌝ }
-{
-    let mut seen = [false; 2688];
+    let mut seen = [false; 256];
     let mut i = 0;
     while i < n {
         let p = i * 6 + 6;
-        let k = place_of(t[p], t[p + 1]);
+        let a = t[p];
+        let b = t[p + 1];
+        let k = mark_of(a, b);
         if seen[k] {
-            return false;
+            if named_before(t, i, a, b) {
+                return false;
+            }
         }
         seen[k] = true;
         i += 1;
     }
     true
-}
-
-// Whether the names of the n entries differ: of few by their pairs, since an index has to be cleared.
-fn names_differ(t: &[u8], n: usize) -> bool
-    requires { ⌜ Right n (now t) ⌝ }
-    ensures { λ r. ⌜ r ≡ differ (names (read-entries n (now (t .entry)))) ⌝ }
-{
-    if n <= 16 {
-        return names_paired(t, n);
-    }
-    names_indexed(t, n)
 }
 
 // Whether the head, the number of entries and the length of the slice are a table's.
