@@ -19,11 +19,11 @@ use Rattle.tables.proofs.Levels.{unused-nil, unused-cons, differ-nil, d
 use Rattle.tables.proofs.Names.{one-name}
 use Rattle.tables.proofs.Tables.{read-count, read-name}
 
-pub mark-bytes : (a b : ℕ) → b < 256 → a % 16 * 16 + b % 16 ≡ mark-of (name-of a b)
+pub mark-bytes : (a b : ℕ) → b < 256 → (a * 11 + b) % 256 ≡ mark-of (name-of a b)
 unfolding mark-of name-of
 mark-bytes a b h =
     let x : (a * 256 + b) / 256 ≡ a = omega arith in
-    let y : (a * 256 + b) % 16 ≡ b % 16 = omega arith in
+    let y : (a * 256 + b) % 256 ≡ b = omega arith in
     rw (x, y)
 
 mark-small : (n : ℕ) → mark-of n < 256

@@ -127,9 +127,9 @@ follows false before level = leb 1 level && leb level before
 unfoldable pub unused : ℕ → List Entry → Bool
 unused n es = all (λ m. not (eqb m n)) (names es)
 
--- The mark of a name: the last four bits of each of its two bytes.
+-- The mark of a name, by its two bytes.
 unfoldable pub mark-of : ℕ → ℕ
-mark-of n = n / 256 % 16 * 16 + n % 16
+mark-of n = (n / 256 * 11 + n % 256) % 256
 
 -- An answer to whether one of the entries before entry i has a name.
 abbrev pub Named-before : Bytes → ℕ → ℕ → Bool → Type 0

@@ -195,11 +195,11 @@ fn levels_right(t: &[u8], n: usize) -> bool
     !after_group
 }
 
-// The mark of a name, one of 256. Names with different marks differ.
+// The mark of a name, one of 256. Names with different marks differ, and names that follow each other, as A1, A2, B1, have different marks.
 fn mark_of(a: u8, b: u8) -> usize
     ensures { λ r. ⌜ (r ≡ mark-of (name-of a b)) × (r < 256) ⌝ }
 {
-    wide((a % 16) * 16 + b % 16)
+    (wide(a) * 11 + wide(b)) % 256
 }
 
 // Whether one of the entries before entry i has the name of two bytes.
