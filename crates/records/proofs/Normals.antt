@@ -3,22 +3,28 @@ use mathlib.Core.Path.{_≡_, refl, sym, _∙_, ap}
 use mathlib.Core.Bool.{true, false, _&&_}
 use mathlib.Core.List.{[], _∷_}
 use mathlib.Core.Logic.{_⊎_, inl, inr}
-use Prim.Native.Nat.{ℕ, zero, suc, _-_, _≤_}
+use Prim.Native.Nat.{ℕ, zero, suc, _+_, _*_, _-_, _≤_, _<_}
+use native.Mathlib.Nat.{zero-mul}
 use native.Mathlib.Omega.{arith}
 use borrow.Author.Tests.{leb-true}
 use lib.Dec.{leb}
-use lib.ListN.{length, take, drop}
+use lib.ListN.{length, take, drop, getD, length-drop}
+use lib.Seq.{length-take-le, drop-drop, getD-drop}
 use Rattle.rules.specs.Outcome.{Outcome, done, refused}
 use Rattle.rules.specs.Limits.{longest-alpha}
-use Rattle.rules.specs.Lists.{Bytes}
+use Rattle.rules.specs.Lists.{Bytes, cut}
 use Rattle.rules.specs.Values.{Format, first-value, in-normal-form}
-use Rattle.rules.specs.Record.{stored-value}
+use Rattle.rules.specs.Record.{times, stored-value}
 use Rattle.rules.proofs.Steps.{from-need, not-done, and-right, T-true}
 use Rattle.rules.proofs.Readers.{cut-sound}
+use Rattle.buffer.proofs.Cases.{by-order}
+use Rattle.values.specs.Normals.{Any-normal}
 use Rattle.values.specs.Places.{found, Found}
 use Rattle.values.specs.declared.First.{First}
 use Rattle.values.specs.declared.First.the-variants.{Value, Refused}
+use Rattle.values.proofs.Cuts.{cut-enough, cut-short, first-own}
 use Rattle.records.specs.Walk.{rest-of}
+use Rattle.records.proofs.Walks.{times-turn, times-stop}
 
 -- Where a first value was found, or that it was refused.
 pub first-at : {s : Bytes} {at : ℕ} {o : Outcome (Bytes × Bytes)} {r : First} {from next : ℕ} → Found s at o r → r ≡ Value from next
@@ -49,3 +55,30 @@ value-length zero [] v rest h = absurd (not-done h)
 value-length zero (m ∷ bs) v rest h = from-need (leb 1 m && leb m (suc longest-alpha)) 8 _ h λ t k.
     inl (refl, omega (arith, cut-sound 7 (m - 1) bs v rest k .0, leb-true m (suc longest-alpha) (T-true (leb m (suc longest-alpha)) (and-right (leb 1 m) (leb m (suc longest-alpha)) t))))
 value-length (suc n) bs v rest h = inr (omega (arith, cut-sound 7 (suc n) bs v rest h .0))
+
+below-take : (n : ℕ) (bs : Bytes) → ((i : ℕ) → getD bs i 0 < 256) → (i : ℕ) → getD (take n bs) i 0 < 256
+below-take zero bs b i = omega arith
+below-take (suc n) [] b i = omega arith
+below-take (suc n) (x ∷ bs) b zero = b 0
+below-take (suc n) (x ∷ bs) b (suc i) = below-take n bs (λ j. b (suc j)) i
+
+-- Values of a length at which all bytes are in normal form: n of them are so many bytes.
+module _ (f : Format) (size : ℕ) (any : Any-normal f size) where
+  any-value : (bs : Bytes) → ((i : ℕ) → getD bs i 0 < 256) → size ≤ length bs → rest-of (stored-value f size bs) ≡ done (drop size bs)
+  any-value bs b l = value-normal f size bs (first-own size bs (λ z. omega (arith, any .0)) ∙ cut-enough 7 size bs l) (any .1 (take size bs) (below-take size bs b) (length-take-le size bs l))
+
+  cut-on : (n : ℕ) (bs : Bytes) → size ≤ length bs → rest-of (cut 2 (n * size) (drop size bs)) ≡ rest-of (cut 2 (suc n * size) bs)
+  cut-on n bs l =
+      let m : suc n * size ≡ size + n * size = omega arith in
+      let d = length-drop size bs in
+      by-order (length bs) (size + n * size)
+      (λ h. rw (m, cut-short 2 (n * size) (drop size bs) (omega (arith, d)), cut-short 2 (size + n * size) bs h) refl)
+      (λ h. rw (m, cut-enough 2 (n * size) (drop size bs) (omega (arith, d)), cut-enough 2 (size + n * size) bs h, drop-drop (n * size) size bs) refl)
+
+  pub values-cut : (n : ℕ) (bs : Bytes) → ((i : ℕ) → getD bs i 0 < 256) → rest-of (times n (stored-value f size) bs) ≡ rest-of (cut 2 (n * size) bs)
+  unfolding times cut
+  values-cut zero bs b = rw (zero-mul size) refl
+  values-cut (suc n) bs b = by-order (length bs) size
+      (λ h. times-stop (stored-value f size) n bs (value-missing f size bs (first-own size bs (λ z. omega (arith, any .0)) ∙ cut-short 7 size bs h))
+      ∙ sym (ap rest-of (cut-short 2 (suc n * size) bs (omega arith))))
+      (λ h. times-turn (stored-value f size) n bs (any-value bs b h) ∙ values-cut n (drop size bs) (λ i. rw (getD-drop size bs i 0) (b (size + i))) ∙ cut-on n bs h)

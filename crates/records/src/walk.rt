@@ -5,6 +5,7 @@ ghost use Prim.Native.Nat.{suc, _+_, _≤_, _<_};
 ghost use lib.ListN.{length, drop, getD, set};
 ghost use lib.Seq.{slice};
 ghost use Rattle.rules.specs.Limits.{longest-record};
+ghost use Rattle.rules.specs.Lists.{cut};
 ghost use Rattle.rules.specs.Values.{allowed};
 ghost use Rattle.rules.specs.Record.{times, each, counted, stored-value, stored-cell};
 ghost use Rattle.tables.specs.Entries.{Valid, entries-of, blank, format-at};
@@ -32,11 +33,28 @@ fn value_end(b: &[u8], at: usize, format: usize, size: usize) -> Step
     }
 }
 
-// The place behind n values.
+// The place behind n bytes.
+fn bytes_end(b: &[u8], at: usize, n: usize) -> Step
+    requires { ⌜ at ≤ length (now b) ⌝ }
+    ensures { λ r. ⌜ Walked (now (b .entry)) (rest-of (cut 2 n (drop at (now (b .entry))))) r ⌝ }
+{
+    if b.len() - at < n {
+        return Step::Bad;
+    }
+    Step::At(at + n)
+}
+
+// The place behind n values. Where all bytes are in normal form, n values are so many bytes; an n that no count can say goes one by one,
+// so that the product is never too large.
 fn values_end(b: &[u8], at: usize, n: usize, format: usize, size: usize) -> Step
     requires { ⌜ (at ≤ length (now b)) × (format < 5) × (allowed (format-at format) size ≡ true) ⌝ }
     ensures { λ r. ⌜ Walked (now (b .entry)) (rest-of (times n (stored-value (format-at format) size) (drop at (now (b .entry))))) r ⌝ }
 {
+    if n <= rules::HIGHEST_INDEX {
+        if values::any_bytes(format, size) {
+            return bytes_end(b, at, n * size);
+        }
+    }
     let mut p = at;
     let mut i = 0;
     while i < n {

@@ -33,7 +33,7 @@ cut-short k (suc n) [] h = refl
 cut-short k (suc n) (b ∷ bs) h = rw (cut-short k n bs (le-of-suc-le-suc h)) refl
 
 -- A length of its own.
-first-own : (n : ℕ) (bs : Bytes) → (n ≡ 0 → ⊥) → first-value n bs ≡ cut 7 n bs
+pub first-own : (n : ℕ) (bs : Bytes) → (n ≡ 0 → ⊥) → first-value n bs ≡ cut 7 n bs
 unfolding first-value
 first-own zero bs z = absurd (z refl)
 first-own (suc n) bs z = refl

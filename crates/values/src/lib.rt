@@ -12,6 +12,7 @@ ghost use Rattle.buffer.specs.Splice.{splice};
 ghost use Rattle.rules.specs.Values as Rules;
 ghost use Rattle.values.specs.Formats.{format-at};
 ghost use Rattle.values.specs.Places.{Found};
+ghost use Rattle.values.specs.Normals.{Any-normal};
 ghost use Rattle.values.specs.Fits.{fitted, size-of};
 
 pub mod carrying;
@@ -156,6 +157,17 @@ pub fn is_normal(s: &[u8], format: usize, size: usize) -> bool
         return true;
     }
     decimals::is_normal(s, format == PACKED)
+}
+
+// Whether all bytes of a length are in normal form: those of A, where the length is not 0, of B and of F.
+pub fn any_bytes(format: usize, size: usize) -> bool
+    requires { ⌜ (format < 5) × (Rules.allowed (format-at format) size ≡ true) ⌝ }
+    ensures { λ r. ⌜ (r ≡ true → Any-normal (format-at format) size) ⌝ }
+{
+    if size == 0 {
+        return false;
+    }
+    format < PACKED
 }
 
 // Whether a value fits: the length of its bytes, or a refusal.
