@@ -11,8 +11,8 @@ use Rattle.rules.specs.Lists.{Bytes, bytes-of}
 use Rattle.rules.specs.Values.{allowed, first-value}
 use Rattle.rules.proofs.Steps.{and-left, and-right, true-T, T-true, by-outcome, done-inj, not-done}
 use Rattle.kinds.specs.Formats.{format-at}
-use Rattle.values.specs.Fits.{size-of}
-use Rattle.values.specs.Places.{Found}
+use Rattle.values.specs.Fits.{bytes-size}
+use Rattle.values.specs.Places.{Located}
 use Rattle.values.specs.declared.First.{First}
 use Rattle.values.specs.declared.First.the-variants.{Value}
 use Rattle.values.proofs.Cuts.{found-content}
@@ -22,15 +22,15 @@ has-format k n e =
     let a = allowed (format-at k) n in
     (ltb-true k 5 (T-true (ltb k 5) (and-left (ltb k 5) a (true-T e))), T-true a (and-right (ltb k 5) a (true-T e)))
 
-pub fit-bytes : (o : Outcome Bytes) (n : ℕ) → _≡_ {A = Outcome ℕ} (done n) (size-of o) → (is-done o ≡ true) × (n ≡ length (bytes-of o))
+pub fit-bytes : (o : Outcome Bytes) (n : ℕ) → _≡_ {A = Outcome ℕ} (done n) (bytes-size o) → (is-done o ≡ true) × (n ≡ length (bytes-of o))
 unfolding bytes-of
 fit-bytes o n e = by-outcome o
-    (λ b h. (ap is-done h, done-inj (e ∙ ap size-of h) ∙ ap length (ap bytes-of (sym h))))
-    (λ k h. absurd (not-done (sym (e ∙ ap size-of h))))
+    (λ b h. (ap is-done h, done-inj (e ∙ ap bytes-size h) ∙ ap length (ap bytes-of (sym h))))
+    (λ k h. absurd (not-done (sym (e ∙ ap bytes-size h))))
 
-module _ (s : Bytes) (size from next : ℕ) {r : First} (f : Found s 0 (first-value size (drop 0 s)) r) (e : r ≡ Value from next) where
+module _ (s : Bytes) (size from next : ℕ) {r : First} (f : Located s 0 (first-value size (drop 0 s)) r) (e : r ≡ Value from next) where
   pub first-within : (from ≤ next) × (next ≤ length s)
   first-within = ((rw e at (f .place)) .1, (rw e at (f .place)) .2)
 
   pub first-length : ((size ≡ 0) × (length (take (next - from) (drop from s)) ≤ 253)) ⊎ (size ≡ length (take (next - from) (drop from s)))
-  first-length = found-content s 0 size from next (subst (Found s 0 (first-value size (drop 0 s))) e f)
+  first-length = found-content s 0 size from next (subst (Located s 0 (first-value size (drop 0 s))) e f)

@@ -3,7 +3,7 @@
 // it is asked for. V as first format is A of length 0. A hyphen as first format asks for null, and as second, at any length,
 // whether the value is in normal form, so that it may stand in a record. An answer is `0 LENGTH BYTES`, or a number of
 // document 01 as `9 0 -`; to what is no such line it is `? 0 -`.
-use hexadecimal::Number;
+use hexadecimal::NumberWord;
 use lines::Line;
 use values::First;
 use values::Fit;
@@ -16,10 +16,10 @@ ghost use lib.ListN.{length};
 ghost use Rattle.rules.specs.Values.{allowed};
 ghost use Rattle.kinds.specs.Formats.{format-at};
 ghost use Rattle.lines.specs.Placed.{Placed};
-ghost use Rattle.conversions.specs.Cases.{used, Areas};
+ghost use Rattle.conversions.specs.Cases.{used, Conversion-areas};
 
 // How many bytes in front of room are the value, or the number of the refusal.
-enum Answer {
+enum Reply {
     Done(usize),
     Refused(u8),
     NoCase,
@@ -49,22 +49,22 @@ fn has_length(format: usize, size: usize) -> bool
 }
 
 // Null at a format and length.
-fn null(format: usize, n: usize, room: &mut [u8]) -> Answer
+fn null(format: usize, n: usize, room: &mut [u8]) -> Reply
     ensures { λ r. ⌜ used r ≤ length (now (room .entry)) ⌝ }
 {
     if has_length(format, n) {
         let size = values::null_length(format, n);
         if room.len() < size {
-            return Answer::Refused(7);
+            return Reply::Refused(7);
         }
         values::write_null(format, n, room, 0);
-        return Answer::Done(size);
+        return Reply::Done(size);
     }
-    Answer::NoCase
+    Reply::NoCase
 }
 
 // The content s of a value at another format and length.
-fn convert(s: &[u8], from: usize, to: usize, n: usize, room: &mut [u8]) -> Answer
+fn convert(s: &[u8], from: usize, to: usize, n: usize, room: &mut [u8]) -> Reply
     requires { ⌜ (from < 5) × (allowed (format-at from) (length (now s)) ≡ true) ⌝ }
     ensures { λ r. ⌜ used r ≤ length (now (room .entry)) ⌝ }
 {
@@ -72,32 +72,32 @@ fn convert(s: &[u8], from: usize, to: usize, n: usize, room: &mut [u8]) -> Answe
         let fit = values::fits(s, from, to, n);
         match fit {
             Fit::Refused(k) => {
-                return Answer::Refused(k);
+                return Reply::Refused(k);
             }
             Fit::Bytes(size) => {
                 if room.len() < size {
-                    return Answer::Refused(7);
+                    return Reply::Refused(7);
                 }
                 values::carry(s, from, to, n, room, 0);
-                return Answer::Done(size);
+                return Reply::Done(size);
             }
         }
     }
-    Answer::NoCase
+    Reply::NoCase
 }
 
 // The content s of a value, if it is in normal form.
-fn keep(s: &[u8], format: usize, size: usize, room: &mut [u8]) -> Answer
+fn keep(s: &[u8], format: usize, size: usize, room: &mut [u8]) -> Reply
     requires { ⌜ (format < 5) × (allowed (format-at format) size ≡ true) × (((size ≡ 0) × (length (now s) ≤ 253)) ⊎ (size ≡ length (now s))) ⌝ }
     ensures { λ r. ⌜ used r ≤ length (now (room .entry)) ⌝ }
 {
     if room.len() < s.len() {
-        return Answer::Refused(7);
+        return Reply::Refused(7);
     }
     if values::is_normal(s, format, size) {
-        return Answer::Done(buffer::put(s, room, 0));
+        return Reply::Done(buffer::put(s, room, 0));
     }
-    Answer::Refused(2)
+    Reply::Refused(2)
 }
 
 // What a value of a format and length gives, by its content.
@@ -108,7 +108,7 @@ fn answer_content(
     target: u8,
     n: usize,
     room: &mut [u8],
-) -> Answer
+) -> Reply
     requires { ⌜ ((size ≡ 0) × (length (now s) ≤ 253)) ⊎ (size ≡ length (now s)) ⌝ }
     ensures { λ r. ⌜ used r ≤ length (now (room .entry)) ⌝ }
 {
@@ -118,7 +118,7 @@ fn answer_content(
         }
         return convert(s, from, format_of(target), n, room);
     }
-    Answer::NoCase
+    Reply::NoCase
 }
 
 // The length of a value of so many bytes.
@@ -127,7 +127,7 @@ fn size_of(letter: u8, length: usize) -> usize {
 }
 
 // What the value gives that stands in front of s.
-fn answer_value(s: &[u8], source: u8, target: u8, n: usize, room: &mut [u8]) -> Answer
+fn answer_value(s: &[u8], source: u8, target: u8, n: usize, room: &mut [u8]) -> Reply
     ensures { λ r. ⌜ used r ≤ length (now (room .entry)) ⌝ }
 {
     if source == b'-' {
@@ -139,37 +139,37 @@ fn answer_value(s: &[u8], source: u8, target: u8, n: usize, room: &mut [u8]) -> 
         First::Value(from, next) => {
             answer_content(&s[from..next], format_of(source), size, target, n, room)
         }
-        First::Refused(k) => Answer::Refused(k),
+        First::Refused(k) => Reply::Refused(k),
     }
 }
 
 // What a line gives whose bytes are decoded and whose second format stands at a place.
-fn answer_at(line: &[u8], at: usize, s: &[u8], room: &mut [u8]) -> Answer
+fn answer_at(line: &[u8], at: usize, s: &[u8], room: &mut [u8]) -> Reply
     requires { ⌜ (2 ≤ length (now line)) × (at ≤ length (now line) + 1) × (length (now line) ≤ 65536) ⌝ }
     ensures { λ r. ⌜ used r ≤ length (now (room .entry)) ⌝ }
 {
     if line.len() < at + 2 {
-        return Answer::NoCase;
+        return Reply::NoCase;
     }
     if line[at + 1] != b' ' {
-        return Answer::NoCase;
+        return Reply::NoCase;
     }
     let number = hexadecimal::take_number(line, at + 2);
     match number {
-        Number::Is(n) => answer_value(s, line[0], line[at], n, room),
-        Number::NoNumber => Answer::NoCase,
+        NumberWord::Is(n) => answer_value(s, line[0], line[at], n, room),
+        NumberWord::NoNumber => Reply::NoCase,
     }
 }
 
-fn answer_line(line: &[u8], bytes: &mut [u8], room: &mut [u8]) -> Answer
+fn answer_line(line: &[u8], bytes: &mut [u8], room: &mut [u8]) -> Reply
     requires { ⌜ (length (now line) ≤ 65536) × (length (now line) ≤ 2 * length (now bytes)) ⌝ }
     ensures { λ r. ⌜ used r ≤ length (now (room .entry)) ⌝ }
 {
     if line.len() < 2 {
-        return Answer::NoCase;
+        return Reply::NoCase;
     }
     if line[1] != b' ' {
-        return Answer::NoCase;
+        return Reply::NoCase;
     }
     let source = hexadecimal::take_bytes(line, 2, bytes, 0);
     let end = source.end;
@@ -177,20 +177,20 @@ fn answer_line(line: &[u8], bytes: &mut [u8], room: &mut [u8]) -> Answer
 }
 
 // The line of an answer, to the front of out; the place behind it.
-fn put(a: Answer, room: &[u8], out: &mut [u8]) -> usize
+fn put(a: Reply, room: &[u8], out: &mut [u8]) -> usize
     requires { ⌜ (used a ≤ length (now room)) × (length (now room) ≤ 4096) × (8208 ≤ length (now out)) ⌝ }
     ensures { λ r. ⌜ r ≤ length (now (out .entry)) ⌝ }
 {
     match a {
-        Answer::Done(n) => hexadecimal::put_answer(0, &room[..n], out, 0),
-        Answer::Refused(k) => hexadecimal::put_answer(k, &room[..0], out, 0),
-        Answer::NoCase => hexadecimal::put_no_call(out, 0),
+        Reply::Done(n) => hexadecimal::put_answer(0, &room[..n], out, 0),
+        Reply::Refused(k) => hexadecimal::put_answer(k, &room[..0], out, 0),
+        Reply::NoCase => hexadecimal::put_no_call(out, 0),
     }
 }
 
 // The next line of the input is answered, where there is one.
 fn answer_next(input: &mut [u8], l: Line, bytes: &mut [u8], room: &mut [u8], out: &mut [u8]) -> Line
-    requires { ⌜ Areas (now input) (now bytes) (now room) (now out) × Placed (length (now input)) l × (0 < l .more) ⌝ }
+    requires { ⌜ Conversion-areas (now input) (now bytes) (now room) (now out) × Placed (length (now input)) l × (0 < l .more) ⌝ }
     ensures { λ r. ⌜ Placed (length (now (input .entry))) r × (r .more < l .more) ⌝ }
 {
     let next = lines::next(input, l);
@@ -205,7 +205,7 @@ fn answer_next(input: &mut [u8], l: Line, bytes: &mut [u8], room: &mut [u8], out
 }
 
 fn answer_lines(input: &mut [u8], bytes: &mut [u8], room: &mut [u8], out: &mut [u8])
-    requires { ⌜ Areas (now input) (now bytes) (now room) (now out) ⌝ }
+    requires { ⌜ Conversion-areas (now input) (now bytes) (now room) (now out) ⌝ }
 {
     let mut l = lines::begin();
     while 0 < l.more {

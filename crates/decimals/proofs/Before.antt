@@ -13,7 +13,7 @@ use borrow.Author.Tests.{lt-ltb, le-ltb, eqb-true, eqb-false, eq-eqb, ne-eqb}
 use Rattle.rules.specs.Lists.{Bytes, all, digits}
 use Rattle.rules.proofs.Steps.{by-test}
 use Rattle.buffer.proofs.Cases.{by-order}
-use Rattle.decimals.specs.Decimals.{digits-of, sign-of, magnitude-of, Readable, places, byte-base, inner-written, front, last-written}
+use Rattle.decimals.specs.Decimals.{digits-of, sign-half, magnitude-of, Readable, places, byte-base, inner-written, front, last-written}
 use Rattle.decimals.proofs.Digits.{spelled-below, digits-spelled}
 use Rattle.decimals.proofs.Halves.{length-digits-of, high-at, unpacked-at}
 use Rattle.decimals.proofs.Meanings.{and-assoc, all-none}
@@ -45,8 +45,8 @@ module _ {p : Bool} {s : Bytes} (v : Sound p s) where
   unfolding magnitude-of
   own-digits = rw (← one-more, ← length-digits-of p s) (digits-spelled 10 (digits-of p s) (below-ten p s (v .nines)))
 
-  in-parts : front p (length s - 1) (magnitude-of p s / 10) ++ (last-written p (magnitude-of p s % 10) (sign-of p s) ∷ []) ≡ s
-  in-parts = sym (encoded-front p (length s - 1) (magnitude-of p s) (sign-of p s)) ∙ rw own-digits (v .whole)
+  in-parts : front p (length s - 1) (magnitude-of p s / 10) ++ (last-written p (magnitude-of p s % 10) (sign-half p s) ∷ []) ≡ s
+  in-parts = sym (encoded-front p (length s - 1) (magnitude-of p s) (sign-half p s)) ∙ rw own-digits (v .whole)
 
   pub before-last : take (length s - 1) s ≡ front p (length s - 1) (magnitude-of p s / 10)
   before-last =

@@ -7,7 +7,7 @@ use native.Mathlib.Omega.{arith}
 use lib.ListN.{length, getD, length-map, List·getD-map}
 use Rattle.rules.specs.Lists.{Bytes, but-last, last}
 use Rattle.rules.specs.Values.{halves}
-use Rattle.decimals.specs.Decimals.{digits-of, sign-of, places}
+use Rattle.decimals.specs.Decimals.{digits-of, sign-half, places}
 
 halves-high : (s : List ℕ) (i m : ℕ) → m ≡ 2 * i → getD (halves s) m 0 ≡ getD s i 0 / 16
 unfolding halves
@@ -92,11 +92,11 @@ unpacked-at s i = List·getD-map (λ b. b % 16) s i 0
 
 -- ---- the sign, in the last byte
 
-pub packed-sign : (s : Bytes) → 0 < length s → sign-of true s ≡ getD s (length s - 1) 0 % 16
-unfolding sign-of
+pub packed-sign : (s : Bytes) → 0 < length s → sign-half true s ≡ getD s (length s - 1) 0 % 16
+unfolding sign-half
 packed-sign s h =
     last-at (halves s) (2 * length s - 1) (rw (length-halves s) (omega arith)) ∙ halves-low s (length s - 1) (2 * length s - 1) (omega arith)
 
-pub unpacked-sign : (s : Bytes) → 0 < length s → sign-of false s ≡ getD s (length s - 1) 0 / 16
-unfolding sign-of
+pub unpacked-sign : (s : Bytes) → 0 < length s → sign-half false s ≡ getD s (length s - 1) 0 / 16
+unfolding sign-half
 unpacked-sign s h = ap (λ b. b / 16) (last-at s (length s - 1) (omega arith))

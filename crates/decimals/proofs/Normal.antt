@@ -11,7 +11,7 @@ use Rattle.rules.specs.Outcome.{Outcome, done, refused, _>>=_, need, is-done}
 use Rattle.rules.specs.Lists.{Bytes, bytes-of, same}
 use Rattle.rules.specs.Values.{Format, Value, number, pairs, zoned, meaning, sign-written, normal, with-length-byte, in-normal-form, conversion, in-range, converted, carried}
 use Rattle.rules.proofs.Steps.{by-test, eqb-same}
-use Rattle.decimals.specs.Decimals.{decimal-format, digits-of, sign-of, magnitude-of, is-minus, Readable, places, encoded, written}
+use Rattle.decimals.specs.Decimals.{decimal-format, digits-of, sign-half, magnitude-of, is-minus, Readable, places, encoded, written}
 use Rattle.decimals.proofs.Digits.{spelled-below, digits-spelled}
 use Rattle.decimals.proofs.Halves.{length-digits-of}
 use Rattle.decimals.proofs.Sound.{Sound, sound, readable, below-ten}
@@ -92,7 +92,7 @@ every-value false false w = refl
 
 module _ {p : Bool} {bs : Bytes} (v : Sound p bs) where
   -- a value is in normal form where its sign is the one that is written
-  pub form-sign : in-normal-form (decimal-format p) (length bs) bs ≡ eqb (sign-written (is-minus p bs)) (sign-of p bs)
+  pub form-sign : in-normal-form (decimal-format p) (length bs) bs ≡ eqb (sign-written (is-minus p bs)) (sign-half p bs)
   unfolding magnitude-of written
   form-sign =
       let ten = below-ten p bs (v .nines) in

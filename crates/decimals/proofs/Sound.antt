@@ -11,7 +11,7 @@ use Rattle.rules.specs.Outcome.{Outcome, done, refused, is-done}
 use Rattle.rules.specs.Lists.{Bytes, all, spelled, but-last, last}
 use Rattle.rules.specs.Values.{Value, number, signed, halves, pairs, zoned, accepted-plus, accepted-minus, sign-means, decimal, meaning}
 use Rattle.rules.proofs.Steps.{by-test, true-T, T-true, and-left, and-right, not-done, from-bind, from-need, done-inj}
-use Rattle.decimals.specs.Decimals.{decimal-format, digits-of, sign-of, magnitude-of, is-minus, all-digits, Readable, encoded, value-bytes}
+use Rattle.decimals.specs.Decimals.{decimal-format, digits-of, sign-half, magnitude-of, is-minus, all-digits, Readable, encoded, value-bytes}
 use Rattle.decimals.proofs.Digits.{all-weaker}
 use Rattle.decimals.proofs.Meanings.{value-scan}
 
@@ -82,7 +82,7 @@ pub record Sound (p : Bool) (bs : Bytes) : Type 0 where
   pub some : 0 < length bs
   pub nines : all-digits p bs ≡ true
   pub means : meaning (decimal-format p) bs ≡ done (number (is-minus p bs) (magnitude-of p bs))
-  pub whole : encoded p (digits-of p bs) (sign-of p bs) ≡ bs
+  pub whole : encoded p (digits-of p bs) (sign-half p bs) ≡ bs
 
 some-bytes : (p : Bool) (bs : Bytes) → value-bytes p bs ≡ true → 0 < length bs
 unfolding value-bytes
@@ -96,7 +96,7 @@ below-ten p bs e =
     all-weaker (λ d. leb d 9) (λ d. ltb d 10) (λ d h. lt→ltb d 10 (let q = leb→le d 9 h in omega arith)) (digits-of p bs) (true-T e)
 
 sound-as : (p : Bool) (bs : Bytes) (v : Value) → 0 < length bs → meaning (decimal-format p) bs ≡ done v → Sound p bs
-unfolding decimal-format meaning digits-of sign-of magnitude-of is-minus all-digits encoded
+unfolding decimal-format meaning digits-of sign-half magnitude-of is-minus all-digits encoded
 sound-as true bs v o e =
     decimal-done (but-last (halves bs)) (last (halves bs)) v e λ t f.
     record { some = o; nines = T-true _ t; means = e ∙ ap (λ (w : Value). done w) f; whole = packed-whole bs o }

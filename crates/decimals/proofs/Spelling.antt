@@ -17,7 +17,7 @@ use Rattle.rules.specs.Values.{accepted-minus, meaning}
 use Rattle.words.specs.Words.{word-of, value-of, pick}
 use Rattle.words.specs.declared.Word.the-variants.{Number, Outside}
 use Rattle.buffer.proofs.Cases.{by-order}
-use Rattle.decimals.specs.Decimals.{decimal-format, digits-of, sign-of, magnitude-of, is-minus, before, all-digits, Readable, Reckoned, places, inner-written}
+use Rattle.decimals.specs.Decimals.{decimal-format, digits-of, sign-half, magnitude-of, is-minus, first-spelled, all-digits, Readable, Reckoned, places, inner-written}
 use Rattle.decimals.proofs.Digits.{all-drop, all-at, spelled-below, spelled-full, spelled-grows, spelled-snoc}
 use Rattle.decimals.proofs.Halves.{length-digits-of, places-some, packed-high, packed-low, high-at, low-at, unpacked-at}
 use Rattle.decimals.proofs.Sound.{Sound, below-ten}
@@ -132,7 +132,7 @@ module _ {p : Bool} {s : Bytes} (v : Sound p s) where
   pub word-outside : {x : ℕ} → Reckoned p s x → suc greatest-word < x → Outside ≡ word-of (value-of (meaning (decimal-format p) s))
   word-outside r h = sym (word-is ∙ rw (lt-leb _ _ (lt-of-lt-of-le h (r .reached))))
 
-  pub word-number : (below : Bool) (x : ℕ) → Reckoned p s x → x ≤ suc greatest-word → below ≡ (accepted-minus (sign-of p s) && ltb 0 x)
+  pub word-number : (below : Bool) (x : ℕ) → Reckoned p s x → x ≤ suc greatest-word → below ≡ (accepted-minus (sign-half p s) && ltb 0 x)
       → Number (record { negative = below; magnitude = x }) ≡ word-of (value-of (meaning (decimal-format p) s))
   unfolding is-minus
   word-number below x r h e = sym (word-is ∙ rw (← r .exact h, ← e, le-leb _ _ h))
@@ -140,8 +140,8 @@ module _ {p : Bool} {s : Bytes} (v : Sound p s) where
 -- ---- reading from the right
 
 module _ {p : Bool} {s : Bytes} (v : Readable p s) where
-  more : (j : ℕ) → j < places p (length s) → before p s (suc j) ≡ before p s j * 10 + getD (digits-of p s) j 0
-  unfolding before
+  more : (j : ℕ) → j < places p (length s) → first-spelled p s (suc j) ≡ first-spelled p s j * 10 + getD (digits-of p s) j 0
+  unfolding first-spelled
   more j h =
       let l = length-digits-of p s in
       rw (take-suc (digits-of p s) j 0 (omega arith)) (spelled-snoc 10 (take j (digits-of p s)) (getD (digits-of p s) j 0) 0)
@@ -151,23 +151,23 @@ module _ {p : Bool} {s : Bytes} (v : Readable p s) where
       let l = length-digits-of p s in
       ltb→lt (getD (digits-of p s) j 0) 10 (all-at (λ d. ltb d 10) (digits-of p s) j (below-ten p s (v .nines)) (omega arith))
 
-  pub before-none : before p s 0 ≡ 0
-  unfolding before
+  pub before-none : first-spelled p s 0 ≡ 0
+  unfolding first-spelled
   before-none = spelled-none 10 0
 
-  pub before-all : before p s (places p (length s)) ≡ magnitude-of p s
-  unfolding before magnitude-of
+  pub before-all : first-spelled p s (places p (length s)) ≡ magnitude-of p s
+  unfolding first-spelled magnitude-of
   before-all = let l = length-digits-of p s in rw (take-all (places p (length s)) (digits-of p s) (omega arith))
 
   -- the last of the first j digits, and what those before it spell
-  pub before-digit : (j : ℕ) → 0 < j → j ≤ places p (length s) → before p s j % 10 ≡ getD (digits-of p s) (j - 1) 0
+  pub before-digit : (j : ℕ) → 0 < j → j ≤ places p (length s) → first-spelled p s j % 10 ≡ getD (digits-of p s) (j - 1) 0
   before-digit j o h =
       let e : j ≡ suc (j - 1) = omega arith in
       let m = more (j - 1) (omega arith) in
       let d = small (j - 1) (omega arith) in
-      ap (λ k. before p s k % 10) e ∙ omega arith
+      ap (λ k. first-spelled p s k % 10) e ∙ omega arith
 
-  pub before-less : (j : ℕ) → j ≤ places p (length s) → before p s (j - 1) ≡ before p s j / 10
+  pub before-less : (j : ℕ) → j ≤ places p (length s) → first-spelled p s (j - 1) ≡ first-spelled p s j / 10
   before-less zero h = let z = before-none in omega arith
   before-less (suc j) h =
       let e : suc j - 1 ≡ j = omega arith in
@@ -175,25 +175,25 @@ module _ {p : Bool} {s : Bytes} (v : Readable p s) where
       let d = small j h in
       rw e (omega arith)
 
-  pub before-two-less : (j : ℕ) → j ≤ places p (length s) → before p s (j - 2) ≡ before p s j / 100
+  pub before-two-less : (j : ℕ) → j ≤ places p (length s) → first-spelled p s (j - 2) ≡ first-spelled p s j / 100
   before-two-less j h =
       let e : j - 1 - 1 ≡ j - 2 = omega arith in
       let a = before-less j h in
       let b = rw e at (before-less (j - 1) (omega arith)) in
       omega arith
 
-  before-but-one : before p s (places p (length s) - 1) ≡ magnitude-of p s / 10
+  before-but-one : first-spelled p s (places p (length s) - 1) ≡ magnitude-of p s / 10
   before-but-one = before-less (places p (length s)) (omega arith) ∙ rw before-all
 
   pub last-digit-of : getD (digits-of p s) (places p (length s) - 1) 0 ≡ magnitude-of p s % 10
   last-digit-of = sym (before-digit (places p (length s)) (places-some p (length s) (v .some)) (omega arith)) ∙ rw before-all
 
 -- what the digits before the last spell
-pub unpacked-but-one : {s : Bytes} → Readable false s → before false s (length s - 1) ≡ magnitude-of false s / 10
+pub unpacked-but-one : {s : Bytes} → Readable false s → first-spelled false s (length s - 1) ≡ magnitude-of false s / 10
 unfolding places
 unpacked-but-one v = before-but-one v
 
-pub packed-but-one : {s : Bytes} → Readable true s → before true s (2 * length s - 2) ≡ magnitude-of true s / 10
+pub packed-but-one : {s : Bytes} → Readable true s → first-spelled true s (2 * length s - 2) ≡ magnitude-of true s / 10
 unfolding places
 packed-but-one {s} v =
     let e : 2 * length s - 1 - 1 ≡ 2 * length s - 2 = omega arith in
@@ -201,7 +201,7 @@ packed-but-one {s} v =
 
 -- two digits of U as a byte of P
 module _ {s : Bytes} (v : Readable false s) (j : ℕ) where
-  pub pair-two : 1 < j → j ≤ length s → getD s (j - 2) 0 % 16 * 16 + getD s (j - 1) 0 % 16 ≡ inner-written true (before false s j % 100)
+  pub pair-two : 1 < j → j ≤ length s → getD s (j - 2) 0 % 16 * 16 + getD s (j - 1) 0 % 16 ≡ inner-written true (first-spelled false s j % 100)
   unfolding places inner-written
   pair-two o h =
       let e : j - 1 - 1 ≡ j - 2 = omega arith in
@@ -210,7 +210,7 @@ module _ {s : Bytes} (v : Readable false s) (j : ℕ) where
       let c = before-less v j h in
       omega arith
 
-  pub pair-one : j ≡ 1 → getD s 0 0 % 16 ≡ inner-written true (before false s j % 100)
+  pub pair-one : j ≡ 1 → getD s 0 0 % 16 ≡ inner-written true (first-spelled false s j % 100)
   unfolding places inner-written
   pair-one e =
       let o = v .some in
@@ -219,19 +219,19 @@ module _ {s : Bytes} (v : Readable false s) (j : ℕ) where
       let z = before-none v in
       rw e (omega arith)
 
-  pub pair-none : j ≡ 0 → 0 ≡ inner-written true (before false s j % 100)
+  pub pair-none : j ≡ 0 → 0 ≡ inner-written true (first-spelled false s j % 100)
   unfolding inner-written
   pair-none e = rw (e, before-none v)
 
 -- a digit of P
 module _ {s : Bytes} (v : Readable true s) (j : ℕ) where
-  pub half-none : j ≡ 0 → 0 ≡ before true s j % 10
+  pub half-none : j ≡ 0 → 0 ≡ first-spelled true s j % 10
   half-none e = rw (e, before-none v)
 
-  pub half-low : (j ≡ 0 → ⊥) → j < 2 * length s → j % 2 ≡ 0 → getD s ((j - 1) / 2) 0 % 16 ≡ before true s j % 10
+  pub half-low : (j ≡ 0 → ⊥) → j < 2 * length s → j % 2 ≡ 0 → getD s ((j - 1) / 2) 0 % 16 ≡ first-spelled true s j % 10
   unfolding places
   half-low o h e = sym (before-digit v j (omega arith) (omega arith) ∙ packed-low s (j - 1) (omega arith) (λ q. omega arith))
 
-  pub half-high : (j ≡ 0 → ⊥) → j < 2 * length s → (j % 2 ≡ 0 → ⊥) → getD s ((j - 1) / 2) 0 / 16 ≡ before true s j % 10
+  pub half-high : (j ≡ 0 → ⊥) → j < 2 * length s → (j % 2 ≡ 0 → ⊥) → getD s ((j - 1) / 2) 0 / 16 ≡ first-spelled true s j % 10
   unfolding places
   half-high o h e = sym (before-digit v j (omega arith) (omega arith) ∙ packed-high s (j - 1) (omega arith) (omega arith))

@@ -19,20 +19,20 @@ unfoldable pub digits-of : Bool → Bytes → List ℕ
 digits-of true bs = but-last (halves bs)
 digits-of false bs = map (λ b. b % 16) bs
 
-unfoldable pub sign-of : Bool → Bytes → ℕ
-sign-of true bs = last (halves bs)
-sign-of false bs = last bs / 16
+unfoldable pub sign-half : Bool → Bytes → ℕ
+sign-half true bs = last (halves bs)
+sign-half false bs = last bs / 16
 
 unfoldable pub magnitude-of : Bool → Bytes → ℕ
 magnitude-of p bs = spelled 10 (digits-of p bs) 0
 
 -- The number that the first j digits spell.
-unfoldable pub before : Bool → Bytes → ℕ → ℕ
-before p bs j = spelled 10 (take j (digits-of p bs)) 0
+unfoldable pub first-spelled : Bool → Bytes → ℕ → ℕ
+first-spelled p bs j = spelled 10 (take j (digits-of p bs)) 0
 
 -- Below zero: "zero with D means zero".
 unfoldable pub is-minus : Bool → Bytes → Bool
-is-minus p bs = accepted-minus (sign-of p bs) && ltb 0 (magnitude-of p bs)
+is-minus p bs = accepted-minus (sign-half p bs) && ltb 0 (magnitude-of p bs)
 
 -- Whether every digit is one: at most 9.
 unfoldable pub all-digits : Bool → Bytes → Bool

@@ -10,7 +10,7 @@ ghost use Rattle.rules.specs.Lists.{all, bytes-of};
 ghost use Rattle.rules.specs.Values.{meaning, normal, carried, in-normal-form, accepted-minus, sign-written};
 ghost use Rattle.buffer.specs.Splice.{splice};
 ghost use Rattle.words.specs.Words.{signed-value, word-of, value-of};
-ghost use Rattle.decimals.specs.Decimals.{decimal-format, sign-of, magnitude-of, is-minus, before, Readable, Reckoned, places, inner-written, front, last-written, is-sign, inner-byte, last-byte};
+ghost use Rattle.decimals.specs.Decimals.{decimal-format, sign-half, magnitude-of, is-minus, first-spelled, Readable, Reckoned, places, inner-written, front, last-written, is-sign, inner-byte, last-byte};
 use words::Signed;
 use words::Word;
 
@@ -117,7 +117,7 @@ fn digit_count(packed: bool, n: usize) -> usize
 // The sign's half byte.
 fn sign(s: &[u8], packed: bool) -> u8
     requires { ⌜ 0 < length (now s) ⌝ }
-    ensures { λ r. ⌜ r ≡ sign-of packed (now (s .entry)) ⌝ }
+    ensures { λ r. ⌜ r ≡ sign-half packed (now (s .entry)) ⌝ }
 {
     let b = s[s.len() - 1];
     if packed { b % 16 } else { b / 16 }
@@ -350,7 +350,7 @@ fn back(j: usize, k: usize) -> usize
 // The last two of the first j digits of U, as a byte of P.
 fn last_pair(s: &[u8], j: usize) -> u8
     requires { ⌜ Readable false (now s) × (j ≤ length (now s)) ⌝ }
-    ensures { λ r. ⌜ r ≡ inner-written true (before false (now (s .entry)) j % 100) ⌝ }
+    ensures { λ r. ⌜ r ≡ inner-written true (first-spelled false (now (s .entry)) j % 100) ⌝ }
 {
     if 1 < j {
         return s[j - 2] % 16 * 16 + s[j - 1] % 16;
@@ -375,7 +375,7 @@ fn pack_digits(s: &[u8], n: usize, out: &mut [u8], at: usize)
 // The last of the first j digits of P.
 fn last_half(s: &[u8], j: usize) -> u8
     requires { ⌜ Readable true (now s) × (j < 2 * length (now s)) ⌝ }
-    ensures { λ r. ⌜ r ≡ before true (now (s .entry)) j % 10 ⌝ }
+    ensures { λ r. ⌜ r ≡ first-spelled true (now (s .entry)) j % 10 ⌝ }
 {
     if j == 0 {
         return 0;

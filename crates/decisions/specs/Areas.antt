@@ -4,5 +4,5 @@ use Prim.Native.Nat.{ℕ, _+_, _*_, _≤_, _<_}
 use lib.ListN.{length}
 
 -- The input may hold a line and its newline, bytes what the line spells, and the output an answer's line.
-abbrev pub Areas : List ℕ → List ℕ → List ℕ → Type 0
-Areas input bytes out = (0 < length input) × (length input ≤ 2 * length bytes + 1) × (8 ≤ length out)
+abbrev pub Decision-areas : List ℕ → List ℕ → List ℕ → Type 0
+Decision-areas input bytes out = (0 < length input) × (length input ≤ 2 * length bytes + 1) × (8 ≤ length out)

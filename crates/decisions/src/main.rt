@@ -10,7 +10,7 @@ ghost use Rattle.uses.specs.Meant.{Tested};
 ghost use Rattle.hexadecimal.specs.Answers.{Called};
 ghost use Rattle.lines.specs.Placed.{Placed};
 ghost use Rattle.decisions.specs.Decided.{decided};
-ghost use Rattle.decisions.specs.Areas.{Areas};
+ghost use Rattle.decisions.specs.Areas.{Decision-areas};
 
 // A line of 160,000 bytes, the longest that can be a call, and its newline.
 fn input_area() -> [u8; 160001]
@@ -80,7 +80,7 @@ fn answer_line(line: &[u8], bytes: &mut [u8], out: &mut [u8]) -> usize
 
 // The next line of the input is answered, where there is one.
 fn answer_next(input: &mut [u8], l: Line, bytes: &mut [u8], out: &mut [u8]) -> Line
-    requires { ⌜ Areas (now input) (now bytes) (now out) × Placed (length (now input)) l × (0 < l .more) ⌝ }
+    requires { ⌜ Decision-areas (now input) (now bytes) (now out) × Placed (length (now input)) l × (0 < l .more) ⌝ }
     ensures { λ r. ⌜ Placed (length (now (input .entry))) r × (r .more < l .more) ⌝ }
 {
     let next = lines::next(input, l);
@@ -94,7 +94,7 @@ fn answer_next(input: &mut [u8], l: Line, bytes: &mut [u8], out: &mut [u8]) -> L
 }
 
 fn answer_lines(input: &mut [u8], bytes: &mut [u8], out: &mut [u8])
-    requires { ⌜ Areas (now input) (now bytes) (now out) ⌝ }
+    requires { ⌜ Decision-areas (now input) (now bytes) (now out) ⌝ }
 {
     let mut l = lines::begin();
     while 0 < l.more {

@@ -15,7 +15,7 @@ use Rattle.rules.specs.Lists.{Bytes, spelled, nothing}
 use Rattle.rules.specs.Format.{leading-digits, number-first}
 use Rattle.formats.specs.Part.{part}
 use Rattle.formats.specs.Elements.{number-bound}
-use Rattle.formats.specs.Numbers.{range-end, alone, within, Numbered}
+use Rattle.formats.specs.Numbers.{range-end, byte-alone, number-place, Numbered}
 use Rattle.formats.specs.declared.numbers.Number.{Number}
 use Rattle.formats.specs.declared.numbers.Number.the-variants.{Value, Bad}
 use Rattle.formats.proofs.Parts.{part-nil, part-cons}
@@ -138,31 +138,31 @@ module _ (f : Bytes) (k at upto : ℕ) (h : at < upto) (r : upto ≤ length f) w
   unfolding range-end
   range-end-hyphen e = rw (part-cons f at upto h r, e) refl
 
-alone-nil : (c : ℕ) → false ≡ alone c []
-unfolding alone
+alone-nil : (c : ℕ) → false ≡ byte-alone c []
+unfolding byte-alone
 alone-nil c = refl
 
-alone-more : (c a b : ℕ) (bs : Bytes) → false ≡ alone c (a ∷ b ∷ bs)
-unfolding alone nothing
+alone-more : (c a b : ℕ) (bs : Bytes) → false ≡ byte-alone c (a ∷ b ∷ bs)
+unfolding byte-alone nothing
 alone-more c a b bs = sym (and-false-right (eqb a c))
 
 -- One byte and nothing more.
 module _ (f : Bytes) (c at upto : ℕ) (k : upto ≤ length f) where
-  pub alone-one : upto - at ≡ 1 → eqb (getD f at 0) c ≡ alone c (part f at upto)
-  unfolding alone nothing
+  pub alone-one : upto - at ≡ 1 → eqb (getD f at 0) c ≡ byte-alone c (part f at upto)
+  unfolding byte-alone nothing
   alone-one e = rw (part-cons f at upto (omega arith) k, part-nil f (at + 1) upto (omega arith)) (sym (and-true-right (eqb (getD f at 0) c)))
 
-  pub alone-other : (upto - at ≡ 1 → ⊥) → false ≡ alone c (part f at upto)
+  pub alone-other : (upto - at ≡ 1 → ⊥) → false ≡ byte-alone c (part f at upto)
   alone-other e = by-order at upto (λ h. more h e) (λ h. none h)
     where
-      none : upto ≤ at → false ≡ alone c (part f at upto)
+      none : upto ≤ at → false ≡ byte-alone c (part f at upto)
       none h = rw (part-nil f at upto h) (alone-nil c)
 
-      more : at < upto → (upto - at ≡ 1 → ⊥) → false ≡ alone c (part f at upto)
+      more : at < upto → (upto - at ≡ 1 → ⊥) → false ≡ byte-alone c (part f at upto)
       more h e = rw (part-cons f at upto h k, part-cons f (at + 1) upto (omega arith) k) (alone-more _ _ _ _)
 
 -- What was read from a later place on.
-within-later : (at at′ upto : ℕ) (r : Number) → at ≤ at′ → within at′ upto r → within at upto r
+within-later : (at at′ upto : ℕ) (r : Number) → at ≤ at′ → number-place at′ upto r → number-place at upto r
 within-later at at′ upto (Value n p) h (a, b, c) = (omega arith, b, c)
 within-later at at′ upto Bad h w = tt
 

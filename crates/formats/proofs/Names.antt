@@ -17,7 +17,7 @@ use Rattle.rules.specs.Format.{Range, named, count, series, number-first, closi
 use Rattle.rules.proofs.Steps.{by-test}
 use Rattle.formats.specs.Part.{part}
 use Rattle.formats.specs.Elements.{range, number-bound}
-use Rattle.formats.specs.Numbers.{range-end, alone, number-of, Numbered}
+use Rattle.formats.specs.Numbers.{range-end, byte-alone, number-and-rest, Numbered}
 use Rattle.formats.specs.declared.numbers.Number.{Number}
 use Rattle.formats.specs.declared.numbers.Number.the-variants.{Value, Bad}
 use Rattle.formats.proofs.Parts.{part-nil, part-cons}
@@ -26,19 +26,19 @@ use Rattle.characters.proofs.Tests.{false-true, and-true-right, and-false-right
 -- What is known once the answer of a reader of numbers is.
 pub numbered-value : {f : Bytes} {at upto : ℕ} {o : Outcome (ℕ × Bytes)} {r : Number} {n p : ℕ} → Numbered f at upto o r → r ≡ Value n p
     → (o ≡ done (n, part f p upto)) × ((at ≤ p) × (p ≤ upto) × (n < number-bound))
-numbered-value {f} {at} {upto} w q = (w .answer ∙ ap (number-of f upto) q, rw q at (w .place))
+numbered-value {f} {at} {upto} w q = (w .answer ∙ ap (number-and-rest f upto) q, rw q at (w .place))
 
 pub numbered-bad : {f : Bytes} {at upto : ℕ} {o : Outcome (ℕ × Bytes)} {r : Number} → Numbered f at upto o r → r ≡ Bad → o ≡ refused 3
-numbered-bad {f} {at} {upto} w q = w .answer ∙ ap (number-of f upto) q
+numbered-bad {f} {at} {upto} w q = w .answer ∙ ap (number-and-rest f upto) q
 
 -- `)` and nothing more.
-closing-shut : (r : Range) (bs : Bytes) → alone close-parenthesis bs ≡ true → closing r bs ≡ done r
-unfolding closing alone
+closing-shut : (r : Range) (bs : Bytes) → byte-alone close-parenthesis bs ≡ true → closing r bs ≡ done r
+unfolding closing byte-alone
 closing-shut r [] e = absurd (false-true e)
 closing-shut r (b ∷ bs) e = rw e refl
 
-closing-open : (r : Range) (bs : Bytes) → alone close-parenthesis bs ≡ false → closing r bs ≡ refused 3
-unfolding closing alone
+closing-open : (r : Range) (bs : Bytes) → byte-alone close-parenthesis bs ≡ false → closing r bs ≡ refused 3
+unfolding closing byte-alone
 closing-open r [] e = refl
 closing-open r (b ∷ bs) e = rw e refl
 
@@ -63,10 +63,10 @@ module _ (bs : Bytes) {k : ℕ} {cs : Bytes} (e : number-first bs ≡ done (k, c
   pub parenthesis-bad : range-end k cs ≡ refused 3 → parenthesis bs ≡ refused 3
   parenthesis-bad h = parenthesis-behind k cs bs e ∙ rw h refl
 
-  pub parenthesis-shut : {l : ℕ} {ds : Bytes} → range-end k cs ≡ done (l, ds) → alone close-parenthesis ds ≡ true → parenthesis bs ≡ done (range k l)
+  pub parenthesis-shut : {l : ℕ} {ds : Bytes} → range-end k cs ≡ done (l, ds) → byte-alone close-parenthesis ds ≡ true → parenthesis bs ≡ done (range k l)
   parenthesis-shut {l} {ds} h t = parenthesis-behind k cs bs e ∙ rw h (closing-shut (range k l) ds t)
 
-  pub parenthesis-open : {l : ℕ} {ds : Bytes} → range-end k cs ≡ done (l, ds) → alone close-parenthesis ds ≡ false → parenthesis bs ≡ refused 3
+  pub parenthesis-open : {l : ℕ} {ds : Bytes} → range-end k cs ≡ done (l, ds) → byte-alone close-parenthesis ds ≡ false → parenthesis bs ≡ refused 3
   parenthesis-open {l} {ds} h t = parenthesis-behind k cs bs e ∙ rw h (closing-open (range k l) ds t)
 
 -- Behind a name and a range.
@@ -86,14 +86,14 @@ module _ (n : ℕ) (r : Range) (f : Bytes) (at upto : ℕ) where
 
 -- Behind a name and an index.
 module _ (n i : ℕ) where
-  pub after-index-count : (bs : Bytes) → alone letter-C bs ≡ true → after-index n i bs ≡ done (count n (some i))
-  unfolding after-index alone
+  pub after-index-count : (bs : Bytes) → byte-alone letter-C bs ≡ true → after-index n i bs ≡ done (count n (some i))
+  unfolding after-index byte-alone
   after-index-count [] e = absurd (false-true e)
   after-index-count (b ∷ bs) e = rw (e, after-index) refl
 
-  pub after-index-range : (bs : Bytes) → alone letter-C bs ≡ false → {o : Outcome (ℕ × Bytes)} → range-end i bs ≡ o
+  pub after-index-range : (bs : Bytes) → byte-alone letter-C bs ≡ false → {o : Outcome (ℕ × Bytes)} → range-end i bs ≡ o
       → after-index n i bs ≡ (o >>= λ j. after-range n (range i (j .0)) (j .1))
-  unfolding after-index after-range range-end alone
+  unfolding after-index after-range range-end byte-alone
   after-index-range [] e q = rw (← q) refl
   after-index-range (b ∷ bs) e q =
       rw (← q, e, after-index) (by-test (eqb b hyphen) (λ h. rw (h, range-end) refl) (λ h. rw (h, range-end) refl))
@@ -114,14 +114,14 @@ module _ (n : ℕ) (f : Bytes) (at upto : ℕ) (k : upto ≤ length f) where
       (λ l. rw (part-cons f at upto h k, part-nil f (at + 1) upto l) refl))
       (λ h. rw (part-nil f at upto h) refl)
 
-after-name-C : (n : ℕ) (bs : Bytes) → alone letter-C bs ≡ true → after-name n bs ≡ done (count n none)
-unfolding after-name alone
+after-name-C : (n : ℕ) (bs : Bytes) → byte-alone letter-C bs ≡ true → after-name n bs ≡ done (count n none)
+unfolding after-name byte-alone
 after-name-C n [] e = absurd (false-true e)
 after-name-C n (b ∷ bs) e = rw (e, after-name) refl
 
-after-name-other : (n b : ℕ) (bs : Bytes) → alone letter-C (b ∷ bs) ≡ false
+after-name-other : (n b : ℕ) (bs : Bytes) → byte-alone letter-C (b ∷ bs) ≡ false
     → after-name n (b ∷ bs) ≡ elim (eqb b hyphen) [ true ↦ series-to n bs | false ↦ number-first (b ∷ bs) >>= (λ i. after-index n (i .0) (i .1)) ]
-unfolding after-name alone
+unfolding after-name byte-alone
 after-name-other n b bs e = rw (e, after-name) refl
 
 -- Behind a name.
@@ -130,10 +130,10 @@ module _ (n : ℕ) (f : Bytes) (at upto : ℕ) where
   unfolding after-name
   after-name-nothing e = rw (part-nil f at upto (omega arith)) refl
 
-  pub after-name-count : alone letter-C (part f at upto) ≡ true → after-name n (part f at upto) ≡ done (count n none)
+  pub after-name-count : byte-alone letter-C (part f at upto) ≡ true → after-name n (part f at upto) ≡ done (count n none)
   after-name-count e = after-name-C n (part f at upto) e
 
-  module _ (h : at < upto) (k : upto ≤ length f) (c : alone letter-C (part f at upto) ≡ false) where
+  module _ (h : at < upto) (k : upto ≤ length f) (c : byte-alone letter-C (part f at upto) ≡ false) where
     pub after-name-series : getD f at 0 ≡ hyphen → after-name n (part f at upto) ≡ series-to n (part f (at + 1) upto)
     after-name-series e = let q = rw (part-cons f at upto h k) at c in rw (part-cons f at upto h k, after-name-other n _ _ q, e) refl
 

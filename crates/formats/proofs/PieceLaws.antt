@@ -15,7 +15,7 @@ use Rattle.rules.specs.Table.{is-name, name-of}
 use Rattle.rules.specs.Format.{Piece, element, length-piece, format-piece, blanks, quoted, after-number, after-name, text-piece, piece, is-override}
 use Rattle.rules.proofs.Steps.{from-need, done-inj}
 use Rattle.formats.specs.Part.{part}
-use Rattle.formats.specs.Numbers.{alone}
+use Rattle.formats.specs.Numbers.{byte-alone}
 use Rattle.formats.specs.Pieces.{no-apostrophe, as-piece, only-element, number-piece}
 use Rattle.formats.proofs.Parts.{part-nil, part-cons, part-snoc, length-part}
 use Rattle.characters.proofs.Tests.{and-false-right}
@@ -32,8 +32,8 @@ module _ (n : ℕ) (f : Bytes) (at upto : ℕ) where
 
   module _ (h : at < upto) (k : upto ≤ length f) where
     number-behind : after-number n (part f at upto)
-        ≡ (need (alone letter-X (part f at upto) && leb 1 n && leb n longest-blanks) 3 >>= λ _. done (element (blanks n)))
-    unfolding after-number alone
+        ≡ (need (byte-alone letter-X (part f at upto) && leb 1 n && leb n longest-blanks) 3 >>= λ _. done (element (blanks n)))
+    unfolding after-number byte-alone
     number-behind = rw (part-cons f at upto h k) refl
 
     pub number-zero : n ≡ 0 → after-number n (part f at upto) ≡ refused 3
@@ -42,14 +42,14 @@ module _ (n : ℕ) (f : Bytes) (at upto : ℕ) where
     pub number-long : longest-blanks < n → after-number n (part f at upto) ≡ refused 3
     number-long e = number-behind ∙ rw (lt-leb _ _ e) (simp and-false-right)
 
-    pub number-blanks : alone letter-X (part f at upto) ≡ true → 1 ≤ n → n ≤ longest-blanks
+    pub number-blanks : byte-alone letter-X (part f at upto) ≡ true → 1 ≤ n → n ≤ longest-blanks
         → after-number n (part f at upto) ≡ done (element (blanks n))
     number-blanks t lo hi = number-behind ∙ rw (t, le-leb _ _ lo, le-leb _ _ hi) refl
 
     pub number-only : only-element (after-number n (part f at upto))
-    number-only q e = from-need (alone letter-X (part f at upto) && leb 1 n && leb n longest-blanks) 3 _ (sym number-behind ∙ e) λ _ l. (blanks n, sym (done-inj l))
+    number-only q e = from-need (byte-alone letter-X (part f at upto) && leb 1 n && leb n longest-blanks) 3 _ (sym number-behind ∙ e) λ _ l. (blanks n, sym (done-inj l))
 
-    pub number-other : alone letter-X (part f at upto) ≡ false → after-number n (part f at upto) ≡ refused 3
+    pub number-other : byte-alone letter-X (part f at upto) ≡ false → after-number n (part f at upto) ≡ refused 3
     number-other t = number-behind ∙ rw t refl
 
 -- A test of every byte, one at a time.

@@ -8,7 +8,7 @@ use Rattle.rules.specs.Outcome.{Outcome, done, refused, _>>=_, need}
 use Rattle.rules.specs.Lists.{Bytes, absent}
 use Rattle.rules.specs.Format.{Element, element, length-piece, format-piece, Pending, texts, settled, completed, put-before, assembled}
 use Rattle.rules.proofs.Steps.{from-bind, done-inj}
-use Rattle.formats.specs.Syntax.{parsed, before}
+use Rattle.formats.specs.Syntax.{parsed, element-before}
 use Rattle.formats.specs.Texts.{pending, elements-first}
 use Rattle.rules.proofs.Only.{Only, Is}
 
@@ -24,10 +24,10 @@ parsed-pending bs = over (texts false bs)
     over (done ts) = refl
     over (refused n) = refl
 
-pub settle-before : (x : Element) (m : Outcome Pending) → (m >>= λ p. need (settled p) 3 >>= λ _. done (x ∷ p .elements)) ≡ before x (m >>= settle)
+pub settle-before : (x : Element) (m : Outcome Pending) → (m >>= λ p. need (settled p) 3 >>= λ _. done (x ∷ p .elements)) ≡ element-before x (m >>= settle)
 settle-before x (done p) = over (settled p)
   where
-    over : (t : Bool) → (need t 3 >>= λ _. done (x ∷ p .elements)) ≡ before x (need t 3 >>= λ _. done (p .elements))
+    over : (t : Bool) → (need t 3 >>= λ _. done (x ∷ p .elements)) ≡ element-before x (need t 3 >>= λ _. done (p .elements))
     over true = refl
     over false = refl
 settle-before x (refused n) = refl
@@ -71,11 +71,11 @@ put-first e m p h =
 module _ (k : Pending → Outcome (List Element)) where
   -- The elements come first, and the step adds x to them.
   pub take-elements : (x : Element) → ((es : List Element) → k (both none none es) ≡ done (x ∷ es)) → (m : Outcome Pending) → elements-first m
-      → (m >>= k) ≡ before x (m >>= settle)
+      → (m >>= k) ≡ element-before x (m >>= settle)
   unfolding settled absent
   take-elements x h (done p) s = go (p .size) (p .format) (p .elements) (s p refl)
     where
-      go : (l b : Option ℕ) (es : List Element) → settled (both l b es) ≡ true → k (both l b es) ≡ before x (settle (both l b es))
+      go : (l b : Option ℕ) (es : List Element) → settled (both l b es) ≡ true → k (both l b es) ≡ element-before x (settle (both l b es))
       go none none es e = h es
       go none (some b) es e = absurd (false≢true e)
       go (some l) b es e = absurd (false≢true e)

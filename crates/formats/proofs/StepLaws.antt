@@ -20,20 +20,20 @@ use Rattle.rules.proofs.Refusals.{texts-only, assembled-only}
 use Rattle.formats.specs.Elements.{optional, element-of, named-of, sound, with-length, with-format}
 use Rattle.formats.specs.Pieces.{piece-of}
 use Rattle.formats.specs.Texts.{pending, elements-first, rest, Looked}
-use Rattle.formats.specs.Syntax.{parsed, before, by-step, behind, step-place, Stepped, then-format, then-completed}
+use Rattle.formats.specs.Syntax.{parsed, element-before, by-step, elements-behind, step-place, Stepped, then-format, then-completed}
 use Rattle.formats.specs.declared.Named.{Named}
 use Rattle.formats.specs.declared.Element.{Element}
 use Rattle.formats.specs.declared.Element.the-variants as code
 use Rattle.formats.specs.declared.pieces.Piece.{Piece}
 use Rattle.formats.specs.declared.pieces.Piece.the-variants as piece
-use Rattle.formats.specs.declared.texts.Ahead.{Ahead}
+use Rattle.formats.specs.declared.texts.PieceAt.{PieceAt}
 use Rattle.formats.specs.declared.syntax.Step.{Step}
 use Rattle.formats.specs.declared.syntax.Step.the-variants.{At, Bad}
 use Rattle.formats.proofs.Joins.{rest-period, rest-comma}
 use Rattle.formats.proofs.Puts.{settle, parsed-pending, settle-before, put-completed, completed-settled, both, take-elements, put-format, put-format-bad, put-length, put-length-bad}
 
 -- What was read, once the piece is known.
-pub looked-as : {f : Bytes} {at : ℕ} {r : Ahead} {q : Piece} → Looked f at r → r .piece ≡ q → Looked f at (record { piece = q; end = r .end })
+pub looked-as : {f : Bytes} {at : ℕ} {r : PieceAt} {q : Piece} → Looked f at r → r .piece ≡ q → Looked f at (record { piece = q; end = r .end })
 looked-as {f} {at} {r} w e = record {
   answer = w .answer ∙ ap (λ x. piece-of f x >>= λ p. rest f (r .end) >>= put-before p) e;
   place = rw e at (w .place);
@@ -74,15 +74,15 @@ name-at-length n size l = ap (λ b. named-of n size b) (optional-none (n .letter
 
 -- What stands behind a place, by a period or a comma there.
 module _ (f : Bytes) (stop : ℕ) where
-  pub behind-last : eqb (getD f stop 0) period ≡ true → behind f stop ≡ done []
-  unfolding behind
-  behind-last e = rw (e, behind) refl
+  pub behind-last : eqb (getD f stop 0) period ≡ true → elements-behind f stop ≡ done []
+  unfolding elements-behind
+  behind-last e = rw (e, elements-behind) refl
 
-  pub behind-more : eqb (getD f stop 0) period ≡ false → behind f stop ≡ parsed (drop (stop + 1) f)
-  unfolding behind
-  behind-more e = rw (e, behind) refl
+  pub behind-more : eqb (getD f stop 0) period ≡ false → elements-behind f stop ≡ parsed (drop (stop + 1) f)
+  unfolding elements-behind
+  behind-more e = rw (e, elements-behind) refl
 
-  rest-behind : (rest f stop >>= settle) ≡ behind f stop
+  rest-behind : (rest f stop >>= settle) ≡ elements-behind f stop
   unfolding settled absent
   rest-behind =
       by-test (eqb (getD f stop 0) period)
@@ -99,27 +99,27 @@ module _ (f : Bytes) (stop : ℕ) where
 -- An element behind which neither a length nor a format stands, and the elements behind it.
 module _ (f : Bytes) (end : ℕ) where
   at-first : (k : Pending → Outcome (List rules.Element)) (x : rules.Element) → ((es : List rules.Element) → k (both none none es) ≡ done (x ∷ es))
-      → elements-first (rest f end) → (rest f end >>= k) ≡ before x (behind f end)
-  at-first k x h s = take-elements k x h (rest f end) s ∙ ap (before x) (rest-behind f end)
+      → elements-first (rest f end) → (rest f end >>= k) ≡ element-before x (elements-behind f end)
+  at-first k x h s = take-elements k x h (rest f end) s ∙ ap (element-before x) (rest-behind f end)
 
-  at-settled : (x : rules.Element) → (rest f end >>= λ p. need (settled p) 3 >>= λ _. done (x ∷ p .elements)) ≡ before x (behind f end)
-  at-settled x = settle-before x (rest f end) ∙ ap (before x) (rest-behind f end)
+  at-settled : (x : rules.Element) → (rest f end >>= λ p. need (settled p) 3 >>= λ _. done (x ∷ p .elements)) ≡ element-before x (elements-behind f end)
+  at-settled x = settle-before x (rest f end) ∙ ap (element-before x) (rest-behind f end)
 
 -- A name at a length, and a name alone: the step from what stands behind each.
 abbrev at-length : Named → ℕ → Pending → Outcome (List rules.Element)
 at-length n size p = need (absent (p .size)) 3 >>= λ _. done (named-of n (some size) (p .format) ∷ p .elements)
 
-abbrev alone : Named → Option ℕ → Option ℕ → Pending → Outcome (List rules.Element)
-alone n l b p = completed (named-of n l b) p >>= λ x. done (x ∷ p .elements)
+abbrev byte-alone : Named → Option ℕ → Option ℕ → Pending → Outcome (List rules.Element)
+byte-alone n l b p = completed (named-of n l b) p >>= λ x. done (x ∷ p .elements)
 
 module _ (f : Bytes) (end : ℕ) (n : Named) where
-  pub format-first : (size : ℕ) → elements-first (rest f end) → then-format f end n size ≡ before (named-of n (some size) none) (behind f end)
+  pub format-first : (size : ℕ) → elements-first (rest f end) → then-format f end n size ≡ element-before (named-of n (some size) none) (elements-behind f end)
   unfolding then-format absent
   format-first size s = at-first f end (at-length n size) (named-of n (some size) none) (λ es. refl) s
 
-  pub name-first : (l b : Option ℕ) → elements-first (rest f end) → then-completed f end (named-of n l b) ≡ before (named-of n none none) (behind f end)
+  pub name-first : (l b : Option ℕ) → elements-first (rest f end) → then-completed f end (named-of n l b) ≡ element-before (named-of n none none) (elements-behind f end)
   unfolding then-completed completed
-  name-first l b s = at-first f end (alone n l b) (named-of n none none) (λ es. refl) s
+  name-first l b s = at-first f end (byte-alone n l b) (named-of n none none) (λ es. refl) s
 
   -- Behind a comma the next piece has been read, and its own comma or period stands at end′.
   module _ (e : getD f end 0 ≡ period → ⊥) where
@@ -132,11 +132,11 @@ module _ (f : Bytes) (end : ℕ) (n : Named) where
 
     pub name-bad : (l b : Option ℕ) → pending (drop (end + 1) f) ≡ refused 3 → then-completed f end (named-of n l b) ≡ refused 3
     unfolding then-completed
-    name-bad l b w = followed w (alone n l b)
+    name-bad l b w = followed w (byte-alone n l b)
 
     module _ (end′ : ℕ) where
       pub format-format : (size b : ℕ) → pending (drop (end + 1) f) ≡ (rest f end′ >>= put-before (rules.format-piece b))
-          → then-format f end n size ≡ before (named-of n (some size) (some b)) (behind f end′)
+          → then-format f end n size ≡ element-before (named-of n (some size) (some b)) (elements-behind f end′)
       unfolding then-format absent
       format-format size b w =
           let x = named-of n (some size) (some b) in
@@ -151,14 +151,14 @@ module _ (f : Bytes) (end : ℕ) (n : Named) where
             → then-completed f end (named-of n l b) ≡ then-format f end′ n size
         unfolding then-completed then-format completed
         name-length size w =
-            followed w (alone n l b) ∙ put-length (alone n l b) size (λ p. named-of n (some size) (p .format)) (λ p. refl) (rest f end′)
+            followed w (byte-alone n l b) ∙ put-length (byte-alone n l b) size (λ p. named-of n (some size) (p .format)) (λ p. refl) (rest f end′)
 
         pub name-format : (c : ℕ) → pending (drop (end + 1) f) ≡ (rest f end′ >>= put-before (rules.format-piece c))
-            → then-completed f end (named-of n l b) ≡ before (named-of n none (some c)) (behind f end′)
+            → then-completed f end (named-of n l b) ≡ element-before (named-of n none (some c)) (elements-behind f end′)
         unfolding then-completed completed
         name-format c w =
             let x = named-of n none (some c) in
-            followed w (alone n l b) ∙ put-format (alone n l b) c x (λ es. refl) (rest f end′) ∙ at-settled f end′ x
+            followed w (byte-alone n l b) ∙ put-format (byte-alone n l b) c x (λ es. refl) (rest f end′) ∙ at-settled f end′ x
 
 -- An element other than a name.
 abbrev pub nameless : Element → Type 0
@@ -168,7 +168,7 @@ nameless (code.Named n) = ⊥
 nameless (code.Count c) = Unit {0}
 nameless (code.Series first last) = Unit {0}
 
-pub only-settled : (f : Bytes) (end : ℕ) (e : Element) → nameless e → then-completed f end (element-of f e) ≡ before (element-of f e) (behind f end)
+pub only-settled : (f : Bytes) (end : ℕ) (e : Element) → nameless e → then-completed f end (element-of f e) ≡ element-before (element-of f e) (elements-behind f end)
 unfolding then-completed completed
 only-settled f end (code.Blanks n) h = completed-settled (rules.blanks n) (λ p. refl) (rest f end) ∙ at-settled f end (rules.blanks n)
 only-settled f end (code.Text from upto) h =
@@ -211,13 +211,13 @@ elements-parsed f h = elements-limited f ∙ rw (le-leb _ _ h) refl
 pub elements-long : (f : Bytes) → longest-format < length f → rules.elements f ≡ refused 3
 elements-long f h = elements-limited f ∙ rw (lt-leb _ _ h) refl
 
-pub is-done-before : (x : rules.Element) (o : Outcome (List rules.Element)) → is-done (before x o) ≡ is-done o
+pub is-done-before : (x : rules.Element) (o : Outcome (List rules.Element)) → is-done (element-before x o) ≡ is-done o
 is-done-before x (done es) = refl
 is-done-before x (refused n) = refl
 
-pub stepped-at : {f : Bytes} {at stop : ℕ} {o : Outcome (List rules.Element)} {y : rules.Element} {e : Element} → o ≡ before y (behind f stop)
+pub stepped-at : {f : Bytes} {at stop : ℕ} {o : Outcome (List rules.Element)} {y : rules.Element} {e : Element} → o ≡ element-before y (elements-behind f stop)
     → y ≡ element-of f e → at ≤ stop → stop < length f → sound f e → Stepped f at o (At e stop)
-stepped-at {f} {at} {stop} h q a b s = record { answer = h ∙ ap (λ x. before x (behind f stop)) q; place = (a, b, s) }
+stepped-at {f} {at} {stop} h q a b s = record { answer = h ∙ ap (λ x. element-before x (elements-behind f stop)) q; place = (a, b, s) }
 
 -- A name to which a length or a format was given.
 pub name-given-length : (f : Bytes) (n : Named) {m : Named} {size : ℕ} → m ≡ with-length n size → n .lettered ≡ false
@@ -237,8 +237,8 @@ module _ {f : Bytes} {at : ℕ} {r : Step} (w : Stepped f at (parsed (drop at f)
   pub step-known : (e : Element) (stop : ℕ) → r ≡ At e stop → (at ≤ stop) × (stop < length f) × sound f e
   step-known e stop q = rw q at (w .place)
 
-  good-at : (e : Element) (stop : ℕ) → r ≡ At e stop → is-done (behind f stop) ≡ is-done (parsed (drop at f))
-  good-at e stop q = sym (ap is-done (w .answer ∙ ap (by-step f) q) ∙ is-done-before (element-of f e) (behind f stop))
+  good-at : (e : Element) (stop : ℕ) → r ≡ At e stop → is-done (elements-behind f stop) ≡ is-done (parsed (drop at f))
+  good-at e stop q = sym (ap is-done (w .answer ∙ ap (by-step f) q) ∙ is-done-before (element-of f e) (elements-behind f stop))
 
   pub good-more : (e : Element) (stop : ℕ) → r ≡ At e stop → eqb (getD f stop 0) period ≡ false
       → is-done (parsed (drop (stop + 1) f)) ≡ is-done (parsed (drop at f))

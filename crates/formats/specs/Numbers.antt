@@ -14,19 +14,19 @@ use Rattle.formats.specs.declared.numbers.Number.{Number}
 use Rattle.formats.specs.declared.numbers.Number.the-variants.{Value, Bad}
 
 -- A number and the bytes behind it, up to a place.
-abbrev pub number-of : Bytes → ℕ → Number → Outcome (ℕ × Bytes)
-number-of f upto (Value n p) = done (n, part f p upto)
-number-of f upto Bad = refused 3
+abbrev pub number-and-rest : Bytes → ℕ → Number → Outcome (ℕ × Bytes)
+number-and-rest f upto (Value n p) = done (n, part f p upto)
+number-and-rest f upto Bad = refused 3
 
 -- Where the bytes behind it begin, and how large a number is.
-abbrev pub within : ℕ → ℕ → Number → Type 0
-within at upto (Value n p) = (at ≤ p) × (p ≤ upto) × (n < number-bound)
-within at upto Bad = Unit {0}
+abbrev pub number-place : ℕ → ℕ → Number → Type 0
+number-place at upto (Value n p) = (at ≤ p) × (p ≤ upto) × (n < number-bound)
+number-place at upto Bad = Unit {0}
 
 -- A number was read between two places, as o says.
 pub record Numbered (f : Bytes) (at upto : ℕ) (o : Outcome (ℕ × Bytes)) (r : Number) : Type 0 where
-  pub answer : o ≡ number-of f upto r
-  pub place : within at upto r
+  pub answer : o ≡ number-and-rest f upto r
+  pub place : number-place at upto r
 
 -- The end of a range that begins at k: `-l`, or k itself where no hyphen follows.
 unfoldable pub range-end : ℕ → Bytes → Outcome (ℕ × Bytes)
@@ -34,6 +34,6 @@ range-end k [] = done (k, [])
 range-end k (b ∷ bs) = elim (eqb b hyphen) [ true ↦ number-first bs | false ↦ done (k, b ∷ bs) ]
 
 -- One byte and nothing more.
-unfoldable pub alone : ℕ → Bytes → Bool
-alone c [] = false
-alone c (b ∷ bs) = eqb b c && nothing bs
+unfoldable pub byte-alone : ℕ → Bytes → Bool
+byte-alone c [] = false
+byte-alone c (b ∷ bs) = eqb b c && nothing bs

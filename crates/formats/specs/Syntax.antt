@@ -27,16 +27,16 @@ parsed bs = do
   done (p .elements)
 
 -- An element before others.
-abbrev pub before : rules.Element → Outcome (List rules.Element) → Outcome (List rules.Element)
-before e o = o >>= λ es. done (e ∷ es)
+abbrev pub element-before : rules.Element → Outcome (List rules.Element) → Outcome (List rules.Element)
+element-before e o = o >>= λ es. done (e ∷ es)
 
 -- The elements behind the comma or the period at a place.
-unfoldable pub behind : Bytes → ℕ → Outcome (List rules.Element)
-behind f stop = elim (eqb (getD f stop 0) period) [ true ↦ done [] | false ↦ parsed (drop (stop + 1) f) ]
+unfoldable pub elements-behind : Bytes → ℕ → Outcome (List rules.Element)
+elements-behind f stop = elim (eqb (getD f stop 0) period) [ true ↦ done [] | false ↦ parsed (drop (stop + 1) f) ]
 
 -- The elements from a place on, by a step of the code: an element and those behind it.
 abbrev pub by-step : Bytes → Step → Outcome (List rules.Element)
-by-step f (At e stop) = before (element-of f e) (behind f stop)
+by-step f (At e stop) = element-before (element-of f e) (elements-behind f stop)
 by-step f Bad = refused 3
 
 -- The comma or period behind an element stands in the format, and the numbers of the element are as large as they may be.

@@ -15,7 +15,7 @@ use Rattle.formats.specs.Part.{part}
 use Rattle.formats.specs.Pieces.{piece-of, piece-sound}
 use Rattle.formats.specs.declared.pieces.Piece.{Piece}
 use Rattle.formats.specs.declared.pieces.Piece.the-variants as piece
-use Rattle.formats.specs.declared.texts.Ahead.{Ahead}
+use Rattle.formats.specs.declared.texts.PieceAt.{PieceAt}
 use Rattle.formats.specs.declared.texts.Bounds.{Bounds}
 
 -- How many bytes stand before the comma or period that ends a text.
@@ -62,7 +62,7 @@ reached f at end (piece.Format b) = (at ≤ end) × (end < length f)
 reached f at end piece.Bad = Unit {0}
 
 -- The text from a place on was read: its piece, and where it ends.
-pub record Looked (f : Bytes) (at : ℕ) (r : Ahead) : Type 0 where
+pub record Looked (f : Bytes) (at : ℕ) (r : PieceAt) : Type 0 where
   pub answer : pending (drop at f) ≡ (piece-of f (r .piece) >>= λ p. rest f (r .end) >>= put-before p)
   pub place : reached f at (r .end) (r .piece)
   pub sound : piece-sound f (r .piece)

@@ -10,7 +10,7 @@ ghost use Rattle.rules.specs.Characters.{digit, digit-0};
 ghost use Rattle.rules.specs.Format.{number-first};
 ghost use Rattle.formats.specs.Part.{part};
 ghost use Rattle.formats.specs.Elements.{number-bound};
-ghost use Rattle.formats.specs.Numbers.{Numbered, range-end, alone};
+ghost use Rattle.formats.specs.Numbers.{Numbered, range-end, byte-alone};
 
 const MOST_DIGITS: usize = 3;
 
@@ -71,7 +71,7 @@ pub fn range_end(f: &[u8], at: usize, upto: usize, k: u16) -> Number
 // Whether the byte c stands there and nothing more.
 pub fn alone(f: &[u8], at: usize, upto: usize, c: u8) -> bool
     requires { ⌜ (at ≤ upto) × (upto ≤ length (now f)) ⌝ }
-    ensures { λ r. ⌜ r ≡ alone c (part (now (f .entry)) at upto) ⌝ }
+    ensures { λ r. ⌜ r ≡ byte-alone c (part (now (f .entry)) at upto) ⌝ }
 {
     if upto - at == 1 {
         return f[at] == c;

@@ -15,7 +15,7 @@ ghost use Rattle.formats.specs.Part.{part};
 ghost use Rattle.formats.specs.Texts.{extent, Narrowed, Bounded, Looked};
 
 // The piece of the text from a place on, and where its comma or period stands.
-pub struct Ahead {
+pub struct PieceAt {
     pub piece: Piece,
     pub end: usize,
 }
@@ -113,11 +113,11 @@ pub fn bounds_at(f: &[u8], at: usize) -> Bounds
     Bounds { first, last, end }
 }
 
-pub fn text_at(f: &[u8], at: usize) -> Ahead
+pub fn text_at(f: &[u8], at: usize) -> PieceAt
     requires { ⌜ at ≤ length (now f) ⌝ }
     ensures { λ r. ⌜ Looked (now (f .entry)) at r ⌝ }
 {
     let b = bounds_at(f, at);
     let piece = piece_at(f, b.first, b.last);
-    Ahead { piece, end: b.end }
+    PieceAt { piece, end: b.end }
 }

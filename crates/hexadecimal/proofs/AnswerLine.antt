@@ -7,25 +7,25 @@ use lib.ListN.{length, set, length-append}
 use Rattle.rules.specs.Lists.{Bytes}
 use Rattle.buffer.specs.Splice.{splice}
 use Rattle.buffer.proofs.Laws.{splice-chain}
-use Rattle.hexadecimal.specs.Text.{decimal, encoded}
+use Rattle.hexadecimal.specs.Text.{decimal-word, spelling}
 use Rattle.hexadecimal.specs.Lines.{answer-line}
 use Rattle.hexadecimal.specs.Answers.{Answers}
 use Rattle.hexadecimal.proofs.Pairs.{length-parted}
 use Rattle.hexadecimal.proofs.Ways.{push}
 
-pub encoded-short : (bs : Bytes) → length (encoded bs) ≤ 2 * length bs + 1
-unfolding encoded
+pub encoded-short : (bs : Bytes) → length (spelling bs) ≤ 2 * length bs + 1
+unfolding spelling
 encoded-short [] = omega arith
 encoded-short (b ∷ bs) = omega (arith, length-parted (b ∷ bs))
 
 -- a number and a space
 abbrev pub field : ℕ → Bytes
-field n = decimal n ++ (32 ∷ [])
+field n = decimal-word n ++ (32 ∷ [])
 
 module _ (number at a b e : ℕ) (bytes out out₁ out₂ out₃ : Bytes) (h : at + (2 * length bytes + 16) ≤ length out) where
   pub answers : (a ≡ at + length (field number)) × (out₁ ≡ splice at (field number) out) × (a ≤ at + 7)
       → (b ≡ a + length (field (length bytes))) × (out₂ ≡ splice a (field (length bytes)) out₁) × (b ≤ a + 7)
-      → (e ≡ b + length (encoded bytes)) × (out₃ ≡ splice b (encoded bytes) out₂)
+      → (e ≡ b + length (spelling bytes)) × (out₃ ≡ splice b (spelling bytes) out₂)
       → Answers number bytes at out (set out₃ e 10) (e + 1)
   unfolding answer-line
   answers f g k =
@@ -33,13 +33,13 @@ module _ (number at a b e : ℕ) (bytes out out₁ out₂ out₃ : Bytes) (h : a
       let l = field (length bytes) in
       let s = encoded-short bytes in
       let nl = length-append n l in
-      let nls = length-append (n ++ l) (encoded bytes) in
-      let all = length-append ((n ++ l) ++ encoded bytes) (10 ∷ []) in
+      let nls = length-append (n ++ l) (spelling bytes) in
+      let all = length-append ((n ++ l) ++ spelling bytes) (10 ∷ []) in
       let one = splice-chain at n l out out₁ out₂ a (f .1) (g .1) (f .0) (omega arith) in
-      let two = splice-chain at (n ++ l) (encoded bytes) out out₂ out₃ b one (k .1) (omega arith) (omega arith) in
-      let order : ((n ++ l) ++ encoded bytes) ++ (10 ∷ []) ≡ n ++ (l ++ (encoded bytes ++ (10 ∷ []))) = simp append-assoc in
+      let two = splice-chain at (n ++ l) (spelling bytes) out out₂ out₃ b one (k .1) (omega arith) (omega arith) in
+      let order : ((n ++ l) ++ spelling bytes) ++ (10 ∷ []) ≡ n ++ (l ++ (spelling bytes ++ (10 ∷ []))) = simp append-assoc in
       record {
-        after = rw order at (push at ((n ++ l) ++ encoded bytes) out out₃ e 10 two (omega arith) (omega arith));
+        after = rw order at (push at ((n ++ l) ++ spelling bytes) out out₃ e 10 two (omega arith) (omega arith));
         behind = rw (← order) (omega arith);
         short = omega arith;
       }

@@ -12,7 +12,7 @@ use lib.ListN.{length}
 use Rattle.rules.specs.Lists.{Bytes, same, all, spelled, digits}
 use Rattle.rules.proofs.Steps.{and-left, and-right, and-intro, T-true}
 use Rattle.buffer.proofs.Cases.{by-order}
-use Rattle.hexadecimal.specs.Text.{value, glyph, all-digits, paired, parted, decoded, encoded, number, places, decimal}
+use Rattle.hexadecimal.specs.Text.{value, glyph, all-of-base, paired, parted, spelled-bytes, spelling, number, decimal-places, decimal-word}
 use Rattle.hexadecimal.proofs.Pairs.{length-parted, hyphen-long, decoded-pairs, paired-even}
 use Rattle.hexadecimal.proofs.Numbers.{length-decimal, places-fit, number-some}
 
@@ -43,8 +43,8 @@ paired-parted (b ∷ bs) t =
     let e : 16 * (b / 16) + b % 16 ≡ b = omega arith in
     rw (value-glyph (b / 16) (omega arith), value-glyph (b % 16) (omega arith), e, paired-parted bs (and-right (ltb b 256) (all (λ b. ltb b 256) bs) t))
 
-digits-parted : (bs : Bytes) → Bytewise bs → all-digits 16 (parted bs) ≡ true
-unfolding all-digits parted all
+digits-parted : (bs : Bytes) → Bytewise bs → all-of-base 16 (parted bs) ≡ true
+unfolding all-of-base parted all
 digits-parted [] t = refl
 digits-parted (b ∷ bs) t =
     let h = ltb→lt b 256 (and-left (ltb b 256) (all (λ b. ltb b 256) bs) t) in
@@ -55,8 +55,8 @@ digits-parted (b ∷ bs) t =
       lt-ltb (b % 16) 16 (omega arith),
     ) (digits-parted bs (and-right (ltb b 256) (all (λ b. ltb b 256) bs) t))
 
-pub decoded-encoded : (bs : Bytes) → Bytewise bs → decoded (encoded bs) ≡ some bs
-unfolding encoded decoded same
+pub decoded-encoded : (bs : Bytes) → Bytewise bs → spelled-bytes (spelling bs) ≡ some bs
+unfolding spelling spelled-bytes same
 decoded-encoded [] t = refl
 decoded-encoded (b ∷ bs) t =
     let w = parted (b ∷ bs) in
@@ -80,31 +80,31 @@ spelled-digits b (suc n) x o h =
 
 -- the digits of a number, as characters, are decimal digits and stand for the same digits
 abbrev Decimals : List ℕ → Type 0
-Decimals ds = T (all-digits 10 (map glyph ds)) × (map value (map glyph ds) ≡ ds)
+Decimals ds = T (all-of-base 10 (map glyph ds)) × (map value (map glyph ds) ≡ ds)
 
 decimals-snoc : (ds : List ℕ) (d : ℕ) → d < 10 → Decimals ds → Decimals (ds ++ (d ∷ []))
-unfolding all-digits
+unfolding all-of-base
 decimals-snoc [] d h t =
     let v = value-glyph d (omega arith) in
     (rw (v, lt-ltb d 10 h) tt, rw v)
 decimals-snoc (e ∷ ds) d h t =
     let first = ltb (value (glyph e)) 10 in
     let q : map value (map glyph ds) ≡ ds = (let z = t .1 in cc) in
-    let r = decimals-snoc ds d h (and-right first (all-digits 10 (map glyph ds)) (t .0), q) in
+    let r = decimals-snoc ds d h (and-right first (all-of-base 10 (map glyph ds)) (t .0), q) in
     let s = r .1 in
     let v : value (glyph e) ≡ e = (let z = t .1 in cc) in
-    (and-intro first _ (and-left first (all-digits 10 (map glyph ds)) (t .0)) (r .0), cc)
+    (and-intro first _ (and-left first (all-of-base 10 (map glyph ds)) (t .0)) (r .0), cc)
 
 decimals : (k n : ℕ) → Decimals (digits 10 k n)
-unfolding digits all-digits
+unfolding digits all-of-base
 decimals zero n = (tt, refl)
 decimals (suc k) n = decimals-snoc (digits 10 k (n / 10)) (n % 10) (omega arith) (decimals k (n / 10))
 
-pub number-decimal : (n : ℕ) → n < 1000000 → number (decimal n) ≡ some n
-unfolding decimal
+pub number-decimal : (n : ℕ) → n < 1000000 → number (decimal-word n) ≡ some n
+unfolding decimal-word
 number-decimal n h =
     let s = places-fit n h in
     let l = length-decimal n in
-    let d = decimals (places n) n in
-    number-some (decimal n) (omega arith) (omega arith) (T-true (all-digits 10 (decimal n)) (d .0))
-    ∙ ap (λ ds. some (spelled 10 ds 0)) (d .1) ∙ ap some (spelled-digits 10 (places n) n (lit< tt) (s .hold))
+    let d = decimals (decimal-places n) n in
+    number-some (decimal-word n) (omega arith) (omega arith) (T-true (all-of-base 10 (decimal-word n)) (d .0))
+    ∙ ap (λ ds. some (spelled 10 ds 0)) (d .1) ∙ ap some (spelled-digits 10 (decimal-places n) n (lit< tt) (s .hold))

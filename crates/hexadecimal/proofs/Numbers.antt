@@ -11,7 +11,7 @@ use borrow.Author.Tests.{lt-ltb, le-ltb, le-leb, lt-leb}
 use lib.ListN.{length, drop, take, getD, drop-of-length-le, length-append, length-map}
 use lib.Seq.{drop-cons, take-all, take-take, take-at, getD-take, getD-at}
 use Rattle.rules.specs.Lists.{Bytes, spelled, digits}
-use Rattle.hexadecimal.specs.Text.{value, glyph, all-digits, is-number, spelled-number, number, places, decimal}
+use Rattle.hexadecimal.specs.Text.{value, glyph, all-of-base, is-number, spelled-number, number, decimal-places, decimal-word}
 use Rattle.buffer.proofs.Cases.{by-order}
 
 -- ---- reading
@@ -39,7 +39,7 @@ below-million (suc (suc (suc (suc (suc zero))))) h = omega arith
 below-million (suc (suc (suc (suc (suc (suc zero)))))) h = omega arith
 below-million (suc (suc (suc (suc (suc (suc (suc i))))))) h = absurd (omega arith)
 
-pub number-some : (w : Bytes) → 1 ≤ length w → length w ≤ 6 → all-digits 10 w ≡ true → number w ≡ some (spelled-number w)
+pub number-some : (w : Bytes) → 1 ≤ length w → length w ≤ 6 → all-of-base 10 w ≡ true → number w ≡ some (spelled-number w)
 unfolding number is-number
 number-some w h k e = rw (le-leb 1 (length w) h, le-leb (length w) 6 k, e)
 
@@ -51,7 +51,7 @@ pub number-long : (w : Bytes) → 6 < length w → number w ≡ none
 unfolding number is-number
 number-long w h = rw (le-leb 1 (length w) (omega arith), lt-leb (length w) 6 h)
 
-pub number-none : (w : Bytes) → 1 ≤ length w → length w ≤ 6 → all-digits 10 w ≡ false → number w ≡ none
+pub number-none : (w : Bytes) → 1 ≤ length w → length w ≤ 6 → all-of-base 10 w ≡ false → number w ≡ none
 unfolding number is-number
 number-none w h k e = rw (le-leb 1 (length w) h, le-leb (length w) 6 k, e)
 
@@ -62,9 +62,9 @@ unfolding digits
 length-digits b zero x = refl
 length-digits b (suc n) x = length-append (digits b n (x / b)) _ ∙ (let h = length-digits b n (x / b) in omega arith)
 
-pub length-decimal : (n : ℕ) → length (decimal n) ≡ places n
-unfolding decimal
-length-decimal n = length-map (digits 10 (places n) n) glyph ∙ length-digits 10 (places n) n
+pub length-decimal : (n : ℕ) → length (decimal-word n) ≡ decimal-places n
+unfolding decimal-word
+length-decimal n = length-map (digits 10 (decimal-places n) n) glyph ∙ length-digits 10 (decimal-places n) n
 
 -- a number below a million has one to six places, and they hold it
 pub record Places (n k : ℕ) : Type 0 where
@@ -75,8 +75,8 @@ pub record Places (n k : ℕ) : Type 0 where
 places-of : {n : ℕ} (k : ℕ) → 1 ≤ k → k ≤ 6 → n < 10 ^ k → Places n k
 places-of k l m h = record { least = l; most = m; hold = h }
 
-pub places-fit : (n : ℕ) → n < 1000000 → Places n (places n)
-unfolding places
+pub places-fit : (n : ℕ) → n < 1000000 → Places n (decimal-places n)
+unfolding decimal-places
 places-fit n h =
     by-order n 10 (λ k. rw (lt-ltb n 10 k) (places-of 1 (omega arith) (omega arith) (omega arith))) λ h1. rw (le-ltb n 10 h1)
     (by-order n 100 (λ k. rw (lt-ltb n 100 k) (places-of 2 (omega arith) (omega arith) (omega arith))) λ h2. rw (le-ltb n 100 h2)
@@ -85,7 +85,7 @@ places-fit n h =
     (by-order n 100000 (λ k. rw (lt-ltb n 100000 k) (places-of 5 (omega arith) (omega arith) (omega arith))) λ h5. rw (le-ltb n 100000 h5)
     (places-of 6 (omega arith) (omega arith) (omega arith))))))
 
-pub decimal-short : (n : ℕ) → n < 1000000 → length (decimal n) ≤ 6
+pub decimal-short : (n : ℕ) → n < 1000000 → length (decimal-word n) ≤ 6
 decimal-short n h = let p = places-fit n h in omega (arith, length-decimal n)
 
 getD-glyph : (ds : List ℕ) (j : ℕ) → j < length ds → getD (map glyph ds) j 0 ≡ glyph (getD ds j 0)
@@ -116,13 +116,13 @@ pub left-turn : (n k i rest : ℕ) → 0 < i → Left n k i rest → Left n k (i
 left-turn n k zero rest h l = absurd (not-suc-le-zero h)
 left-turn n k (suc j) rest h l = let e : suc j - 1 ≡ j = omega arith in rw e (omega arith, left-before n k j rest l)
 
-pub left-digit : (n i rest : ℕ) → 0 < i → Left n (places n) i rest → glyph (rest % 10) ≡ getD (decimal n) (i - 1) 0
-unfolding decimal
+pub left-digit : (n i rest : ℕ) → 0 < i → Left n (decimal-places n) i rest → glyph (rest % 10) ≡ getD (decimal-word n) (i - 1) 0
+unfolding decimal-word
 left-digit n zero rest h l = absurd (not-suc-le-zero h)
 left-digit n (suc j) rest h l =
-    let z = length-digits 10 (places n) n in
+    let z = length-digits 10 (decimal-places n) n in
     let e : suc j - 1 ≡ j = omega arith in
-    rw e (sym (getD-glyph (digits 10 (places n) n) j (omega (arith, l .0)) ∙ ap glyph (digit-last n (places n) j rest l)))
+    rw e (sym (getD-glyph (digits 10 (decimal-places n) n) j (omega (arith, l .0)) ∙ ap glyph (digit-last n (decimal-places n) j rest l)))
 
-pub left-start : (n : ℕ) → Left n (places n) (places n) n
-left-start n = (omega arith, take-all (places n) (digits 10 (places n) n) (omega (arith, length-digits 10 (places n) n)))
+pub left-start : (n : ℕ) → Left n (decimal-places n) (decimal-places n) n
+left-start n = (omega arith, take-all (decimal-places n) (digits 10 (decimal-places n) n) (omega (arith, length-digits 10 (decimal-places n) n)))

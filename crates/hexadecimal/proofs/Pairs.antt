@@ -12,7 +12,7 @@ use lib.Dec.{T, eqb, leb, leb→le, eqb→eq}
 use lib.ListN.{length, getD}
 use Rattle.rules.specs.Lists.{Bytes, same}
 use Rattle.rules.proofs.Steps.{and-left, and-right}
-use Rattle.hexadecimal.specs.Text.{value, glyph, hyphen, all-digits, paired, parted, is-paired, decoded}
+use Rattle.hexadecimal.specs.Text.{value, glyph, empty-word, all-of-base, paired, parted, is-paired, spelled-bytes}
 
 -- ---- the bytes of a word of digits
 
@@ -35,16 +35,16 @@ paired-at (c ∷ d ∷ w) (suc i) h =
 pub record Paired (w : Bytes) : Type 0 where
   pub some-pair : 2 ≤ length w
   pub even : length w % 2 ≡ 0
-  pub digits : T (all-digits 16 w)
+  pub digits : T (all-of-base 16 w)
 
 pub from-paired : (w : Bytes) → T (is-paired w) → Paired w
 unfolding is-paired
 from-paired w t =
-    let u = and-right (leb 2 (length w)) (eqb (length w % 2) 0 && all-digits 16 w) t in
+    let u = and-right (leb 2 (length w)) (eqb (length w % 2) 0 && all-of-base 16 w) t in
     record {
-      some-pair = leb→le 2 (length w) (and-left (leb 2 (length w)) (eqb (length w % 2) 0 && all-digits 16 w) t);
-      even = eqb→eq (length w % 2) 0 (and-left (eqb (length w % 2) 0) (all-digits 16 w) u);
-      digits = and-right (eqb (length w % 2) 0) (all-digits 16 w) u;
+      some-pair = leb→le 2 (length w) (and-left (leb 2 (length w)) (eqb (length w % 2) 0 && all-of-base 16 w) t);
+      even = eqb→eq (length w % 2) 0 (and-left (eqb (length w % 2) 0) (all-of-base 16 w) u);
+      digits = and-right (eqb (length w % 2) 0) (all-of-base 16 w) u;
     }
 
 -- ---- the digits of some bytes
@@ -76,19 +76,19 @@ twice-next i = omega arith
 
 -- ---- the cases of a word
 
-pub decoded-hyphen : (w : Bytes) → same w hyphen ≡ true → decoded w ≡ some []
-unfolding decoded
+pub decoded-hyphen : (w : Bytes) → same w empty-word ≡ true → spelled-bytes w ≡ some []
+unfolding spelled-bytes
 decoded-hyphen w e = rw e
 
-pub decoded-pairs : (w : Bytes) → same w hyphen ≡ false → is-paired w ≡ true → decoded w ≡ some (paired w)
-unfolding decoded
+pub decoded-pairs : (w : Bytes) → same w empty-word ≡ false → is-paired w ≡ true → spelled-bytes w ≡ some (paired w)
+unfolding spelled-bytes
 decoded-pairs w e p = rw (e, p)
 
-pub decoded-none : (w : Bytes) → same w hyphen ≡ false → is-paired w ≡ false → decoded w ≡ none
-unfolding decoded
+pub decoded-none : (w : Bytes) → same w empty-word ≡ false → is-paired w ≡ false → spelled-bytes w ≡ none
+unfolding spelled-bytes
 decoded-none w e p = rw (e, p)
 
-pub hyphen-one : (w : Bytes) → length w ≡ 1 → eqb (getD w 0 0) 45 ≡ same w hyphen
+pub hyphen-one : (w : Bytes) → length w ≡ 1 → eqb (getD w 0 0) 45 ≡ same w empty-word
 unfolding same
 hyphen-one [] e = absurd (omega arith)
 hyphen-one (c ∷ []) e = one (eqb c 45)
@@ -98,7 +98,7 @@ hyphen-one (c ∷ []) e = one (eqb c 45)
     one false = refl
 hyphen-one (c ∷ d ∷ w) e = absurd (omega arith)
 
-pub hyphen-long : (w : Bytes) → (length w ≡ 1 → ⊥) → false ≡ same w hyphen
+pub hyphen-long : (w : Bytes) → (length w ≡ 1 → ⊥) → false ≡ same w empty-word
 unfolding same
 hyphen-long [] e = refl
 hyphen-long (c ∷ []) e = absurd (e refl)
@@ -116,6 +116,6 @@ pub paired-odd : (w : Bytes) → 2 ≤ length w → (length w % 2 ≡ 0 → ⊥)
 unfolding is-paired
 paired-odd w h e = rw (le-leb 2 (length w) h, ne-eqb (length w % 2) 0 e)
 
-pub paired-even : (w : Bytes) → 2 ≤ length w → length w % 2 ≡ 0 → all-digits 16 w ≡ is-paired w
+pub paired-even : (w : Bytes) → 2 ≤ length w → length w % 2 ≡ 0 → all-of-base 16 w ≡ is-paired w
 unfolding is-paired
 paired-even w h e = rw (le-leb 2 (length w) h, e)

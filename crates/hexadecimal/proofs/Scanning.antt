@@ -10,39 +10,39 @@ use lib.Dec.{T, leb, ltb, leb→le, ltb→lt}
 use lib.ListN.{length, drop, getD, drop-of-length-le}
 use lib.Seq.{drop-cons}
 use Rattle.rules.proofs.Steps.{and-left, and-right, true-T}
-use Rattle.hexadecimal.specs.Text.{between, value, all-digits, before}
+use Rattle.hexadecimal.specs.Text.{between, value, all-of-base, upto-first}
 
 pub between-low : (low high c : ℕ) → between low high c ≡ true → low ≤ c
 between-low low high c e = leb→le low c (and-left (leb low c) (leb c high) (true-T e))
 
 module _ (b i : ℕ) (s : List ℕ) where
-  pub before-end : length s ≤ i → before b (drop i s) ≡ 0
-  unfolding before
+  pub before-end : length s ≤ i → upto-first b (drop i s) ≡ 0
+  unfolding upto-first
   before-end h = rw (drop-of-length-le s h)
 
-  pub before-here : i < length s → getD s i 0 ≡ b → before b (drop i s) ≡ 0
-  unfolding before
+  pub before-here : i < length s → getD s i 0 ≡ b → upto-first b (drop i s) ≡ 0
+  unfolding upto-first
   before-here h e = rw (drop-cons s i 0, eq-eqb (getD s i 0) b e)
 
-  pub before-later : i < length s → (getD s i 0 ≡ b → ⊥) → before b (drop i s) ≡ suc (before b (drop (i + 1) s))
-  unfolding before
+  pub before-later : i < length s → (getD s i 0 ≡ b → ⊥) → upto-first b (drop i s) ≡ suc (upto-first b (drop (i + 1) s))
+  unfolding upto-first
   before-later h e = rw (drop-cons s i 0, ne-eqb (getD s i 0) b e, add-one)
 
 module _ (base i : ℕ) (w : List ℕ) where
-  pub digits-end : length w ≤ i → all-digits base (drop i w) ≡ true
-  unfolding all-digits
+  pub digits-end : length w ≤ i → all-of-base base (drop i w) ≡ true
+  unfolding all-of-base
   digits-end h = rw (drop-of-length-le w h)
 
-  pub digits-stop : i < length w → base ≤ value (getD w i 0) → all-digits base (drop i w) ≡ false
-  unfolding all-digits
+  pub digits-stop : i < length w → base ≤ value (getD w i 0) → all-of-base base (drop i w) ≡ false
+  unfolding all-of-base
   digits-stop h e = rw (drop-cons w i 0, le-ltb (value (getD w i 0)) base e)
 
-  pub digits-turn : i < length w → value (getD w i 0) < base → all-digits base (drop (i + 1) w) ≡ all-digits base (drop i w)
-  unfolding all-digits
+  pub digits-turn : i < length w → value (getD w i 0) < base → all-of-base base (drop (i + 1) w) ≡ all-of-base base (drop i w)
+  unfolding all-of-base
   digits-turn h e = rw (drop-cons w i 0, lt-ltb (value (getD w i 0)) base e, add-one)
 
-pub digit-at : (base i : ℕ) (w : List ℕ) → T (all-digits base w) → i < length w → value (getD w i 0) < base
-unfolding all-digits
+pub digit-at : (base i : ℕ) (w : List ℕ) → T (all-of-base base w) → i < length w → value (getD w i 0) < base
+unfolding all-of-base
 digit-at base i [] t h = absurd (not-suc-le-zero h)
-digit-at base zero (c ∷ w) t h = ltb→lt (value c) base (and-left (ltb (value c) base) (all-digits base w) t)
-digit-at base (suc i) (c ∷ w) t h = digit-at base i w (and-right (ltb (value c) base) (all-digits base w) t) (le-of-suc-le-suc h)
+digit-at base zero (c ∷ w) t h = ltb→lt (value c) base (and-left (ltb (value c) base) (all-of-base base w) t)
+digit-at base (suc i) (c ∷ w) t h = digit-at base i w (and-right (ltb (value c) base) (all-of-base base w) t) (le-of-suc-le-suc h)

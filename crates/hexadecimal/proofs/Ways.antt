@@ -9,36 +9,36 @@ use lib.ListN.{length, set}
 use Rattle.rules.specs.Lists.{Bytes, same}
 use Rattle.buffer.specs.Splice.{splice}
 use Rattle.buffer.proofs.Laws.{splice-nil, splice-push}
-use Rattle.hexadecimal.specs.Text.{hyphen, paired, parted, is-paired, encoded}
+use Rattle.hexadecimal.specs.Text.{empty-word, paired, parted, is-paired, spelling}
 use Rattle.hexadecimal.specs.Answers.{Decodes}
 use Rattle.hexadecimal.specs.declared.Decoded.the-variants.{Upto, NoBytes}
 use Rattle.hexadecimal.proofs.Pairs.{decoded-hyphen, decoded-pairs, decoded-none}
 
 module _ (w : Bytes) (at : ℕ) (out : Bytes) where
-  pub way-hyphen : same w hyphen ≡ true → Decodes w at out out (Upto at)
+  pub way-hyphen : same w empty-word ≡ true → Decodes w at out out (Upto at)
   way-hyphen e =
       let d = decoded-hyphen w e in
       record { answer = rw (d, add-zero); after = rw d (sym (splice-nil at out)) }
 
-  pub way-pairs : (out′ : Bytes) (r : ℕ) → same w hyphen ≡ false → is-paired w ≡ true → r ≡ at + length (paired w) → out′ ≡ splice at (paired w) out
+  pub way-pairs : (out′ : Bytes) (r : ℕ) → same w empty-word ≡ false → is-paired w ≡ true → r ≡ at + length (paired w) → out′ ≡ splice at (paired w) out
       → Decodes w at out out′ (Upto r)
   way-pairs out′ r e p l s =
       let d = decoded-pairs w e p in
       record { answer = rw d (ap Upto l); after = rw d s }
 
-  pub way-none : same w hyphen ≡ false → is-paired w ≡ false → Decodes w at out out NoBytes
+  pub way-none : same w empty-word ≡ false → is-paired w ≡ false → Decodes w at out out NoBytes
   way-none e p =
       let d = decoded-none w e p in
       record { answer = rw d; after = rw d (sym (splice-nil at out)) }
 
 -- the cases of `encoded`, by the length as the code tests it
-pub encoded-none : (bs : Bytes) → length bs ≡ 0 → encoded bs ≡ hyphen
-unfolding encoded
+pub encoded-none : (bs : Bytes) → length bs ≡ 0 → spelling bs ≡ empty-word
+unfolding spelling
 encoded-none [] e = refl
 encoded-none (b ∷ bs) e = absurd (omega arith)
 
-pub encoded-some : (bs : Bytes) → (length bs ≡ 0 → ⊥) → encoded bs ≡ parted bs
-unfolding encoded
+pub encoded-some : (bs : Bytes) → (length bs ≡ 0 → ⊥) → spelling bs ≡ parted bs
+unfolding spelling
 encoded-some [] e = absurd (e refl)
 encoded-some (b ∷ bs) e = refl
 

@@ -6,52 +6,52 @@ use Prim.Native.Nat.{ℕ, _+_, _*_, _≤_}
 use lib.ListN.{length}
 use Rattle.rules.specs.Lists.{Bytes}
 use Rattle.buffer.specs.Splice.{splice}
-use Rattle.hexadecimal.specs.Text.{decoded}
-use Rattle.hexadecimal.specs.Lines.{bytes-at, next-at, answer-line}
+use Rattle.hexadecimal.specs.Text.{spelled-bytes}
+use Rattle.hexadecimal.specs.Lines.{word-bytes, next-at, answer-line}
 use Rattle.hexadecimal.specs.declared.Decoded.{Decoded}
 use Rattle.hexadecimal.specs.declared.Decoded.the-variants.{Upto, NoBytes}
 use Rattle.hexadecimal.specs.declared.Taken.{Taken}
 use Rattle.hexadecimal.specs.declared.Three.{Three}
 use Rattle.hexadecimal.specs.declared.Call.{Call}
-use Rattle.hexadecimal.specs.declared.Number.{Number}
-use Rattle.hexadecimal.specs.declared.Number.the-variants.{Is, NoNumber}
+use Rattle.hexadecimal.specs.declared.NumberWord.{NumberWord}
+use Rattle.hexadecimal.specs.declared.NumberWord.the-variants.{Is, NoNumber}
 
-abbrev pub number-of : Option ℕ → Number
-number-of none = NoNumber
-number-of (some n) = Is n
+abbrev pub number-read : Option ℕ → NumberWord
+number-read none = NoNumber
+number-read (some n) = Is n
 
 -- The place behind the bytes, written from at on.
-abbrev pub place-of : ℕ → Option Bytes → Decoded
-place-of at none = NoBytes
-place-of at (some bs) = Upto (at + length bs)
+abbrev pub decoded-upto : ℕ → Option Bytes → Decoded
+decoded-upto at none = NoBytes
+decoded-upto at (some bs) = Upto (at + length bs)
 
 -- What is written: nothing where there are no bytes.
-abbrev pub written : Option Bytes → Bytes
-written none = []
-written (some bs) = bs
+abbrev pub written-bytes : Option Bytes → Bytes
+written-bytes none = []
+written-bytes (some bs) = bs
 
 -- A word is decoded to out from at on, and nothing is written where it spells no bytes.
 pub record Decodes (word : Bytes) (at : ℕ) (out out′ : Bytes) (r : Decoded) : Type 0 where
-  pub answer : r ≡ place-of at (decoded word)
-  pub after : out′ ≡ splice at (written (decoded word)) out
+  pub answer : r ≡ decoded-upto at (spelled-bytes word)
+  pub after : out′ ≡ splice at (written-bytes (spelled-bytes word)) out
 
 -- The word of a line from at on is decoded to out from start on; the place behind its bytes, and the next word's.
 pub record Takes (line : Bytes) (at start : ℕ) (out out′ : Bytes) (r : Taken) : Type 0 where
-  pub end : r .end ≡ start + length (written (bytes-at at line))
+  pub end : r .end ≡ start + length (written-bytes (word-bytes at line))
   pub next : r .next ≡ next-at at line
-  pub after : out′ ≡ splice start (written (bytes-at at line)) out
+  pub after : out′ ≡ splice start (written-bytes (word-bytes at line)) out
   pub upto : 2 * r .end ≤ r .next
   pub within : r .next ≤ length line + 1
 
 -- The bytes of the words behind the first, which is one letter.
 unfoldable pub first-bytes : Bytes → Bytes
-first-bytes line = written (bytes-at 2 line)
+first-bytes line = written-bytes (word-bytes 2 line)
 
 unfoldable pub second-bytes : Bytes → Bytes
-second-bytes line = written (bytes-at (next-at 2 line) line)
+second-bytes line = written-bytes (word-bytes (next-at 2 line) line)
 
 unfoldable pub third-bytes : Bytes → Bytes
-third-bytes line = written (bytes-at (next-at (next-at 2 line) line) line)
+third-bytes line = written-bytes (word-bytes (next-at (next-at 2 line) line) line)
 
 -- They are decoded to out one behind the other; where each ends, and where the next word begins.
 pub record TakesThree (line out out′ : Bytes) (r : Three) : Type 0 where

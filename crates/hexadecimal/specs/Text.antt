@@ -19,13 +19,13 @@ unfoldable pub glyph : ℕ → ℕ
 glyph d = cond (ltb d 10) (48 + d) (87 + d)
 
 -- Only digits of a base that is 16 at most.
-unfoldable pub all-digits : ℕ → Bytes → Bool
-all-digits base [] = true
-all-digits base (c ∷ w) = ltb (value c) base && all-digits base w
+unfoldable pub all-of-base : ℕ → Bytes → Bool
+all-of-base base [] = true
+all-of-base base (c ∷ w) = ltb (value c) base && all-of-base base w
 
 -- The word for the empty byte string.
-abbrev pub hyphen : Bytes
-hyphen = 45 ∷ []
+abbrev pub empty-word : Bytes
+empty-word = 45 ∷ []
 
 -- A byte for each pair of digits.
 unfoldable pub paired : Bytes → Bytes
@@ -39,20 +39,20 @@ parted [] = []
 parted (b ∷ bs) = glyph (b / 16) ∷ glyph (b % 16) ∷ parted bs
 
 unfoldable pub is-paired : Bytes → Bool
-is-paired w = leb 2 (length w) && (eqb (length w % 2) 0 && all-digits 16 w)
+is-paired w = leb 2 (length w) && (eqb (length w % 2) 0 && all-of-base 16 w)
 
 -- The bytes that a word spells, if it spells any byte string.
-unfoldable pub decoded : Bytes → Option Bytes
-decoded w = cond (same w hyphen) (some []) (cond (is-paired w) (some (paired w)) none)
+unfoldable pub spelled-bytes : Bytes → Option Bytes
+spelled-bytes w = cond (same w empty-word) (some []) (cond (is-paired w) (some (paired w)) none)
 
 -- The word that spells the bytes.
-unfoldable pub encoded : Bytes → Bytes
-encoded [] = hyphen
-encoded (b ∷ bs) = parted (b ∷ bs)
+unfoldable pub spelling : Bytes → Bytes
+spelling [] = empty-word
+spelling (b ∷ bs) = parted (b ∷ bs)
 
 -- The number that one to six decimal digits spell.
 unfoldable pub is-number : Bytes → Bool
-is-number w = between 1 6 (length w) && all-digits 10 w
+is-number w = between 1 6 (length w) && all-of-base 10 w
 
 abbrev pub spelled-number : Bytes → ℕ
 spelled-number w = spelled 10 (map value w) 0
@@ -61,13 +61,13 @@ unfoldable pub number : Bytes → Option ℕ
 number w = cond (is-number w) (some (spelled-number w)) none
 
 -- How many digits a number below a million has, and those digits.
-unfoldable pub places : ℕ → ℕ
-places n = cond (ltb n 10) 1 (cond (ltb n 100) 2 (cond (ltb n 1000) 3 (cond (ltb n 10000) 4 (cond (ltb n 100000) 5 6))))
+unfoldable pub decimal-places : ℕ → ℕ
+decimal-places n = cond (ltb n 10) 1 (cond (ltb n 100) 2 (cond (ltb n 1000) 3 (cond (ltb n 10000) 4 (cond (ltb n 100000) 5 6))))
 
-unfoldable pub decimal : ℕ → Bytes
-decimal n = map glyph (digits 10 (places n) n)
+unfoldable pub decimal-word : ℕ → Bytes
+decimal-word n = map glyph (digits 10 (decimal-places n) n)
 
 -- How many bytes stand before the first b, or before the end where there is none.
-unfoldable pub before : ℕ → Bytes → ℕ
-before b [] = 0
-before b (c ∷ s) = cond (eqb c b) 0 (suc (before b s))
+unfoldable pub upto-first : ℕ → Bytes → ℕ
+upto-first b [] = 0
+upto-first b (c ∷ s) = cond (eqb c b) 0 (suc (upto-first b s))

@@ -8,7 +8,7 @@ ghost use Rattle.buffer.specs.Splice.{splice};
 ghost use Rattle.rules.specs.Lists.{same};
 ghost use Rattle.hexadecimal.specs.Text as Text;
 ghost use Rattle.hexadecimal.specs.Lines as Lines;
-ghost use Rattle.hexadecimal.specs.Answers.{number-of, Decodes, Takes, TakesThree, Called, Answers};
+ghost use Rattle.hexadecimal.specs.Answers.{number-read, Decodes, Takes, TakesThree, Called, Answers};
 
 // The place behind the bytes that were written; or the word spells no bytes.
 pub enum Decoded {
@@ -16,7 +16,7 @@ pub enum Decoded {
     NoBytes,
 }
 
-pub enum Number {
+pub enum NumberWord {
     Is(usize),
     NoNumber,
 }
@@ -30,7 +30,7 @@ pub struct Taken {
 // The first place from at on that has the byte b, or the end.
 pub fn find(s: &[u8], at: usize, b: u8) -> usize
     requires { ⌜ at ≤ length (now s) ⌝ }
-    ensures { λ r. ⌜ (r ≡ at + Text.before b (drop at (now (s .entry)))) × (at ≤ r) × (r ≤ length (now (s .entry))) ⌝ }
+    ensures { λ r. ⌜ (r ≡ at + Text.upto-first b (drop at (now (s .entry)))) × (at ≤ r) × (r ≤ length (now (s .entry))) ⌝ }
 {
     let mut i = at;
     while i < s.len() {
@@ -72,7 +72,7 @@ fn glyph_of(d: u8) -> u8
 }
 
 fn has_digits(base: u8, w: &[u8]) -> bool
-    ensures { λ r. ⌜ r ≡ Text.all-digits base (now (w .entry)) ⌝ }
+    ensures { λ r. ⌜ r ≡ Text.all-of-base base (now (w .entry)) ⌝ }
 {
     let mut i = 0;
     while i < w.len() {
@@ -86,7 +86,7 @@ fn has_digits(base: u8, w: &[u8]) -> bool
 }
 
 fn is_hyphen(w: &[u8]) -> bool
-    ensures { λ r. ⌜ r ≡ same (now (w .entry)) Text.hyphen ⌝ }
+    ensures { λ r. ⌜ r ≡ same (now (w .entry)) Text.empty-word ⌝ }
 {
     if w.len() == 1 { w[0] == b'-' } else { false }
 }
@@ -158,7 +158,7 @@ fn put_digits(src: &[u8], out: &mut [u8], at: usize) -> usize
 // The word that spells the bytes, to out from at on; the place behind it.
 pub fn encode(src: &[u8], out: &mut [u8], at: usize) -> usize
     requires { ⌜ at + (2 * length (now src) + 1) ≤ length (now out) ⌝ }
-    ensures { λ r. ⌜ (r ≡ at + length (Text.encoded (now (src .entry)))) × (now (out .exit) ≡ splice at (Text.encoded (now (src .entry))) (now (out .entry))) ⌝ }
+    ensures { λ r. ⌜ (r ≡ at + length (Text.spelling (now (src .entry)))) × (now (out .exit) ≡ splice at (Text.spelling (now (src .entry))) (now (out .entry))) ⌝ }
 {
     if src.len() == 0 {
         out[at] = b'-';
@@ -174,7 +174,7 @@ fn wide(x: u8) -> usize
 }
 
 fn spell(w: &[u8]) -> usize
-    requires { ⌜ (length (now w) ≤ 6) × (Text.all-digits 10 (now w) ≡ true) ⌝ }
+    requires { ⌜ (length (now w) ≤ 6) × (Text.all-of-base 10 (now w) ≡ true) ⌝ }
     ensures { λ r. ⌜ r ≡ Text.spelled-number (now (w .entry)) ⌝ }
 {
     let mut n = 0;
@@ -187,24 +187,24 @@ fn spell(w: &[u8]) -> usize
 }
 
 // The number that a word of one to six decimal digits spells.
-pub fn read_number(word: &[u8]) -> Number
-    ensures { λ r. ⌜ r ≡ number-of (Text.number (now (word .entry))) ⌝ }
+pub fn read_number(word: &[u8]) -> NumberWord
+    ensures { λ r. ⌜ r ≡ number-read (Text.number (now (word .entry))) ⌝ }
 {
     if word.len() < 1 {
-        return Number::NoNumber;
+        return NumberWord::NoNumber;
     }
     if 6 < word.len() {
-        return Number::NoNumber;
+        return NumberWord::NoNumber;
     }
     if has_digits(10, word) {
-        Number::Is(spell(word))
+        NumberWord::Is(spell(word))
     } else {
-        Number::NoNumber
+        NumberWord::NoNumber
     }
 }
 
 fn places(n: usize) -> usize
-    ensures { λ r. ⌜ r ≡ Text.places n ⌝ }
+    ensures { λ r. ⌜ r ≡ Text.decimal-places n ⌝ }
 {
     if n < 10 {
         return 1;
@@ -227,7 +227,7 @@ fn places(n: usize) -> usize
 // The decimal digits of n, to out from at on; the place behind them.
 pub fn put_number(n: usize, out: &mut [u8], at: usize) -> usize
     requires { ⌜ (n < 1000000) × (at + 6 ≤ length (now out)) ⌝ }
-    ensures { λ r. ⌜ (r ≡ at + length (Text.decimal n)) × (now (out .exit) ≡ splice at (Text.decimal n) (now (out .entry))) ⌝ }
+    ensures { λ r. ⌜ (r ≡ at + length (Text.decimal-word n)) × (now (out .exit) ≡ splice at (Text.decimal-word n) (now (out .entry))) ⌝ }
 {
     let k = places(n);
     let mut i = k;
@@ -290,11 +290,11 @@ pub fn take_three(line: &[u8], out: &mut [u8]) -> Three
 }
 
 // The number that the line spells from at on.
-pub fn take_number(line: &[u8], at: usize) -> Number
-    ensures { λ r. ⌜ r ≡ number-of (Lines.number-at at (now (line .entry))) ⌝ }
+pub fn take_number(line: &[u8], at: usize) -> NumberWord
+    ensures { λ r. ⌜ r ≡ number-read (Lines.number-at at (now (line .entry))) ⌝ }
 {
     if line.len() < at {
-        return Number::NoNumber;
+        return NumberWord::NoNumber;
     }
     read_number(&line[at..])
 }
@@ -330,7 +330,7 @@ fn take_read(line: &[u8], out: &mut [u8]) -> Call
     let s = take_three(line, out);
     let n = take_number(line, s.next);
     match n {
-        Number::Is(asked) => Call {
+        NumberWord::Is(asked) => Call {
             letter: b'R',
             table: s.table,
             record: s.record,
@@ -338,7 +338,7 @@ fn take_read(line: &[u8], out: &mut [u8]) -> Call
             buffer: s.format,
             asked,
         },
-        Number::NoNumber => no_call(),
+        NumberWord::NoNumber => no_call(),
     }
 }
 
@@ -350,7 +350,7 @@ fn take_update(line: &[u8], out: &mut [u8]) -> Call
     let buffer = take_bytes(line, s.next, out, s.format);
     let n = take_number(line, buffer.next);
     match n {
-        Number::Is(asked) => Call {
+        NumberWord::Is(asked) => Call {
             letter: b'U',
             table: s.table,
             record: s.record,
@@ -358,7 +358,7 @@ fn take_update(line: &[u8], out: &mut [u8]) -> Call
             buffer: buffer.end,
             asked,
         },
-        Number::NoNumber => no_call(),
+        NumberWord::NoNumber => no_call(),
     }
 }
 
@@ -369,7 +369,7 @@ fn take_empty(line: &[u8], out: &mut [u8]) -> Call
     let table = take_bytes(line, 2, out, 0);
     let n = take_number(line, table.next);
     match n {
-        Number::Is(asked) => Call {
+        NumberWord::Is(asked) => Call {
             letter: b'E',
             table: table.end,
             record: table.end,
@@ -377,7 +377,7 @@ fn take_empty(line: &[u8], out: &mut [u8]) -> Call
             buffer: table.end,
             asked,
         },
-        Number::NoNumber => no_call(),
+        NumberWord::NoNumber => no_call(),
     }
 }
 
@@ -403,7 +403,7 @@ pub fn take_call(line: &[u8], out: &mut [u8]) -> Call
 // A number and the character behind it, to out from at on; the place behind both.
 pub fn put_field(n: usize, behind: u8, out: &mut [u8], at: usize) -> usize
     requires { ⌜ (n < 1000000) × (at + 7 ≤ length (now out)) ⌝ }
-    ensures { λ r. ⌜ (r ≡ at + length (Text.decimal n ++ (behind ∷ []))) × (now (out .exit) ≡ splice at (Text.decimal n ++ (behind ∷ [])) (now (out .entry))) × (r ≤ at + 7) ⌝ }
+    ensures { λ r. ⌜ (r ≡ at + length (Text.decimal-word n ++ (behind ∷ []))) × (now (out .exit) ≡ splice at (Text.decimal-word n ++ (behind ∷ [])) (now (out .entry))) × (r ≤ at + 7) ⌝ }
 {
     let end = put_number(n, out, at);
     out[end] = behind;

@@ -12,7 +12,7 @@ use Rattle.rules.specs.Values.{allowed, meaning, carried, first-value}
 use Rattle.rules.specs.Record.{times, stored-value}
 use Rattle.rules.proofs.Steps.{from-done}
 use Rattle.kinds.specs.Formats.{format-at}
-use Rattle.values.specs.Places.{Found}
+use Rattle.values.specs.Places.{Located}
 use Rattle.values.specs.declared.First.{First}
 use Rattle.values.specs.declared.First.the-variants.{Value, Refused as Bad}
 use Rattle.values.proofs.Meant.{form-means}
@@ -20,7 +20,7 @@ use Rattle.records.specs.Places.{Content-of}
 use Rattle.records.proofs.Cells.{times-first, times-none, value-first}
 use Rattle.records.proofs.Contents.{content-found, content-none}
 use Rattle.records.proofs.Normals.{first-at}
-use Rattle.reading.specs.Filling.{within, Filling, Going}
+use Rattle.reading.specs.Filling.{in-room, Filling, Going}
 use Rattle.reading.specs.Runs.{together, Wants, carried-to, Stand}
 use Rattle.reading.specs.declared.Next.{Next}
 use Rattle.reading.specs.declared.Next.the-variants.{At, Refused}
@@ -58,7 +58,7 @@ pub record Ahead (w : Wanted) (b : Bytes) (us : List Bytes) (n from next : ℕ) 
 
 module _ {w : Wanted} (h : Wants w) {b : Bytes} {end n : ℕ} {us : List Bytes} {i q start at : ℕ} {write : Bool} {out₀ out : Bytes}
     (g : Carrying w b end n us i q start at write out₀ out) where
-  module _ (more : i < n) {first : First} (f : Found b q (first-value (w .standard) (drop q b)) first) where
+  module _ (more : i < n) {first : First} (f : Located b q (first-value (w .standard) (drop q b)) first) where
     next-there : {C : Type 0} → ((v mid : Bytes) (vs : List Bytes) → g .left ≡ v ∷ vs → stored-value (format-at (w .own)) (w .standard) (drop q b) ≡ done (v, mid)
         → times (n - (i + 1)) (stored-value (format-at (w .own)) (w .standard)) mid ≡ done (vs, g .stand .0) → C) → C
     next-there k =
@@ -87,10 +87,10 @@ module _ {w : Wanted} (h : Wants w) {b : Bytes} {end n : ℕ} {us : List Bytes} 
         let e : length (take (next - from) (drop from b)) ≡ next - from = simp (length-take, length-drop) (omega (arith, y .ordered, y .inside)) in
         ap (allowed (format-at (w .own))) e ∙ y .long
 
-    module _ {out′ : Bytes} {m : Next} (f : Filling (within (end - at) (carried (format-at (w .own)) (format-at (w .format)) (w .size) (take (next - from) (drop from b)))) at write out out′ m) where
+    module _ {out′ : Bytes} {m : Next} (f : Filling (in-room (end - at) (carried (format-at (w .own)) (format-at (w .format)) (w .size) (take (next - from) (drop from b)))) at write out out′ m) where
       put : Filling (together (end - at) (carried-to w (x .value) ∷ [])) at write out out′ m
       put = subst (λ (o : Outcome Bytes). Filling o at write out out′ m)
-          (ap (λ (v : Bytes). within (end - at) (carried (format-at (w .own)) (format-at (w .format)) (w .size) v)) (sym (x .content .is)) ∙ sym (together-one (end - at) (carried-to w (x .value)))) f
+          (ap (λ (v : Bytes). in-room (end - at) (carried (format-at (w .own)) (format-at (w .format)) (w .size) v)) (sym (x .content .is)) ∙ sym (together-one (end - at) (carried-to w (x .value)))) f
 
       parted : Going (together (end - start) (map (carried-to w) us)) (together (end - at) (carried-to w (x .value) ∷ map (carried-to w) (x .others))) start at write out₀ out
       parted = subst (λ (vs : List Bytes). Going (together (end - start) (map (carried-to w) us)) (together (end - at) (map (carried-to w) vs)) start at write out₀ out) (x .is) (g .going)

@@ -23,7 +23,7 @@ use Rattle.values.proofs.Meant.{null-carried, carried-itself}
 use Rattle.kinds.specs.Formats.{format-at}
 use Rattle.buffer.proofs.Cases.{by-order}
 use Rattle.records.proofs.Cells.{times-first, times-none, times-length, value-first}
-use Rattle.reading.specs.Filling.{within, Filling, Going}
+use Rattle.reading.specs.Filling.{in-room, Filling, Going}
 use Rattle.reading.specs.Runs.{together, Wants, carried-to, wanted, existing, Stand, Exist}
 use Rattle.reading.specs.declared.Next.{Next}
 use Rattle.reading.specs.declared.Next.the-variants.{At, Refused}
@@ -85,10 +85,10 @@ module _ (w : Wanted) (b : Bytes) (at n : ℕ) (us : List Bytes) (s : Stand w b 
 
   -- Copied in one piece they are put as each by itself.
   module _ (own : w .own ≡ w .format) (size : w .standard ≡ w .size) (upto room start : ℕ) (write : Bool) {out out′ : Bytes} {m : Next} where
-    pub copied : at ≤ length b → upto ≤ length b → s .0 ≡ drop upto b → Filling (within room (done (take (upto - at) (drop at b)))) start write out out′ m
+    pub copied : at ≤ length b → upto ≤ length b → s .0 ≡ drop upto b → Filling (in-room room (done (take (upto - at) (drop at b)))) start write out out′ m
         → Filling (together room (map (carried-to w) us)) start write out out′ m
     copied h h₂ e = subst (λ (o : Outcome Bytes). Filling o start write out out′ m)
-        (ap (λ (bs : Bytes). within room (done bs)) (stored-bytes upto h h₂ e .1) ∙ sym (ap (together room) (as-stored own size) ∙ together-done us room))
+        (ap (λ (bs : Bytes). in-room room (done bs)) (stored-bytes upto h h₂ e .1) ∙ sym (ap (together room) (as-stored own size) ∙ together-done us room))
 
 -- What is wanted of a cell is put: the run of those that exist, and then nulls.
 module _ (w : Wanted) (h : Wants w) (b : Bytes) (vs : List Bytes) (r : Run) (x : Exist w b vs r) where
@@ -115,7 +115,7 @@ module _ (w : Wanted) (h : Wants w) (b : Bytes) (vs : List Bytes) (r : Run) (x :
     cell-within p e = turn-within end (map (carried-to w) (existing w vs)) nulls begun f fits room p e .1
 
     pub cell-on : (p : ℕ) → m ≡ At p → {out″ : Bytes} {m₂ : Next}
-        → Filling (within (end - p) (done (join (replicate (w .last + 1 - w .first - r .count) (null (format-at (w .format)) (w .size)))))) p write out′ out″ m₂
+        → Filling (in-room (end - p) (done (join (replicate (w .last + 1 - w .first - r .count) (null (format-at (w .format)) (w .size)))))) p write out′ out″ m₂
         → Filling (together (end - at) (wanted w vs)) at write out out″ m₂
     cell-on p e {out″} {m₂} f₂ = going-last (turn end (map (carried-to w) (existing w vs)) nulls begun f fits room p e)
         (subst (λ (o : Outcome Bytes). Filling o p write out′ out″ m₂) (sym (together-copies (w .last + 1 - w .first - r .count) (null (format-at (w .format)) (w .size)) (end - p))) f₂)

@@ -20,7 +20,7 @@ use Rattle.uses.specs.declared.Use.{Use}
 use Rattle.uses.specs.declared.Use.the-variants.{Blanks, Text, GroupCount, ValueCount, Values}
 use Rattle.uses.proofs.SpanFields as fields
 use Rattle.records.specs.Places.{Held}
-use Rattle.reading.specs.Filling.{within, Filling}
+use Rattle.reading.specs.Filling.{in-room, Filling}
 use Rattle.reading.specs.Runs.{Fills, span-items}
 use Rattle.reading.specs.declared.Next.{Next}
 use Rattle.reading.proofs.Running.{filled-one}
@@ -28,30 +28,30 @@ use Rattle.reading.proofs.Unbare.{filled-bare}
 
 -- One item, by its bytes.
 single : (es : List Entry) (b : Bytes) (places : List ℕ) (at end : ℕ) (write : Bool) {out out′ : Bytes} {m : Next} (x : Item) (o : Outcome Bytes)
-    → ((r : Record) → Held es b places r → item-bytes (parts es) r x ≡ o) → Filling (within (end - at) o) at write out out′ m → Fills es b places (x ∷ []) at end write out out′ m
-single es b places at end write {out} {out′} {m} x o e g r h = subst (λ (z : Outcome Bytes). Filling z at write out out′ m) (sym (filled-one (parts es) r (end - at) x ∙ ap (within (end - at)) (e r h))) g
+    → ((r : Record) → Held es b places r → item-bytes (parts es) r x ≡ o) → Filling (in-room (end - at) o) at write out out′ m → Fills es b places (x ∷ []) at end write out out′ m
+single es b places at end write {out} {out′} {m} x o e g r h = subst (λ (z : Outcome Bytes). Filling z at write out out′ m) (sym (filled-one (parts es) r (end - at) x ∙ ap (in-room (end - at)) (e r h))) g
 
 -- An element that is known by an equation.
 module _ (es : List Entry) (b : Bytes) (places : List ℕ) (f : Bytes) (at end : ℕ) (write : Bool) {out out′ : Bytes} {m : Next} where
   meant : {u : Use} (u′ : Use) → u ≡ u′ → Fills es b places (items-of (use-meant es f u′)) at end write out out′ m → Fills es b places (items-of (use-meant es f u)) at end write out out′ m
   meant {u} u′ e = subst (λ (z : Use). Fills es b places (items-of (use-meant es f z)) at end write out out′ m) (sym e)
 
-  pub use-blanks : {u : Use} (n : ℕ) → u ≡ Blanks n → Filling (within (end - at) (done (replicate n space))) at write out out′ m → Fills es b places (items-of (use-meant es f u)) at end write out out′ m
+  pub use-blanks : {u : Use} (n : ℕ) → u ≡ Blanks n → Filling (in-room (end - at) (done (replicate n space))) at write out out′ m → Fills es b places (items-of (use-meant es f u)) at end write out out′ m
   unfolding items-of item-bytes
   use-blanks n e g = meant (Blanks n) e (single es b places at end write (blanks-item n) _ (λ r h. refl) g)
 
-  pub use-text : {u : Use} (from upto : ℕ) → u ≡ Text from upto → Filling (within (end - at) (done (take (upto - from) (drop from f)))) at write out out′ m
+  pub use-text : {u : Use} (from upto : ℕ) → u ≡ Text from upto → Filling (in-room (end - at) (done (take (upto - from) (drop from f)))) at write out out′ m
       → Fills es b places (items-of (use-meant es f u)) at end write out out′ m
   unfolding items-of item-bytes part
   use-text from upto e g = meant (Text from upto) e (single es b places at end write (text-item (part f from upto)) _ (λ r h. refl) g)
 
   pub use-group-count : {u : Use} (i n : ℕ) → u ≡ GroupCount i → ((r : Record) → Held es b places r → n ≡ group-count-at (parts es) r (getD es i blank .name))
-      → Filling (within (end - at) (done (n ∷ []))) at write out out′ m → Fills es b places (items-of (use-meant es f u)) at end write out out′ m
+      → Filling (in-room (end - at) (done (n ∷ []))) at write out out′ m → Fills es b places (items-of (use-meant es f u)) at end write out out′ m
   unfolding items-of item-bytes
   use-group-count i n e c g = meant (GroupCount i) e (single es b places at end write (group-count (getD es i blank .name)) _ (λ r h. ap (λ (k : ℕ). done (k ∷ [])) (sym (c r h))) g)
 
   pub use-value-count : {u : Use} (i k n : ℕ) → u ≡ ValueCount i k → ((r : Record) → Held es b places r → n ≡ value-count-at (parts es) r (getD es i blank .name) k)
-      → Filling (within (end - at) (done (n ∷ []))) at write out out′ m → Fills es b places (items-of (use-meant es f u)) at end write out out′ m
+      → Filling (in-room (end - at) (done (n ∷ []))) at write out out′ m → Fills es b places (items-of (use-meant es f u)) at end write out out′ m
   unfolding items-of item-bytes
   use-value-count i k n e c g = meant (ValueCount i k) e (single es b places at end write (value-count (getD es i blank .name) k) _ (λ r h. ap (λ (j : ℕ). done (j ∷ [])) (sym (c r h))) g)
 

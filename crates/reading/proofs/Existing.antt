@@ -15,7 +15,7 @@ use Rattle.rules.specs.Record.{Reader, times, counted, stored-value}
 use Rattle.rules.proofs.Steps.{done-inj}
 use Rattle.kinds.specs.Formats.{format-at}
 use Rattle.records.specs.Walk.{rest-of, Walked, Ends}
-use Rattle.records.specs.declared.Step.the-variants.{At}
+use Rattle.records.specs.declared.Reach.the-variants.{At}
 use Rattle.records.specs.declared.places.Cell.the-variants.{At as Stands}
 use Rattle.records.proofs.Cells.{times-first, times-length, counted-many, byte-there}
 use Rattle.reading.specs.Runs.{Wants, Cell-holds, existing, Exist}

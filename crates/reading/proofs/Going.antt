@@ -23,14 +23,14 @@ use Rattle.reading.specs.declared.Next.{Next}
 use Rattle.reading.specs.declared.Next.the-variants.{At, Refused}
 
 -- Bytes put before an outcome's bytes.
-abbrev pub before : Bytes → Outcome Bytes → Outcome Bytes
-before a o = o >>= λ b. done (a ++ b)
+abbrev pub put-before : Bytes → Outcome Bytes → Outcome Bytes
+put-before a o = o >>= λ b. done (a ++ b)
 
-before-none : (o : Outcome Bytes) → before [] o ≡ o
+before-none : (o : Outcome Bytes) → put-before [] o ≡ o
 before-none (done b) = refl
 before-none (refused k) = refl
 
-before-both : (a b : Bytes) (o : Outcome Bytes) → before a (before b o) ≡ before (a ++ b) o
+before-both : (a b : Bytes) (o : Outcome Bytes) → put-before a (put-before b o) ≡ put-before (a ++ b) o
 before-both a b (done c) = ap done (sym (append-assoc a b c))
 before-both a b (refused k) = refl
 
@@ -47,7 +47,7 @@ together-length room (done b ∷ os) bs p =
     rw (← e, length-append) (omega arith)
 together-length room (refused n ∷ os) bs p = absurd (not-done p)
 
-append-on : (room : ℕ) (xs ys : List (Outcome Bytes)) (a : Bytes) → together room xs ≡ done a → together room (xs ++ ys) ≡ before a (together (room - length a) ys)
+append-on : (room : ℕ) (xs ys : List (Outcome Bytes)) (a : Bytes) → together room xs ≡ done a → together room (xs ++ ys) ≡ put-before a (together (room - length a) ys)
 unfolding together
 append-on room [] ys a p = rw (← done-inj p, sub-zero) (sym (before-none (together room ys)))
 append-on room (done b ∷ xs) ys a p =
@@ -82,9 +82,9 @@ module _ (ps : List Part) (r : Record) where
   filled-parted room xs ys = filled-together ps r (xs ++ ys) room ∙ ap (together room) (map-append (item-bytes ps r) xs ys)
 
   pub filled-on : (room : ℕ) (xs ys : List Item) (a : Bytes) → filled ps r room xs ≡ done a
-      → filled ps r room (xs ++ ys) ≡ before a (filled ps r (room - length a) ys)
+      → filled ps r room (xs ++ ys) ≡ put-before a (filled ps r (room - length a) ys)
   filled-on room xs ys a p =
-      filled-parted room xs ys ∙ append-on room _ _ a (sym (filled-together ps r xs room) ∙ p) ∙ ap (before a) (sym (filled-together ps r ys (room - length a)))
+      filled-parted room xs ys ∙ append-on room _ _ a (sym (filled-together ps r xs room) ∙ p) ∙ ap (put-before a) (sym (filled-together ps r ys (room - length a)))
 
   pub filled-off : (room : ℕ) (xs ys : List Item) (k : ℕ) → filled ps r room xs ≡ refused k → filled ps r room (xs ++ ys) ≡ refused k
   filled-off room xs ys k p = filled-parted room xs ys ∙ append-off room _ _ k (sym (filled-together ps r xs room) ∙ p)
@@ -95,16 +95,16 @@ room-left end at at′ n e l = omega arith
 pub going-start : (whole : Outcome Bytes) (at : ℕ) (write : Bool) (out : Bytes) → Going whole whole at at write out out
 going-start whole at write out = record { answer = refl; alike = refl; same = refl; bytes = λ h. refl }
 
-placed-before : (at : ℕ) (a : Bytes) (o : Outcome Bytes) → placed at (before a o) ≡ placed (at + length a) o
+placed-before : (at : ℕ) (a : Bytes) (o : Outcome Bytes) → placed at (put-before a o) ≡ placed (at + length a) o
 placed-before at a (done b) = ap At (rw length-append (omega arith))
 placed-before at a (refused k) = refl
 
-done-before : (a : Bytes) (o : Outcome Bytes) → is-done (before a o) ≡ is-done o
+done-before : (a : Bytes) (o : Outcome Bytes) → is-done (put-before a o) ≡ is-done o
 done-before a (done b) = refl
 done-before a (refused k) = refl
 
 left-before : (write : Bool) (at : ℕ) (a : Bytes) (o : Outcome Bytes) (out : Bytes) → at + length a ≤ length out → Counts write o
-    → left-as write (at + length a) o (left-as write at (done a) out) ≡ left-as write at (before a o) out
+    → left-as write (at + length a) o (left-as write at (done a) out) ≡ left-as write at (put-before a o) out
 unfolding bytes-of
 left-before false at a o out h s = refl
 left-before true at a (done b) out h s = splice-then at a b out (at + length a) refl h
@@ -143,7 +143,7 @@ going-then g h = record {
 
 module _ {whole rest : Outcome Bytes} {start at : ℕ} {write : Bool} {out₀ out out′ : Bytes} (g : Going whole rest start at write out₀ out) (same : length out′ ≡ length out) where
   -- A turn: some bytes come off the front of what is left.
-  pub going-on : (a : Bytes) (left : Outcome Bytes) (at′ : ℕ) → rest ≡ before a left → at + length a ≡ at′ → at′ ≤ length out → out′ ≡ left-as write at (done a) out
+  pub going-on : (a : Bytes) (left : Outcome Bytes) (at′ : ℕ) → rest ≡ put-before a left → at + length a ≡ at′ → at′ ≤ length out → out′ ≡ left-as write at (done a) out
       → Going whole left start at′ write out₀ out′
   going-on a left at′ o e l b =
       let d : is-done rest ≡ is-done left = ap is-done o ∙ done-before a left in
@@ -198,7 +198,7 @@ module _ (end : ℕ) (xs ys : List (Outcome Bytes)) {whole : Outcome Bytes} {sta
   pub turn : (at′ : ℕ) → n ≡ At at′ → Going whole (together (end - at′) ys) start at′ write out₀ out′
   turn at′ q = put-on f at′ q λ a h e b.
       let l = together-length (end - at) xs a h in
-      let o = append-on (end - at) xs ys a h ∙ ap (λ m. before a (together m ys)) (room-left end at at′ (length a) e (omega arith)) in
+      let o = append-on (end - at) xs ys a h ∙ ap (λ m. put-before a (together m ys)) (room-left end at at′ (length a) e (omega arith)) in
       going-on g (f .same) a (together (end - at′) ys) at′ o e (omega arith) b
 
   pub stop : (k : ℕ) → n ≡ Refused k → Filling whole start write out₀ out′ (Refused k)

@@ -30,8 +30,8 @@ use Rattle.uses.specs.declared.Span.{Span}
 use Rattle.uses.proofs.Fields.{group-fields}
 use Rattle.records.specs.Places.{Held, Piece-of}
 use Rattle.records.specs.declared.places.Content.the-variants.{Nothing}
-use Rattle.reading.specs.Filling.{within, Filling, Going}
-use Rattle.reading.specs.Runs.{Fills, together, Numbered, nulls-of, row-items}
+use Rattle.reading.specs.Filling.{in-room, Filling, Going}
+use Rattle.reading.specs.Runs.{Fills, together, Fields-numbered, nulls-of, row-items}
 use Rattle.reading.specs.declared.Next.{Next}
 use Rattle.reading.specs.declared.Next.the-variants.{At, Refused}
 use Rattle.reading.proofs.Going.{going-start, going-end, turn, turn-within, stop, filled-together}
@@ -60,7 +60,7 @@ module _ (t : Bytes) (v : Valid t) {fields : List ℕ} {n end k start at : ℕ} 
   -- A turn puts the null of the next field, by the numbers that the code has of its entry.
   module _ (less : k < n) (most : n ≤ length fields) (here : (getD fields k 0 < length es) × (is-group (getD es (getD fields k 0) blank .what) ≡ false))
       (e : Row) (q : e ≡ decoded (getD es (getD fields k 0) blank)) {out′ : Bytes} {m : Next}
-      (f : Filling (within (end - at) (done (join (replicate 1 (null (format-at (e .format)) (e .size)))))) at write out out′ m) where
+      (f : Filling (in-room (end - at) (done (join (replicate 1 (null (format-at (e .format)) (e .size)))))) at write out out′ m) where
     abbrev ahead : List (Outcome Bytes)
     ahead = nulls-of (map (field-at es) (slice (suc k) n fields))
 
@@ -103,7 +103,7 @@ module _ (t : Bytes) (v : Valid t) (s : Span) (held : Span-held (entries-of t) s
     known : i + 1 ≤ length (entries-of t)
     known = omega (arith, held .grouped standard inside .1, held .ordered, held .upto)
 
-    pub fields-numbered : Numbered (entries-of t) after n
+    pub fields-numbered : Fields-numbered (entries-of t) after n
     fields-numbered k less =
         let numbers = numbers-below level (i + 1) behind in
         let e : getD after k 0 ≡ getD numbers k 0 = sym (getD-take n after k 0 less) ∙ ap (λ (ns : List ℕ). getD ns k 0) (ap (take n) (x .written) ∙ take-splice numbers before n (x .counted)) in

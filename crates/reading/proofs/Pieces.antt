@@ -34,7 +34,7 @@ use Rattle.records.specs.declared.paths.Path.{Path}
 use Rattle.records.specs.declared.places.Content.the-variants.{At as Lies}
 use Rattle.records.proofs.Cells.{counted-once, value-first}
 use Rattle.records.proofs.Strips.{first-own}
-use Rattle.reading.specs.Filling.{within, Filling}
+use Rattle.reading.specs.Filling.{in-room, Filling}
 use Rattle.reading.specs.Runs.{Fills, together, Way, row-items}
 use Rattle.reading.specs.declared.Next.{Next}
 use Rattle.reading.proofs.Going.{filled-together}
@@ -116,7 +116,7 @@ module _ (es : List Entry) (r : Record) (o : ℕ) where
   values-joined (f ∷ fs) = ap (λ (bs : Bytes). value-of f ++ bs) (values-joined fs)
 
   pub row-filled : (first end : ℕ) → first ≤ end → end ≤ length es → ((k : ℕ) → first ≤ k → k < end → is-multiple (getD es k blank .what) ≡ false) → Celled es first end o r → (room : ℕ)
-      → filled (parts es) r room (stored-items o (fields-from es first end)) ≡ within room (done (values-of es r o (fields-of (slice first end es))))
+      → filled (parts es) r room (stored-items o (fields-from es first end)) ≡ in-room room (done (values-of es r o (fields-of (slice first end es))))
   row-filled first end h l single cells room =
       let fs = fields-from es first end in
       filled-together (parts es) r (stored-items o fs) room
@@ -125,7 +125,7 @@ module _ (es : List Entry) (r : Record) (o : ℕ) where
       own-item (field-at es k) (c .0) (c .1) (multiple-at es k ∙ single k low high) (subst (λ (m : ℕ). stored-cell (field-at es k) (c .0) ≡ done (values-at (parts es) r m o, c .1)) (sym (name-at es k)) (c .2)))
       ∙ ap (together room) (sym (map-map done value-of fs))
       ∙ together-done (map value-of fs) room
-      ∙ ap (λ (bs : Bytes). within room (done bs)) (values-joined fs ∙ ap (values-of es r o) (same-fields es (end - first) first end (omega arith) l))
+      ∙ ap (λ (bs : Bytes). in-room room (done bs)) (values-joined fs ∙ ap (values-of es r o) (same-fields es (end - first) first end (omega arith) l))
 
 module _ (es : List Entry) (b : Bytes) (places : List ℕ) (s : Span) (held : Span-held es s) (standard : s .standard ≡ true) (o : ℕ) where
   pub row-single : (k : ℕ) → s .first ≤ k → k < s .end → is-multiple (getD es k blank .what) ≡ false
@@ -133,12 +133,12 @@ module _ (es : List Entry) (b : Bytes) (places : List ℕ) (s : Span) (held : Sp
 
   -- What is found in one piece is put so.
   module _ (from upto : ℕ) (found : (r : Record) → Held es b places r → Piece-of es b (s .first) (s .end) o r (Lies from upto)) where
-    pub row-put : (at end : ℕ) (write : Bool) {out out′ : Bytes} {m : Next} → Filling (within (end - at) (done (take (upto - from) (drop from b)))) at write out out′ m
+    pub row-put : (at end : ℕ) (write : Bool) {out out′ : Bytes} {m : Next} → Filling (in-room (end - at) (done (take (upto - from) (drop from b)))) at write out out′ m
         → Fills es b places (row-items es s o) at end write out out′ m
     row-put at end write {out} {out′} {m} f r h =
         let p = found r h in
         subst (λ (x : Outcome Bytes). Filling x at write out out′ m)
-        (ap (λ (bs : Bytes). within (end - at) (done bs)) (p .2)
+        (ap (λ (bs : Bytes). in-room (end - at) (done bs)) (p .2)
         ∙ sym (ap (filled (parts es) r (end - at)) (row-once es s held standard o)
         ∙ row-filled es r o (s .first) (s .end) (omega (arith, held .ordered)) (held .upto) row-single (p .3) (end - at)))
         f
@@ -150,5 +150,5 @@ way es s held standard path width e leads wide = record {
   entry = e;
   leads = leads;
   wide = λ i. wide (ap (all plain) (sym (same-fields es (s .end - s .first) (s .first) (s .end) (omega (arith, held .ordered)) (held .upto)))
-      ∙ held .together standard (path .group) (subst (λ (j : ℕ). Home es j (path .group)) e (leads .home i)) .1);
+      ∙ held .one-group standard (path .group) (subst (λ (j : ℕ). Home es j (path .group)) e (leads .home i)) .1);
 }

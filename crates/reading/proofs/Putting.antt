@@ -16,18 +16,18 @@ use Rattle.uses.specs.Meant.{use-meant, Means, Remembered}
 use Rattle.uses.specs.declared.Use.{Use}
 use Rattle.uses.specs.declared.Meant.the-variants as meant
 use Rattle.reading.specs.Runs.{Fills}
-use Rattle.reading.specs.Turns.{place-of, unused, standing-of, Puts}
+use Rattle.reading.specs.Turns.{filled-upto, use-refused, standing-of, Puts}
 use Rattle.reading.specs.declared.Next.{Next}
 use Rattle.reading.specs.declared.Next.the-variants as next
 use Rattle.reading.specs.declared.Standing.{Standing}
 use Rattle.reading.specs.declared.Standing.the-variants.{At, NoItem, NoUse}
 use Rattle.reading.proofs.Turns.{passed, refused-use, used-behind, used-at, used-within, used-refused}
 
-pub at-fits : {s : Standing} {p end : ℕ} → s ≡ At p → place-of s ≤ end → p ≤ end
-at-fits {end = end} e l = subst (λ (s : Standing). place-of s ≤ end) e l
+pub at-fits : {s : Standing} {p end : ℕ} → s ≡ At p → filled-upto s ≤ end → p ≤ end
+at-fits {end = end} e l = subst (λ (s : Standing). filled-upto s ≤ end) e l
 
-pub not-unused : (s : Standing) → unused s ≡ false → (k : ℕ) → s ≡ NoUse k → ⊥
-not-unused s h k e = not-both (sym h ∙ ap unused e)
+pub not-unused : (s : Standing) → use-refused s ≡ false → (k : ℕ) → s ≡ NoUse k → ⊥
+not-unused s h k e = not-both (sym h ∙ ap use-refused e)
 
 module _ {es : List Entry} {b : Bytes} {places : List ℕ} {f : Bytes} {end : ℕ} {write : Bool} {e : Element} {last : List ℕ} where
   -- Standings that are known by equations.
@@ -37,12 +37,12 @@ module _ {es : List Entry} {b : Bytes} {places : List ℕ} {f : Bytes} {end : �
       subst (λ (x : Standing). Puts es b places f end write e last last′ x out out′ s′) (sym q)
       (subst (λ (x : Standing). Puts es b places f end write e last last′ s₁ out out′ x) (sym q′) p)
 
-  pub puts-unused : (s : Standing) {out : Bytes} → unused s ≡ true → Puts es b places f end write e last last s out out s
+  pub puts-unused : (s : Standing) {out : Bytes} → use-refused s ≡ true → Puts es b places f end write e last last s out out s
   puts-unused (At p) h = absurd (not-both h)
   puts-unused (NoItem n) h = absurd (not-both h)
   puts-unused (NoUse n) h = record { fits = omega arith; same = refl; kept = refl; going = λ ls q. (ls, q, λ r k xs. passed es r end ls (element-of f e) xs n) }
 
-  pub puts-refused : (s : Standing) {out : Bytes} (n : ℕ) → Means es last e (meant.Refused n) → unused s ≡ false → Puts es b places f end write e last last s out out (NoUse n)
+  pub puts-refused : (s : Standing) {out : Bytes} (n : ℕ) → Means es last e (meant.Refused n) → use-refused s ≡ false → Puts es b places f end write e last last s out out (NoUse n)
   puts-refused s n m h = record {
     fits = omega arith;
     same = refl;

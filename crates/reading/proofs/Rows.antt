@@ -25,7 +25,7 @@ use Rattle.records.specs.Where.{fields-of}
 use Rattle.records.specs.Paths.{Wide, Leads}
 use Rattle.records.specs.Places.{Held, Holds, values-of, Celled, Rows-of}
 use Rattle.records.specs.declared.paths.Path.{Path}
-use Rattle.reading.specs.Filling.{within, Filling}
+use Rattle.reading.specs.Filling.{in-room, Filling}
 use Rattle.reading.specs.Runs.{Fills, together, row-items, span-items}
 use Rattle.reading.specs.Rows.{rows-items, Whole, Adjoin}
 use Rattle.reading.specs.declared.Next.{Next}
@@ -62,14 +62,14 @@ module _ (es : List Entry) (b : Bytes) (places : List ℕ) (s : Span) (held : Sp
   abbrev row-bytes : Record → ℕ → Bytes
   row-bytes r k = values-of es r k (fields-of (slice (s .first) (s .end) es))
 
-  one-filled : (r : Record) (o : ℕ) → Celled es (s .first) (s .end) o r → (room : ℕ) → filled (parts es) r room (row-items es s o) ≡ within room (done (row-bytes r o))
+  one-filled : (r : Record) (o : ℕ) → Celled es (s .first) (s .end) o r → (room : ℕ) → filled (parts es) r room (row-items es s o) ≡ in-room room (done (row-bytes r o))
   one-filled r o cells room =
       ap (filled (parts es) r room) (row-once es s held standard o)
       ∙ row-filled es r o (s .first) (s .end) (omega (arith, held .ordered)) (held .upto) (row-single es b places s held standard o) cells room
 
   rows-filled : (r : Record) (n o : ℕ) → 1 ≤ o → ((k : ℕ) → o ≤ k → k < o + n → Celled es (s .first) (s .end) k r) → (room : ℕ)
       → filled (parts es) r room (rows-items es s o (o + n - 1)) ≡ together room (map done (run (row-bytes r) o n))
-  unfolding together within run filled
+  unfolding together in-room run filled
   rows-filled r zero o some cells room = ap (filled (parts es) r room) (rows-none es s o (o + 0 - 1) (omega arith))
   rows-filled r (suc n) o some cells room =
       let u = row-bytes r o in
@@ -85,14 +85,14 @@ module _ (es : List Entry) (b : Bytes) (places : List ℕ) (s : Span) (held : Sp
   module _ {path : Path} {n : ℕ} (some : 1 ≤ s .from) (whole : Whole es b places s path n) (width from : ℕ)
       (found : (r : Record) → Held es b places r → Rows-of es b (path .group) (s .from) n width r from) where
     pub rows-put : (upto : ℕ) → upto ≡ from + n * width → (at end : ℕ) (write : Bool) {out out′ : Bytes} {m : Next}
-        → Filling (within (end - at) (done (take (upto - from) (drop from b)))) at write out out′ m → Fills es b places (rows-items es s (s .from) (s .from + n - 1)) at end write out out′ m
+        → Filling (in-room (end - at) (done (take (upto - from) (drop from b)))) at write out out′ m → Fills es b places (rows-items es s (s .from) (s .from + n - 1)) at end write out out′ m
     rows-put upto u at end write {out} {out′} {m} f r h =
         let x = found r h in
         let z : upto - from ≡ n * width = omega (arith, u) in
         let bytes = ap (λ (k : ℕ). take k (drop from b)) z ∙ x .bytes ∙ ap (λ (fs : List Field). join (run (λ (k : ℕ). values-of es r k fs) (s .from) n)) (whole-fields whole) in
         let cells : (k : ℕ) → s .from ≤ k → k < s .from + n → Celled es (s .first) (s .end) k r = λ k low high. rw (whole .first, whole .end) (x .cells k low high) in
         subst (λ (o : Outcome Bytes). Filling o at write out out′ m)
-        (ap (λ (bs : Bytes). within (end - at) (done bs)) bytes
+        (ap (λ (bs : Bytes). in-room (end - at) (done bs)) bytes
         ∙ sym (rows-filled r n (s .from) some cells (end - at) ∙ together-done (run (row-bytes r) (s .from) n) (end - at)))
         f
 

@@ -12,7 +12,7 @@ use Rattle.rules.specs.Record.{Record}
 use Rattle.rules.specs.Use.{Item}
 use Rattle.rules.specs.Services.{item-bytes, filled}
 use Rattle.records.specs.Places.{Held, Holds}
-use Rattle.reading.specs.Filling.{Filling, within, Going}
+use Rattle.reading.specs.Filling.{Filling, in-room, Going}
 use Rattle.reading.specs.Runs.{Fills, together}
 use Rattle.reading.specs.declared.Next.{Next}
 use Rattle.reading.specs.declared.Next.the-variants.{At, Refused}
@@ -75,7 +75,7 @@ module _ {es : List Entry} {b : Bytes} {places : List ℕ} {end : ℕ} {whole re
   run-end e r p = going-end (end - at) (subst (Left r) (ap (filled (parts es) r (end - at)) e ∙ filled-together (parts es) r [] (end - at)) (g .going r p))
 
 -- One item in its room.
-pub filled-one : (ps : List Part) (r : Record) (room : ℕ) (x : Item) → filled ps r room (x ∷ []) ≡ within room (item-bytes ps r x)
+pub filled-one : (ps : List Part) (r : Record) (room : ℕ) (x : Item) → filled ps r room (x ∷ []) ≡ in-room room (item-bytes ps r x)
 filled-one ps r room x = filled-together ps r (x ∷ []) room ∙ together-one room (item-bytes ps r x)
 
 pub run-same : {es : List Entry} {b : Bytes} {places : List ℕ} {end : ℕ} {whole rest : List Item} {start at : ℕ} {write : Bool} {out₀ out : Bytes}

@@ -16,7 +16,7 @@ use Rattle.rules.specs.Record.{Record}
 use Rattle.rules.specs.Format as rules
 use Rattle.rules.specs.Use.{Use as Meaning, Indexes, uses, items}
 use Rattle.rules.specs.Services.{filled}
-use Rattle.formats.specs.Syntax.{parsed, behind, before, Stepped}
+use Rattle.formats.specs.Syntax.{parsed, elements-behind, element-before, Stepped}
 use Rattle.formats.specs.Elements.{element-of}
 use Rattle.formats.specs.declared.Element.{Element}
 use Rattle.formats.specs.declared.syntax.Step.the-variants as step
@@ -25,7 +25,7 @@ use Rattle.records.specs.Places.{Held, Holds}
 use Rattle.uses.specs.Meant.{indexes-kept, Remembers, uses-of}
 use Rattle.uses.proofs.Testing.{no-index, zeros}
 use Rattle.reading.specs.Filling.{Filling, Going}
-use Rattle.reading.specs.Turns.{place-of, answer-of, left-of, Puts, Scans}
+use Rattle.reading.specs.Turns.{filled-upto, answer-of, left-of, Puts, Scans}
 use Rattle.reading.specs.declared.Next.{Next}
 use Rattle.reading.specs.declared.Next.the-variants as next
 use Rattle.reading.specs.declared.Standing.{Standing}
@@ -50,9 +50,9 @@ scan-long es b places f end write out h r p = going-off (going-start (whole es f
 pub record Scanning (es : List Entry) (b : Bytes) (places : List ℕ) (f : Bytes) (end : ℕ) (write : Bool) (out₀ : Bytes) (last : List ℕ) (xs : Outcome (List rules.Element)) (s : Standing) (out : Bytes) : Type 0 where
   pub indexes : Indexes
   pub remembers : Remembers es last indexes
-  pub fits : place-of s ≤ end
+  pub fits : filled-upto s ≤ end
   pub same : length out ≡ length out₀
-  pub going : (r : Record) → Held es b places r → Going (whole es f r end) (left-of es r end indexes xs s) 0 (place-of s) write out₀ out
+  pub going : (r : Record) → Held es b places r → Going (whole es f r end) (left-of es r end indexes xs s) 0 (filled-upto s) write out₀ out
 
 -- An answer that is known by an equation.
 pub scan-as-answer : {es : List Entry} {b : Bytes} {places : List ℕ} (f : Bytes) (end : ℕ) {write : Bool} {out₀ out : Bytes} {n m : Next} → n ≡ m
@@ -78,7 +78,7 @@ module _ {es : List Entry} {b : Bytes} {places : List ℕ} {f : Bytes} {end : �
     scan-bad e r p = going-off (w .going r p) refl 3 (ap (λ o. left-of es r end (w .indexes) o s) e ∙ left-bad es r end (w .indexes) s 3) (λ k. refl)
 
   scan-on : {last last′ : List ℕ} {s s′ : Standing} {out out′ : Bytes} (e : Element) (xs : Outcome (List rules.Element))
-      → Scanning es b places f end write out₀ last (before (element-of f e) xs) s out → Puts es b places f end write e last last′ s out out′ s′ → Scanning es b places f end write out₀ last′ xs s′ out′
+      → Scanning es b places f end write out₀ last (element-before (element-of f e) xs) s out → Puts es b places f end write e last last′ s out out′ s′ → Scanning es b places f end write out₀ last′ xs s′ out′
   scan-on e xs w p = let n = p .going (w .indexes) (w .remembers) in record {
     indexes = n .0;
     remembers = n .1;
@@ -100,8 +100,8 @@ module _ {es : List Entry} {b : Bytes} {places : List ℕ} {f : Bytes} {end : �
   -- The element at a place is put.
   module _ {at : ℕ} {e : Element} {stop : ℕ} (t : Stepped f at (parsed (drop at f)) (step.At e stop)) {last last′ : List ℕ} {s s′ : Standing} {out out′ : Bytes}
       (w : Scanning es b places f end write out₀ last (parsed (drop at f)) s out) (p : Puts es b places f end write e last last′ s out out′ s′) where
-    behind-element : Scanning es b places f end write out₀ last′ (behind f stop) s′ out′
-    behind-element = scan-on e (behind f stop) (scan-as w (before (element-of f e) (behind f stop)) (t .answer)) p
+    behind-element : Scanning es b places f end write out₀ last′ (elements-behind f stop) s′ out′
+    behind-element = scan-on e (elements-behind f stop) (scan-as w (element-before (element-of f e) (elements-behind f stop)) (t .answer)) p
 
     pub scan-last : eqb (getD f stop 0) period ≡ true → Scans es b places f end write out₀ out′ (answer-of s′)
     scan-last q = scan-end s′ (scan-as behind-element (done []) (behind-last f stop q))

@@ -12,19 +12,19 @@ use Rattle.rules.specs.Outcome.{Outcome, done, refused}
 use Rattle.rules.specs.Lists.{Bytes, bytes-of}
 use Rattle.buffer.specs.Splice.{splice}
 use Rattle.buffer.proofs.Laws.{splice-nil, length-splice}
-use Rattle.reading.specs.Filling.{placed, left-as, within, Filling}
+use Rattle.reading.specs.Filling.{placed, left-as, in-room, Filling}
 use Rattle.reading.specs.declared.Next.the-variants.{At, Refused}
 
-within-fits : (room : ℕ) (bs : Bytes) → length bs ≤ room → within room (done bs) ≡ done bs
-unfolding within
+within-fits : (room : ℕ) (bs : Bytes) → length bs ≤ room → in-room room (done bs) ≡ done bs
+unfolding in-room
 within-fits room bs h = rw (le-leb (length bs) room h) refl
 
-within-beyond : (room : ℕ) (bs : Bytes) → room < length bs → within room (done bs) ≡ refused 7
-unfolding within
+within-beyond : (room : ℕ) (bs : Bytes) → room < length bs → in-room room (done bs) ≡ refused 7
+unfolding in-room
 within-beyond room bs h = rw (lt-leb (length bs) room h) refl
 
 module _ (room at : ℕ) (bs out : Bytes) (write : Bool) where
-  pub item-beyond : room < length bs → Filling (within room (done bs)) at write out out (Refused 7)
+  pub item-beyond : room < length bs → Filling (in-room room (done bs)) at write out out (Refused 7)
   unfolding bytes-of
   item-beyond h = rw (within-beyond room bs h) (record { answer = refl; same = refl; bytes = λ k. unchanged write })
     where
@@ -32,15 +32,15 @@ module _ (room at : ℕ) (bs out : Bytes) (write : Bool) where
       unchanged true = sym (splice-nil at out)
       unchanged false = refl
 
-  pub item-tested : (n : ℕ) → write ≡ false → length bs ≤ room → n ≡ at + length bs → Filling (within room (done bs)) at write out out (At n)
+  pub item-tested : (n : ℕ) → write ≡ false → length bs ≤ room → n ≡ at + length bs → Filling (in-room room (done bs)) at write out out (At n)
   item-tested n w h e = rw (within-fits room bs h, e, w) (record { answer = refl; same = refl; bytes = λ k. refl })
 
-  pub item-written : (n : ℕ) {out′ : Bytes} → write ≡ true → length bs ≤ room → at + length bs ≤ length out → n ≡ at + length bs → out′ ≡ splice at bs out → Filling (within room (done bs)) at write out out′ (At n)
+  pub item-written : (n : ℕ) {out′ : Bytes} → write ≡ true → length bs ≤ room → at + length bs ≤ length out → n ≡ at + length bs → out′ ≡ splice at bs out → Filling (in-room room (done bs)) at write out out′ (At n)
   unfolding bytes-of
   item-written n w h l e q = rw (within-fits room bs h, e, w) (record { answer = refl; same = ap length q ∙ length-splice at bs out l; bytes = λ k. q })
 
 -- No bytes: nothing changes.
-pub nothing-put : (room at : ℕ) (out : Bytes) (write : Bool) (bs : Bytes) → bs ≡ [] → Filling (within room (done bs)) at write out out (At at)
+pub nothing-put : (room at : ℕ) (out : Bytes) (write : Bool) (bs : Bytes) → bs ≡ [] → Filling (in-room room (done bs)) at write out out (At at)
 unfolding bytes-of
 nothing-put room at out write bs e = rw (e, within-fits room [] (omega arith)) (record { answer = ap At (sym (add-zero at)); same = refl; bytes = λ k. unchanged write })
   where
@@ -51,8 +51,8 @@ nothing-put room at out write bs e = rw (e, within-fits room [] (omega arith)) (
 -- The same of an outcome: its refusal, or how long its bytes are.
 module _ (o : Outcome Bytes) where
   module _ (room at : ℕ) (out : Bytes) (write : Bool) where
-    pub value-refused : (k : ℕ) → o ≡ refused k → Filling (within room o) at write out out (Refused k)
-    unfolding within bytes-of
+    pub value-refused : (k : ℕ) → o ≡ refused k → Filling (in-room room o) at write out out (Refused k)
+    unfolding in-room bytes-of
     value-refused k e = rw e (record { answer = refl; same = refl; bytes = λ k. unchanged write })
       where
         unchanged : (w : Bool) → out ≡ left-as w at (refused k) out
@@ -60,11 +60,11 @@ module _ (o : Outcome Bytes) where
         unchanged false = refl
 
     module _ (n : ℕ) (e : (o ≡ done (bytes-of o)) × (n ≡ length (bytes-of o))) where
-      pub value-beyond : room < n → Filling (within room o) at write out out (Refused 7)
-      value-beyond h = subst (λ x. Filling (within room x) at write out out (Refused 7)) (sym (e .0)) (item-beyond room at (bytes-of o) out write (omega (arith, e .1)))
+      pub value-beyond : room < n → Filling (in-room room o) at write out out (Refused 7)
+      value-beyond h = subst (λ x. Filling (in-room room x) at write out out (Refused 7)) (sym (e .0)) (item-beyond room at (bytes-of o) out write (omega (arith, e .1)))
 
-      pub value-tested : write ≡ false → n ≤ room → Filling (within room o) at write out out (At (at + n))
-      value-tested w h = subst (λ x. Filling (within room x) at write out out (At (at + n))) (sym (e .0)) (item-tested room at (bytes-of o) out write (at + n) w (omega (arith, e .1)) (omega (arith, e .1)))
+      pub value-tested : write ≡ false → n ≤ room → Filling (in-room room o) at write out out (At (at + n))
+      value-tested w h = subst (λ x. Filling (in-room room x) at write out out (At (at + n))) (sym (e .0)) (item-tested room at (bytes-of o) out write (at + n) w (omega (arith, e .1)) (omega (arith, e .1)))
 
-      pub value-written : {out′ : Bytes} → write ≡ true → n ≤ room → at + n ≤ length out → out′ ≡ splice at (bytes-of o) out → Filling (within room o) at write out out′ (At (at + n))
-      value-written {out′} w h l q = subst (λ x. Filling (within room x) at write out out′ (At (at + n))) (sym (e .0)) (item-written room at (bytes-of o) out write (at + n) w (omega (arith, e .1)) (omega (arith, e .1)) (omega (arith, e .1)) q)
+      pub value-written : {out′ : Bytes} → write ≡ true → n ≤ room → at + n ≤ length out → out′ ≡ splice at (bytes-of o) out → Filling (in-room room o) at write out out′ (At (at + n))
+      value-written {out′} w h l q = subst (λ x. Filling (in-room room x) at write out out′ (At (at + n))) (sym (e .0)) (item-written room at (bytes-of o) out write (at + n) w (omega (arith, e .1)) (omega (arith, e .1)) (omega (arith, e .1)) q)

@@ -9,16 +9,16 @@ use lib.ListN.{length, replicate, length-append}
 use Rattle.rules.specs.Outcome.{Outcome, done, refused}
 use Rattle.rules.specs.Lists.{Bytes, join}
 use Rattle.rules.proofs.Steps.{by-test}
-use Rattle.reading.specs.Filling.{within}
+use Rattle.reading.specs.Filling.{in-room}
 use Rattle.reading.specs.Runs.{together}
 
-pub together-one : (room : ℕ) (o : Outcome Bytes) → together room (o ∷ []) ≡ within room o
-unfolding together within
+pub together-one : (room : ℕ) (o : Outcome Bytes) → together room (o ∷ []) ≡ in-room room o
+unfolding together in-room
 together-one room (done b) = by-test (leb (length b) room) (λ t. rw (t, append-nil)) (λ t. rw t)
 together-one room (refused k) = refl
 
-pub together-done : (us : List Bytes) (room : ℕ) → together room (map done us) ≡ within room (done (join us))
-unfolding together within join
+pub together-done : (us : List Bytes) (room : ℕ) → together room (map done us) ≡ in-room room (done (join us))
+unfolding together in-room join
 together-done [] room = rw (le-leb 0 room (omega arith)) refl
 together-done (u ∷ us) room = by-test (leb (length u) room)
     (λ t. let h = leb-true (length u) room t in by-test (leb (length (join us)) (room - length u))
@@ -36,5 +36,5 @@ copies-done : (n : ℕ) (x : Bytes) → replicate n (done x) ≡ map done (repli
 copies-done zero x = refl
 copies-done (suc n) x = ap (λ (os : List (Outcome Bytes)). done x ∷ os) (copies-done n x)
 
-pub together-copies : (n : ℕ) (x : Bytes) (room : ℕ) → together room (replicate n (done x)) ≡ within room (done (join (replicate n x)))
+pub together-copies : (n : ℕ) (x : Bytes) (room : ℕ) → together room (replicate n (done x)) ≡ in-room room (done (join (replicate n x)))
 together-copies n x room = ap (together room) (copies-done n x) ∙ together-done (replicate n x) room

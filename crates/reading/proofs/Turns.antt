@@ -13,14 +13,14 @@ use Rattle.rules.specs.Format as rules
 use Rattle.rules.specs.Use.{Use as Meaning, Indexes, indexes-after, use-of, uses, Item, items-of, items}
 use Rattle.rules.specs.Services.{filled}
 use Rattle.rules.proofs.Steps.{by-outcome}
-use Rattle.formats.specs.Syntax.{before}
+use Rattle.formats.specs.Syntax.{element-before}
 use Rattle.reading.specs.Filling.{Filling, Going}
-use Rattle.reading.specs.Turns.{place-of, left-of}
+use Rattle.reading.specs.Turns.{filled-upto, left-of}
 use Rattle.reading.specs.declared.Next.{Next}
 use Rattle.reading.specs.declared.Next.the-variants as next
 use Rattle.reading.specs.declared.Standing.{Standing}
 use Rattle.reading.specs.declared.Standing.the-variants.{At, NoItem, NoUse}
-use Rattle.reading.proofs.Going.{before as put-before, going-start, going-on, going-both-off, items-on, put-off, put-unwritten, filled-on, filled-off, room-left}
+use Rattle.reading.proofs.Going.{put-before, going-start, going-on, going-both-off, items-on, put-off, put-unwritten, filled-on, filled-off, room-left}
 
 pub no-items : items [] ≡ []
 unfolding items join
@@ -54,11 +54,11 @@ module _ (es : List Entry) (ls : Indexes) (x : rules.Element) where
   first-refused xs n e = rw (← e) refl
 
   before-done : (o : Outcome (List rules.Element)) (u : Meaning) → done u ≡ use-of es ls x
-      → (before x o >>= uses es ls) ≡ (o >>= uses es (indexes-after u ls) >>= λ us. done (u ∷ us))
+      → (element-before x o >>= uses es ls) ≡ (o >>= uses es (indexes-after u ls) >>= λ us. done (u ∷ us))
   before-done (done xs) u e = first-done xs u e
   before-done (refused k) u e = refl
 
-  before-refused : (o : Outcome (List rules.Element)) (n : ℕ) → refused n ≡ use-of es ls x → (before x o >>= uses es ls) ≡ refused (unless o n)
+  before-refused : (o : Outcome (List rules.Element)) (n : ℕ) → refused n ≡ use-of es ls x → (element-before x o >>= uses es ls) ≡ refused (unless o n)
   before-refused (done xs) n e = first-refused xs n e
   before-refused (refused k) n e = refl
 
@@ -97,19 +97,19 @@ module _ (es : List Entry) (r : Record) (end : ℕ) (ls : Indexes) where
   -- The element x comes first, and the elements xs behind it.
   module _ (x : rules.Element) (xs : Outcome (List rules.Element)) where
     -- One that is not looked at, since one before it is refused.
-    pub passed : (n : ℕ) {write : Bool} {out : Bytes} → Going (left-of es r end ls (before x xs) (NoUse n)) (left-of es r end ls xs (NoUse n)) 0 0 write out out
-    passed n = going-both-off (unless xs n) (left-unused (before x xs) n ∙ ap refused (unless-then xs (λ ys. x ∷ ys) n)) (left-unused xs n) refl (λ e. refl)
+    pub passed : (n : ℕ) {write : Bool} {out : Bytes} → Going (left-of es r end ls (element-before x xs) (NoUse n)) (left-of es r end ls xs (NoUse n)) 0 0 write out out
+    passed n = going-both-off (unless xs n) (left-unused (element-before x xs) n ∙ ap refused (unless-then xs (λ ys. x ∷ ys) n)) (left-unused xs n) refl (λ e. refl)
 
     -- One that is refused.
     module _ (n : ℕ) (h : refused n ≡ use-of es ls x) where
-      before-off : (s : Standing) → ((k : ℕ) → s ≡ NoUse k → ⊥) → left-of es r end ls (before x xs) s ≡ refused (unless xs n)
+      before-off : (s : Standing) → ((k : ℕ) → s ≡ NoUse k → ⊥) → left-of es r end ls (element-before x xs) s ≡ refused (unless xs n)
       unfolding left-of
       before-off (At p) k = ap (λ o. o >>= λ us. filled (parts es) r (end - p) (items us)) (before-refused es ls x xs n h)
       before-off (NoItem m) k = ap (λ (o : Outcome (List Meaning)). o >>= λ us. refused m) (before-refused es ls x xs n h)
       before-off (NoUse m) k = absurd (k m refl)
 
       pub refused-use : (s : Standing) → ((k : ℕ) → s ≡ NoUse k → ⊥) → (ls′ : Indexes) {write : Bool} {out : Bytes}
-          → Going (left-of es r end ls (before x xs) s) (left-of es r end ls′ xs (NoUse n)) (place-of s) 0 write out out
+          → Going (left-of es r end ls (element-before x xs) s) (left-of es r end ls′ xs (NoUse n)) (filled-upto s) 0 write out out
       unfolding left-of
       refused-use s k ls′ = going-both-off (unless xs n) (before-off s k) (refused-then xs n) refl (λ e. refl)
 
@@ -119,25 +119,25 @@ module _ (es : List Entry) (r : Record) (end : ℕ) (ls : Indexes) where
       more = xs >>= uses es (indexes-after u ls)
 
       -- Behind an item that is refused.
-      pub used-behind : (n : ℕ) {write : Bool} {out : Bytes} → Going (left-of es r end ls (before x xs) (NoItem n)) (left-of es r end (indexes-after u ls) xs (NoItem n)) 0 0 write out out
+      pub used-behind : (n : ℕ) {write : Bool} {out : Bytes} → Going (left-of es r end ls (element-before x xs) (NoItem n)) (left-of es r end (indexes-after u ls) xs (NoItem n)) 0 0 write out out
       unfolding left-of
       used-behind n =
           going-both-off (unless more n)
-          (refused-then (before x xs >>= uses es ls) n ∙ ap (λ o. refused (unless o n)) (before-done es ls x xs u h) ∙ ap refused (unless-then more (λ us. u ∷ us) n))
+          (refused-then (element-before x xs >>= uses es ls) n ∙ ap (λ o. refused (unless o n)) (before-done es ls x xs u h) ∙ ap refused (unless-then more (λ us. u ∷ us) n))
           (refused-then more n) refl (λ e. refl)
 
-      before-used : (p : ℕ) → left-of es r end ls (before x xs) (At p) ≡ (more >>= (λ us. done (u ∷ us)) >>= λ us. filled (parts es) r (end - p) (items us))
+      before-used : (p : ℕ) → left-of es r end ls (element-before x xs) (At p) ≡ (more >>= (λ us. done (u ∷ us)) >>= λ us. filled (parts es) r (end - p) (items us))
       unfolding left-of
       before-used p = ap (λ o. o >>= λ us. filled (parts es) r (end - p) (items us)) (before-done es ls x xs u h)
 
       module _ {p : ℕ} {write : Bool} {out out′ : Bytes} {m : Next} (g : Filling (filled (parts es) r (end - p) (items-of u)) p write out out′ m) (fits : p ≤ end) (room : end ≤ length out) where
-        pub used-at : (p′ : ℕ) → m ≡ next.At p′ → Going (left-of es r end ls (before x xs) (At p)) (left-of es r end (indexes-after u ls) xs (At p′)) p p′ write out out′
+        pub used-at : (p′ : ℕ) → m ≡ next.At p′ → Going (left-of es r end ls (element-before x xs) (At p)) (left-of es r end (indexes-after u ls) xs (At p′)) p p′ write out out′
         unfolding left-of
         used-at p′ q = items-on (parts es) r end (items-of u) g fits p′ q λ a k n l c.
             let o = before-used p ∙ used-on (parts es) r (end - p) u more a k ∙ ap (λ w. put-before a (more >>= λ us. filled (parts es) r w (items us))) (room-left end p p′ (length a) n l) in
-            going-on (going-start (left-of es r end ls (before x xs) (At p)) p write out) (g .same) a (left-of es r end (indexes-after u ls) xs (At p′)) p′ o n (omega arith) c
+            going-on (going-start (left-of es r end ls (element-before x xs) (At p)) p write out) (g .same) a (left-of es r end (indexes-after u ls) xs (At p′)) p′ o n (omega arith) c
 
-        pub used-refused : (k : ℕ) → m ≡ next.Refused k → Going (left-of es r end ls (before x xs) (At p)) (left-of es r end (indexes-after u ls) xs (NoItem k)) p 0 write out out′
+        pub used-refused : (k : ℕ) → m ≡ next.Refused k → Going (left-of es r end ls (element-before x xs) (At p)) (left-of es r end (indexes-after u ls) xs (NoItem k)) p 0 write out out′
         unfolding left-of
         used-refused k q =
             going-both-off (unless more k) (before-used p ∙ used-off (parts es) r (end - p) u more k (put-off g k q)) (refused-then more k) (g .same) (put-unwritten g)

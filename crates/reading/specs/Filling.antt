@@ -21,8 +21,8 @@ left-as true at o out = splice at (bytes-of o) out
 left-as false at o out = out
 
 -- An item in so much room: "an item ends beyond the record buffer" is 7.
-unfoldable pub within : ℕ → Outcome Bytes → Outcome Bytes
-within room o = do
+unfoldable pub in-room : ℕ → Outcome Bytes → Outcome Bytes
+in-room room o = do
   b ← o
   _ ← need (leb (length b) room) 7
   done b

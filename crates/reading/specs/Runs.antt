@@ -87,8 +87,8 @@ pub record Exist (w : Wanted) (b : Bytes) (vs : List Bytes) (r : Run) : Type 0 w
   pub stand : Stand w b (r .at) (r .count) (existing w vs)
 
 -- The first n of some numbers are those of entries that are fields.
-abbrev pub Numbered : List Entry → List ℕ → ℕ → Type 0
-Numbered es ns n = (k : ℕ) → k < n → (getD ns k 0 < length es) × (is-group (getD es (getD ns k 0) blank .what) ≡ false)
+abbrev pub Fields-numbered : List Entry → List ℕ → ℕ → Type 0
+Fields-numbered es ns n = (k : ℕ) → k < n → (getD ns k 0 < length es) × (is-group (getD es (getD ns k 0) blank .what) ≡ false)
 
 -- Null for each of some fields, at its own format and length.
 abbrev pub nulls-of : List Field → List (Outcome Bytes)

@@ -12,7 +12,7 @@ use Rattle.rules.specs.Format as rules
 use Rattle.rules.specs.Use.{Indexes, uses, items}
 use Rattle.rules.specs.Services.{filled}
 use Rattle.formats.specs.Elements.{element-of}
-use Rattle.formats.specs.Syntax.{before}
+use Rattle.formats.specs.Syntax.{element-before}
 use Rattle.formats.specs.declared.Element.{Element}
 use Rattle.uses.specs.Meant.{Remembers, uses-of}
 use Rattle.records.specs.Places.{Held}
@@ -23,10 +23,10 @@ use Rattle.reading.specs.declared.Standing.{Standing}
 use Rattle.reading.specs.declared.Standing.the-variants.{At, NoItem, NoUse}
 
 -- Where a scan stands in the buffer; behind a refusal that does not matter.
-abbrev pub place-of : Standing → ℕ
-place-of (At p) = p
-place-of (NoItem n) = 0
-place-of (NoUse n) = 0
+abbrev pub filled-upto : Standing → ℕ
+filled-upto (At p) = p
+filled-upto (NoItem n) = 0
+filled-upto (NoUse n) = 0
 
 -- What a scan answers where it stands.
 abbrev pub answer-of : Standing → Next
@@ -35,10 +35,10 @@ answer-of (NoItem n) = next.Refused n
 answer-of (NoUse n) = next.Refused n
 
 -- Whether an element is refused; and where a scan stands behind items that end at a place or are refused.
-abbrev pub unused : Standing → Bool
-unused (At p) = false
-unused (NoItem n) = false
-unused (NoUse n) = true
+abbrev pub use-refused : Standing → Bool
+use-refused (At p) = false
+use-refused (NoItem n) = false
+use-refused (NoUse n) = true
 
 abbrev pub standing-of : Next → Standing
 standing-of (next.At p) = At p
@@ -54,12 +54,12 @@ left-of es r end ls xs (NoUse n) = xs >>= λ ys. refused n
 -- An element was put: whatever follows it is left from where the scan stands then.
 pub record Puts (es : List Entry) (b : Bytes) (places : List ℕ) (f : Bytes) (end : ℕ) (write : Bool) (e : Element) (last last′ : List ℕ)
     (s : Standing) (entry exit : Bytes) (s′ : Standing) : Type 0 where
-  pub fits : place-of s′ ≤ end
+  pub fits : filled-upto s′ ≤ end
   pub same : length last′ ≡ length last
   pub kept : length exit ≡ length entry
   pub going : (ls : Indexes) → Remembers es last ls → (ls′ : Indexes) × Remembers es last′ ls′
       × ((r : Record) → Held es b places r → (xs : Outcome (List rules.Element))
-      → Going (left-of es r end ls (before (element-of f e) xs) s) (left-of es r end ls′ xs s′) (place-of s) (place-of s′) write entry exit)
+      → Going (left-of es r end ls (element-before (element-of f e) xs) s) (left-of es r end ls′ xs s′) (filled-upto s) (filled-upto s′) write entry exit)
 
 -- The items of a format end and write as they are to, or the first refusal is the format's.
 abbrev pub Scans : List Entry → Bytes → List ℕ → Bytes → ℕ → Bool → Bytes → Bytes → Next → Type 0

@@ -13,8 +13,8 @@ ghost use Rattle.rules.specs.Lists.{Bytes, all, join};
 ghost use Rattle.rules.specs.Use.{plain, items-of};
 ghost use Rattle.rules.specs.Record.{Record};
 ghost use Rattle.kinds.specs.Formats.{format-at};
-ghost use Rattle.values.specs.Formats.{ranged};
-ghost use Rattle.values.specs.Fits.{Asked};
+ghost use Rattle.values.specs.Formats.{range-kind};
+ghost use Rattle.values.specs.Fits.{Carriable};
 ghost use Rattle.tables.specs.Entries.{Valid, entries-of};
 ghost use Rattle.tables.specs.Places.{inside-at};
 ghost use Rattle.tables.specs.Groups.{field-at};
@@ -23,10 +23,10 @@ ghost use Rattle.uses.specs.Meant.{Span-held, Use-held, fields-from, use-meant,
 ghost use Rattle.records.specs.Where.{fields-of};
 ghost use Rattle.records.specs.Paths.{Wide, Leads};
 ghost use Rattle.records.specs.Places.{Held, Holds, Piece-of};
-ghost use Rattle.reading.specs.Filling.{Filling, within};
-ghost use Rattle.reading.specs.Runs.{Fills, together, Wants, carried-to, wanted, Stand, Exist, wanted-at, Cell-holds, Numbered, nulls-of, Way, row-items, span-items};
+ghost use Rattle.reading.specs.Filling.{Filling, in-room};
+ghost use Rattle.reading.specs.Runs.{Fills, together, Wants, carried-to, wanted, Stand, Exist, wanted-at, Cell-holds, Fields-numbered, nulls-of, Way, row-items, span-items};
 ghost use Rattle.reading.specs.Rows.{rows-items, Adjoin};
-ghost use Rattle.reading.specs.Turns.{place-of, answer-of, standing-of, unused, Puts, Scans};
+ghost use Rattle.reading.specs.Turns.{filled-upto, answer-of, standing-of, use-refused, Puts, Scans};
 ghost use Rattle.records.specs.declared.places.Cell.the-variants.{At};
 use formats::Element;
 use formats::syntax::Step;
@@ -74,7 +74,7 @@ struct Run {
 // A run of n blanks.
 fn put_blanks(n: usize, out: &mut [u8], at: usize, end: usize, write: bool) -> Next
     requires { ⌜ (at ≤ end) × (end ≤ length (now out)) ⌝ }
-    ensures { λ r. ⌜ Filling (within (end - at) (done (replicate n space))) at write (now (out .entry)) (now (out .exit)) r ⌝ }
+    ensures { λ r. ⌜ Filling (in-room (end - at) (done (replicate n space))) at write (now (out .entry)) (now (out .exit)) r ⌝ }
 {
     if end - at < n {
         return Next::Refused(7);
@@ -89,7 +89,7 @@ fn put_blanks(n: usize, out: &mut [u8], at: usize, end: usize, write: bool) -> N
 // A text.
 fn put_text(text: &[u8], out: &mut [u8], at: usize, end: usize, write: bool) -> Next
     requires { ⌜ (at ≤ end) × (end ≤ length (now out)) ⌝ }
-    ensures { λ r. ⌜ Filling (within (end - at) (done (now (text .entry)))) at write (now (out .entry)) (now (out .exit)) r ⌝ }
+    ensures { λ r. ⌜ Filling (in-room (end - at) (done (now (text .entry)))) at write (now (out .entry)) (now (out .exit)) r ⌝ }
 {
     if end - at < text.len() {
         return Next::Refused(7);
@@ -103,7 +103,7 @@ fn put_text(text: &[u8], out: &mut [u8], at: usize, end: usize, write: bool) -> 
 // A count, which is one byte.
 fn put_count(count: u8, out: &mut [u8], at: usize, end: usize, write: bool) -> Next
     requires { ⌜ (at ≤ end) × (end ≤ length (now out)) ⌝ }
-    ensures { λ r. ⌜ Filling (within (end - at) (done (count ∷ []))) at write (now (out .entry)) (now (out .exit)) r ⌝ }
+    ensures { λ r. ⌜ Filling (in-room (end - at) (done (count ∷ []))) at write (now (out .entry)) (now (out .exit)) r ⌝ }
 {
     if end == at {
         return Next::Refused(7);
@@ -118,7 +118,7 @@ fn put_count(count: u8, out: &mut [u8], at: usize, end: usize, write: bool) -> N
 // A value of format A, at a length: its text is found once.
 fn put_alpha(s: &[u8], size: usize, out: &mut [u8], at: usize, end: usize, write: bool) -> Next
     requires { ⌜ (length (now s) ≤ 253) × (at ≤ end) × (end ≤ length (now out)) ⌝ }
-    ensures { λ r. ⌜ Filling (within (end - at) (carried alpha alpha size (now (s .entry)))) at write (now (out .entry)) (now (out .exit)) r ⌝ }
+    ensures { λ r. ⌜ Filling (in-room (end - at) (carried alpha alpha size (now (s .entry)))) at write (now (out .entry)) (now (out .exit)) r ⌝ }
 {
     let len = values::texts::text_length(s);
     if !values::texts::length_fits(len, size) {
@@ -146,8 +146,8 @@ fn put_every(
     end: usize,
     write: bool,
 ) -> Next
-    requires { ⌜ Asked own format size (now s) × (conversion (format-at own) (format-at format) ≡ every) × (at ≤ end) × (end ≤ length (now out)) ⌝ }
-    ensures { λ r. ⌜ Filling (within (end - at) (carried (format-at own) (format-at format) size (now (s .entry)))) at write (now (out .entry)) (now (out .exit)) r ⌝ }
+    requires { ⌜ Carriable own format size (now s) × (conversion (format-at own) (format-at format) ≡ every) × (at ≤ end) × (end ≤ length (now out)) ⌝ }
+    ensures { λ r. ⌜ Filling (in-room (end - at) (carried (format-at own) (format-at format) size (now (s .entry)))) at write (now (out .entry)) (now (out .exit)) r ⌝ }
 {
     if !values::carrying::every_fits(s, own, format, size) {
         return Next::Refused(9);
@@ -175,8 +175,8 @@ fn put_word(
     end: usize,
     write: bool,
 ) -> Next
-    requires { ⌜ Asked own format size (now s) × (conversion (format-at own) (format-at format) ≡ ranged natural) × (at ≤ end) × (end ≤ length (now out)) ⌝ }
-    ensures { λ r. ⌜ Filling (within (end - at) (carried (format-at own) (format-at format) size (now (s .entry)))) at write (now (out .entry)) (now (out .exit)) r ⌝ }
+    requires { ⌜ Carriable own format size (now s) × (conversion (format-at own) (format-at format) ≡ range-kind natural) × (at ≤ end) × (end ≤ length (now out)) ⌝ }
+    ensures { λ r. ⌜ Filling (in-room (end - at) (carried (format-at own) (format-at format) size (now (s .entry)))) at write (now (out .entry)) (now (out .exit)) r ⌝ }
 {
     let word = values::numbers::to_word(s, own);
     match word {
@@ -209,7 +209,7 @@ fn put_value(
     write: bool,
 ) -> Next
     requires { ⌜ (own < 5) × (format < 5) × (allowed (format-at own) (length (now s)) ≡ true) × (allowed (format-at format) size ≡ true) × (is-done (meaning (format-at own) (now s)) ≡ true) × (converts (format-at own) (format-at format) ≡ true) × (at ≤ end) × (end ≤ length (now out)) ⌝ }
-    ensures { λ r. ⌜ Filling (within (end - at) (carried (format-at own) (format-at format) size (now (s .entry)))) at write (now (out .entry)) (now (out .exit)) r ⌝ }
+    ensures { λ r. ⌜ Filling (in-room (end - at) (carried (format-at own) (format-at format) size (now (s .entry)))) at write (now (out .entry)) (now (out .exit)) r ⌝ }
 {
     if own == kinds::ALPHA {
         return put_alpha(s, size, out, at, end, write);
@@ -242,7 +242,7 @@ fn put_nulls(
     write: bool,
 ) -> Next
     requires { ⌜ (n ≤ highest-index) × (format < 5) × (allowed (format-at format) size ≡ true) × (at ≤ end) × (end ≤ length (now out)) ⌝ }
-    ensures { λ r. ⌜ Filling (within (end - at) (done (join (replicate n (null (format-at format) size))))) at write (now (out .entry)) (now (out .exit)) r ⌝ }
+    ensures { λ r. ⌜ Filling (in-room (end - at) (done (join (replicate n (null (format-at format) size))))) at write (now (out .entry)) (now (out .exit)) r ⌝ }
 {
     if n == 0 {
         return Next::At(at);
@@ -450,7 +450,7 @@ fn put_null_fields(
     end: usize,
     write: bool,
 ) -> Next
-    requires { ⌜ Valid (now t) × (length (now fields) ≡ 64) × (n ≤ 64) × Numbered (entries-of (now t)) (now fields) n × (at ≤ end) × (end ≤ length (now out)) ⌝ }
+    requires { ⌜ Valid (now t) × (length (now fields) ≡ 64) × (n ≤ 64) × Fields-numbered (entries-of (now t)) (now fields) n × (at ≤ end) × (end ≤ length (now out)) ⌝ }
     ensures { λ r. ⌜ Filling (together (end - at) (nulls-of (map (field-at (entries-of (now (t .entry)))) (take n (now (fields .entry)))))) at write (now (out .entry)) (now (out .exit)) r ⌝ }
 {
     let mut p = at;
@@ -691,7 +691,7 @@ fn put_use(
 
 // Whether an element is refused.
 fn is_unused(state: Standing) -> bool
-    ensures { λ r. ⌜ r ≡ unused state ⌝ }
+    ensures { λ r. ⌜ r ≡ use-refused state ⌝ }
 {
     match state {
         Standing::At(_) => false,
@@ -734,7 +734,7 @@ fn put_element(
     end: usize,
     write: bool,
 ) -> Standing
-    requires { ⌜ Valid (now t) × sound (now f) e × (length (now last) ≡ indexes-kept) × Holds (entries-of (now t)) (now b) (now places) × (place-of state ≤ end) × (end ≤ length (now out)) ⌝ }
+    requires { ⌜ Valid (now t) × sound (now f) e × (length (now last) ≡ indexes-kept) × Holds (entries-of (now t)) (now b) (now places) × (filled-upto state ≤ end) × (end ≤ length (now out)) ⌝ }
     ensures { λ r. ⌜ Puts (entries-of (now (t .entry))) (now (b .entry)) (now (places .entry)) (now (f .entry)) end write e (now (last .entry)) (now (last .exit)) state (now (out .entry)) (now (out .exit)) r ⌝ }
 {
     if is_unused(state) {

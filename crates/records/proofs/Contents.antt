@@ -12,7 +12,7 @@ use Rattle.rules.specs.Lists.{Bytes}
 use Rattle.rules.specs.Values.{Format, alpha, binary, fixed, packed, unpacked, allowed, first-value}
 use Rattle.rules.specs.Record.{stored-value}
 use Rattle.rules.proofs.Steps.{from-done, not-done}
-use Rattle.values.specs.Places.{Found}
+use Rattle.values.specs.Places.{Located}
 use Rattle.values.specs.declared.First.{First}
 use Rattle.values.specs.declared.First.the-variants.{Value, Refused}
 use Rattle.records.specs.Places.{Content-of}
@@ -33,7 +33,7 @@ content-allowed : (f : Format) (n m : ℕ) → allowed f n ≡ true → ((n ≡ 
 content-allowed f n m h (inl z) = zero-allowed f m (subst (λ k. allowed f k ≡ true) (z .0) h) (z .1)
 content-allowed f n m h (inr z) = subst (λ k. allowed f k ≡ true) z h
 
-module _ (b : Bytes) (at size : ℕ) {first : First} (w : Found b at (first-value size (drop at b)) first) (f : Format) (v rest : Bytes)
+module _ (b : Bytes) (at size : ℕ) {first : First} (w : Located b at (first-value size (drop at b)) first) (f : Format) (v rest : Bytes)
     (h : allowed f size ≡ true) (p : stored-value f size (drop at b) ≡ done (v, rest)) where
   pub content-found : {from upto : ℕ} → first ≡ Value from upto → Content-of f size b v from upto
   content-found {from} {upto} q =

@@ -151,27 +151,27 @@ pub record Writing (es : List Entry) (start : ℕ) (out₀ out : Bytes) (inside 
   pub rest : splice at (empty-from inside (drop i es)) out ≡ splice start (empty-from false es) out₀
 
 module _ {es : List Entry} {start : ℕ} {out₀ out : Bytes} {inside : Bool} {i at : ℕ} (w : Writing es start out₀ out inside i at) where
-  module _ (less : i < length es) (within : Bool) (is : within ≡ is-inside inside (getD es i blank)) where
+  module _ (less : i < length es) (walk-place : Bool) (is : walk-place ≡ is-inside inside (getD es i blank)) where
     added : Bytes
-    added = empty-entry within (getD es i blank .what)
+    added = empty-entry walk-place (getD es i blank .what)
 
-    first : empty-from inside (drop i es) ≡ added ++ empty-from within (drop (i + 1) es)
+    first : empty-from inside (drop i es) ≡ added ++ empty-from walk-place (drop (i + 1) es)
     unfolding added
     first = rw is (empty-turn inside es i blank less)
 
-    pub writing-room : at + length (empty-entry within (getD es i blank .what)) ≤ length out
+    pub writing-room : at + length (empty-entry walk-place (getD es i blank .what)) ≤ length out
     unfolding added
     writing-room = omega (arith, w .room, rw length-append at (ap length first))
 
-    pub writing-turn : (at′ : ℕ) (out′ : Bytes) → at′ ≡ at + length (empty-entry within (getD es i blank .what))
-        → out′ ≡ splice at (empty-entry within (getD es i blank .what)) out → Writing es start out₀ out′ within (i + 1) at′
+    pub writing-turn : (at′ : ℕ) (out′ : Bytes) → at′ ≡ at + length (empty-entry walk-place (getD es i blank .what))
+        → out′ ≡ splice at (empty-entry walk-place (getD es i blank .what)) out → Writing es start out₀ out′ walk-place (i + 1) at′
     unfolding added
     writing-turn at′ out′ e q =
         let l : length out′ ≡ length out = ap length q ∙ length-splice at added out writing-room in
         record {
           same = l ∙ w .same;
           room = omega (arith, w .room, rw length-append at (ap length first));
-          rest = splice-rest at added (empty-from within (drop (i + 1) es)) out out′ (splice start (empty-from false es) out₀) at′ (rw (← first) (w .rest)) q e writing-room;
+          rest = splice-rest at added (empty-from walk-place (drop (i + 1) es)) out out′ (splice start (empty-from false es) out₀) at′ (rw (← first) (w .rest)) q e writing-room;
         }
 
   pub writing-end : length es ≤ i → out ≡ splice start (empty-from false es) out₀

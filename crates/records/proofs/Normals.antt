@@ -19,7 +19,7 @@ use Rattle.rules.proofs.Steps.{from-need, not-done, and-right, T-true}
 use Rattle.rules.proofs.Readers.{cut-sound}
 use Rattle.buffer.proofs.Cases.{by-order}
 use Rattle.values.specs.Normals.{Any-normal}
-use Rattle.values.specs.Places.{found, Found}
+use Rattle.values.specs.Places.{found, Located}
 use Rattle.values.specs.declared.First.{First}
 use Rattle.values.specs.declared.First.the-variants.{Value, Refused}
 use Rattle.values.proofs.Cuts.{cut-enough, cut-short, first-own}
@@ -27,11 +27,11 @@ use Rattle.records.specs.Walk.{rest-of}
 use Rattle.records.proofs.Walks.{times-turn, times-stop}
 
 -- Where a first value was found, or that it was refused.
-pub first-at : {s : Bytes} {at : ℕ} {o : Outcome (Bytes × Bytes)} {r : First} {from next : ℕ} → Found s at o r → r ≡ Value from next
+pub first-at : {s : Bytes} {at : ℕ} {o : Outcome (Bytes × Bytes)} {r : First} {from next : ℕ} → Located s at o r → r ≡ Value from next
     → (o ≡ done (take (next - from) (drop from s), drop next s)) × (from ≤ next) × (next ≤ length s)
 first-at {s} {at} {o} {r} {from} {next} w q = (sym (w .answer) ∙ ap (found s) q, (rw q at (w .place)) .1, (rw q at (w .place)) .2)
 
-pub first-none : {s : Bytes} {at : ℕ} {o : Outcome (Bytes × Bytes)} {r : First} {k : ℕ} → Found s at o r → r ≡ Refused k → o ≡ refused k
+pub first-none : {s : Bytes} {at : ℕ} {o : Outcome (Bytes × Bytes)} {r : First} {k : ℕ} → Located s at o r → r ≡ Refused k → o ≡ refused k
 first-none {s} {at} {o} {r} {k} w q = sym (w .answer) ∙ ap (found s) q
 
 module _ (f : Format) (n : ℕ) (bs : Bytes) where

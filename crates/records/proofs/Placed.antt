@@ -24,7 +24,7 @@ use Rattle.tables.proofs.Nesting.{run-levels}
 use Rattle.records.specs.Walk.{rest-of, Walked, Ends, directory, occurrence, Checked}
 use Rattle.records.specs.Where.{inside-from, First, Deeper, fields-of}
 use Rattle.records.specs.Places.{Held, Holds, Entered, Cell-of}
-use Rattle.records.specs.declared.Step.the-variants as S
+use Rattle.records.specs.declared.Reach.the-variants as S
 use Rattle.records.specs.declared.places.Cell.{Cell}
 use Rattle.records.specs.declared.places.Cell.the-variants.{At, Nothing}
 use Rattle.records.proofs.Cells.{cell-many, byte-there, times-at}

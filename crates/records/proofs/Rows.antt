@@ -19,7 +19,7 @@ use Rattle.records.specs.Walk.{rest-of, Walked, occurrence}
 use Rattle.records.specs.Where.{fields-of}
 use Rattle.records.specs.Paths.{lengths}
 use Rattle.records.specs.Places.{Held, values-of, Rows-of}
-use Rattle.records.specs.declared.Step.the-variants as S
+use Rattle.records.specs.declared.Reach.the-variants as S
 use Rattle.records.proofs.Walks.{times-more, walked-as}
 use Rattle.records.proofs.Ends.{group-within}
 use Rattle.records.proofs.Occurrences.{between-over}

@@ -18,7 +18,7 @@ use Rattle.rules.specs.Record.{Reader, times, each, counted, stored-value, stor
 use Rattle.rules.proofs.Steps.{done-inj, not-done, by-test, by-outcome}
 use Rattle.records.specs.Walk.{rest-of, Walked, Ends, has-count}
 use Rattle.records.specs.Paths.{lengths}
-use Rattle.records.specs.declared.Step.the-variants.{At}
+use Rattle.records.specs.declared.Reach.the-variants.{At}
 use Rattle.records.proofs.Entries.{never}
 use Rattle.records.proofs.Walks.{walked-as, times-turn, times-stop, each-turn, each-stop, not-counted}
 use Rattle.records.proofs.Ends.{count-some, count-there, count-none}

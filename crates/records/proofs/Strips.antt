@@ -22,7 +22,7 @@ use Rattle.records.specs.Walk.{rest-of, Walked, occurrence}
 use Rattle.records.specs.Where.{field-of, fields-of}
 use Rattle.records.specs.Paths.{lengths}
 use Rattle.records.specs.Places.{Held, values-of, Celled, Valueless, Piece-of}
-use Rattle.records.specs.declared.Step.the-variants as S
+use Rattle.records.specs.declared.Reach.the-variants as S
 use Rattle.records.specs.declared.places.Content.the-variants.{At}
 use Rattle.records.proofs.Entries.{never}
 use Rattle.records.proofs.Walks.{walked-as}

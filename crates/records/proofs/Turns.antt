@@ -15,8 +15,8 @@ use Rattle.rules.proofs.Steps.{not-done, by-outcome}
 use Rattle.buffer.proofs.Cases.{by-order}
 use Rattle.records.specs.Walk.{rest-of, Walked, Ends, directory, Kept}
 use Rattle.records.specs.Where.{field-of, fields-of}
-use Rattle.records.specs.declared.Step.{Step}
-use Rattle.records.specs.declared.Step.the-variants.{At, Bad}
+use Rattle.records.specs.declared.Reach.{Reach}
+use Rattle.records.specs.declared.Reach.the-variants.{At, Bad}
 use Rattle.records.proofs.Walks.{walked-at, walked-bad, times-stop, times-more, turn-at, turn-bad, turns-over}
 use Rattle.records.proofs.Checking.{each-on, each-off}
 use Rattle.records.proofs.Occurrences.{between-over}
@@ -31,7 +31,7 @@ pub repeating : {X : Type 0} (one : Reader X) (b : Bytes) (n p : ℕ) → p ≤ 
 repeating one b n p h = record { upto = omega arith; place = h; rest = rw (sub-zero n) refl }
 
 module _ {X : Type 0} {one : Reader X} {b : Bytes} {whole : Outcome Bytes} {n i p : ℕ} (l : Repeating one b whole n i p) where
-  module _ (less : i < n) {r : Step} (w : Walked b (rest-of (one (drop p b))) r) where
+  module _ (less : i < n) {r : Reach} (w : Walked b (rest-of (one (drop p b))) r) where
     pub repeat-on : {e : ℕ} → r ≡ At e → Repeating one b whole n (i + 1) e
     repeat-on {e} q = let h = walked-at w q in record { upto = omega arith; place = h .1; rest = turn-at one b n i p less (l .rest) e (h .0) }
 
@@ -57,7 +57,7 @@ unfolding times
 keeping one b at kept places = record { here = refl; far = record { long = refl; others = λ j l. refl; rows = λ k l. absurd (not-suc-le-zero l) } }
 
 pub keep-on : {X : Type 0} {one : Reader X} {b : Bytes} {at kept : ℕ} {before after : List ℕ} {i p : ℕ} → Keeping one b at kept before after i p → length before ≡ directory → p ≤ length b
-    → {r : Step} → Walked b (rest-of (one (drop p b))) r → {e : ℕ} → r ≡ At e → Keeping one b at kept before (set after (kept + i) p) (i + 1) e
+    → {r : Reach} → Walked b (rest-of (one (drop p b))) r → {e : ℕ} → r ≡ At e → Keeping one b at kept before (set after (kept + i) p) (i + 1) e
 keep-on {X} {one} {b} {at} {kept} {before} {after} {i} {p} l room h w {e} q = record {
   here = rw add-one (times-more one i (drop at b) (l .here) (walked-at w q .0));
   far = record {
@@ -88,7 +88,7 @@ pub among : (es : List Entry) (b : Bytes) (j i p : ℕ) → i ≤ j → p ≤ le
 among es b j i p h k = record { upto = h; place = k; rest = refl }
 
 module _ {es : List Entry} {b : Bytes} {whole : Outcome Bytes} {j i p : ℕ} (l : Among es b whole j i p) where
-  module _ (d : Entry) (less : i < j) (most : j ≤ length es) {r : Step} (w : Walked b (rest-of (each stored-cell (field-of (getD es i d .name) (getD es i d .what)) (drop p b))) r) where
+  module _ (d : Entry) (less : i < j) (most : j ≤ length es) {r : Reach} (w : Walked b (rest-of (each stored-cell (field-of (getD es i d .name) (getD es i d .what)) (drop p b))) r) where
     pub among-on : {e : ℕ} → r ≡ At e → Among es b whole j (i + 1) e
     unfolding fields-of
     among-on {e} q =

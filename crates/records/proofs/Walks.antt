@@ -13,22 +13,22 @@ use Rattle.rules.specs.Limits.{highest-index}
 use Rattle.rules.specs.Lists.{Bytes}
 use Rattle.rules.specs.Record.{Reader, times, each, counted}
 use Rattle.rules.proofs.Steps.{done-inj, not-done, by-outcome}
-use Rattle.records.specs.Walk.{rest-of, seen, within, Walked}
-use Rattle.records.specs.declared.Step.{Step}
-use Rattle.records.specs.declared.Step.the-variants.{At, Bad}
+use Rattle.records.specs.Walk.{rest-of, seen, walk-place, Walked}
+use Rattle.records.specs.declared.Reach.{Reach}
+use Rattle.records.specs.declared.Reach.the-variants.{At, Bad}
 
 -- What a call that walked says, once its answer is known.
-pub walked-at : {b : Bytes} {o : Outcome Bytes} {r : Step} {e : ℕ} → Walked b o r → r ≡ At e → (o ≡ done (drop e b)) × (e ≤ length b)
+pub walked-at : {b : Bytes} {o : Outcome Bytes} {r : Reach} {e : ℕ} → Walked b o r → r ≡ At e → (o ≡ done (drop e b)) × (e ≤ length b)
 walked-at {b} {o} {r} {e} w q = (sym (w .answer) ∙ ap (seen b) q, rw q at (w .place))
 
-pub walked-bad : {b : Bytes} {o : Outcome Bytes} {r : Step} → Walked b o r → r ≡ Bad → o ≡ refused 2
+pub walked-bad : {b : Bytes} {o : Outcome Bytes} {r : Reach} → Walked b o r → r ≡ Bad → o ≡ refused 2
 walked-bad {b} {o} {r} w q = sym (w .answer) ∙ ap (seen b) q
 
 pub not-at : {e : ℕ} → Bad ≡ At e → ⊥
 not-at {e} q = not-done (ap (seen []) q)
 
 -- The same step, of an outcome said otherwise.
-pub walked-as : {b : Bytes} {o o′ : Outcome Bytes} {r : Step} → o′ ≡ o → Walked b o r → Walked b o′ r
+pub walked-as : {b : Bytes} {o o′ : Outcome Bytes} {r : Reach} → o′ ≡ o → Walked b o r → Walked b o′ r
 walked-as q w = record { answer = w .answer ∙ sym q; place = w .place }
 
 -- Forgetting what was taken goes past what is done with it.

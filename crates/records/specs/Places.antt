@@ -15,7 +15,7 @@ use Rattle.tables.specs.Groups.{group-end, field-at}
 use Rattle.tables.specs.Places.{inside-at}
 use Rattle.records.specs.Walk.{rest-of, Walked, occurrence, Starts, Rows}
 use Rattle.records.specs.Where.{fields-of}
-use Rattle.records.specs.declared.Step.the-variants as Step
+use Rattle.records.specs.declared.Reach.the-variants as Reach
 use Rattle.records.specs.declared.places.Cell.{Cell}
 use Rattle.records.specs.declared.places.Cell.the-variants.{At, Nothing}
 use Rattle.records.specs.declared.places.Content.{Content}
@@ -34,8 +34,8 @@ Holds es b places = (r : Record) × Held es b places r
 -- Entry i's place in occurrence o of the periodic group that entry g is: the occurrence stands at p, and there the fields before the entry.
 pub record Stands (es : List Entry) (b : Bytes) (places : List ℕ) (g i o : ℕ) (r : Record) (p q : ℕ) : Type 0 where
   pub many : o ≤ group-count-at (parts es) r (getD es g blank .name)
-  pub row : Walked b (rest-of (times (o - 1) (occurrence es g) (drop (getD places g 0 + 1) b))) (Step.At p)
-  pub before : Walked b (rest-of (each stored-cell (fields-of (slice (g + 1) i es)) (drop p b))) (Step.At q)
+  pub row : Walked b (rest-of (times (o - 1) (occurrence es g) (drop (getD places g 0 + 1) b))) (Reach.At p)
+  pub before : Walked b (rest-of (each stored-cell (fields-of (slice (g + 1) i es)) (drop p b))) (Reach.At q)
 
 -- The same of the code's answer: or there is no such occurrence.
 abbrev pub Entered : List Entry → Bytes → List ℕ → ℕ → ℕ → ℕ → Record → Cell → Type 0

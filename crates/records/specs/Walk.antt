@@ -14,17 +14,17 @@ use Rattle.rules.specs.Record.{Occurrence, Reader, record-head, times, each, st
 use Rattle.tables.specs.Entries.{blank, is-periodic}
 use Rattle.tables.specs.Groups.{group-end}
 use Rattle.records.specs.Where.{fields-of}
-use Rattle.records.specs.declared.Step.{Step}
-use Rattle.records.specs.declared.Step.the-variants.{At, Bad}
+use Rattle.records.specs.declared.Reach.{Reach}
+use Rattle.records.specs.declared.Reach.the-variants.{At, Bad}
 
 -- The bytes from a place on; or refusal 2.
-abbrev pub seen : Bytes → Step → Outcome Bytes
+abbrev pub seen : Bytes → Reach → Outcome Bytes
 seen b (At e) = done (drop e b)
 seen b Bad = refused 2
 
-abbrev pub within : Bytes → Step → Type 0
-within b (At e) = e ≤ length b
-within b Bad = Unit {0}
+abbrev pub walk-place : Bytes → Reach → Type 0
+walk-place b (At e) = e ≤ length b
+walk-place b Bad = Unit {0}
 
 -- What a reader leaves, without what it took.
 abbrev pub rest-of : {X : Type 0} → Outcome (X × Bytes) → Outcome Bytes
@@ -32,9 +32,9 @@ rest-of (done x) = done (x .1)
 rest-of (refused n) = refused n
 
 -- A step that stands where a reader leaves off.
-pub record Walked (b : Bytes) (o : Outcome Bytes) (r : Step) : Type 0 where
+pub record Walked (b : Bytes) (o : Outcome Bytes) (r : Reach) : Type 0 where
   pub answer : seen b r ≡ o
-  pub place : within b r
+  pub place : walk-place b r
 
 -- A reader comes to an end; and if it does, then at the place r.
 abbrev pub Ends : Outcome Bytes → Type 0
@@ -83,7 +83,7 @@ pub record Kept {X : Type 0} (one : Reader X) (b : Bytes) (at n kept : ℕ) (bef
   pub rows : (k : ℕ) → k < n → kept + k < directory → Walked b (rest-of (times k one (drop at b))) (At (getD after (kept + k) 0))
 
 -- The same of a walk that comes to its end.
-abbrev pub Keeps : {X : Type 0} → Reader X → Bytes → ℕ → ℕ → ℕ → List ℕ → List ℕ → Step → Type 0
+abbrev pub Keeps : {X : Type 0} → Reader X → Bytes → ℕ → ℕ → ℕ → List ℕ → List ℕ → Reach → Type 0
 Keeps one b at n kept before after r = (e : ℕ) → r ≡ At e → Kept one b at n kept before after
 
 -- Entry j's part stands from its place on; and each of its occurrences from where it is kept on.

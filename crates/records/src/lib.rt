@@ -16,7 +16,7 @@ pub mod walk;
 pub const DIRECTORY: usize = 640;
 
 // Where a walk over a record stands: at a place behind what it was to take, or at something that is no record.
-pub enum Step {
+pub enum Reach {
     At(usize),
     Bad,
 }

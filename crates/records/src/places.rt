@@ -13,7 +13,7 @@ ghost use Rattle.records.specs.Places.{Held, Holds, Entered, Cell-of, Ou
 ghost use Rattle.records.specs.Walk.{directory, rest-of, Walked, Ends, start-of, occurrence};
 ghost use Rattle.records.specs.Paths.{Wide, Leads};
 ghost use Rattle.records.specs.Where.{fields-of};
-ghost use Rattle.records.specs.declared.Step.the-variants.{At};
+ghost use Rattle.records.specs.declared.Reach.the-variants.{At};
 use crate::DIRECTORY;
 use crate::behind;
 use crate::paths;

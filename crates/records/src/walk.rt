@@ -12,41 +12,41 @@ ghost use Rattle.tables.specs.Entries.{Valid, entries-of, blank, format-at};
 ghost use Rattle.records.specs.Where.{field-of, fields-of};
 ghost use Rattle.records.specs.Walk.{directory, rest-of, Walked, has-count, behind, is-headed, occurrence, rows-of, Keeps, Checked};
 use crate::DIRECTORY;
-use crate::Step;
+use crate::Reach;
 use values::First;
 
 // The place behind a value of a format and standard length.
-fn value_end(b: &[u8], at: usize, format: usize, size: usize) -> Step
+fn value_end(b: &[u8], at: usize, format: usize, size: usize) -> Reach
     requires { ⌜ (at ≤ length (now b)) × (format < 5) × (allowed (format-at format) size ≡ true) ⌝ }
     ensures { λ r. ⌜ Walked (now (b .entry)) (rest-of (stored-value (format-at format) size (drop at (now (b .entry))))) r ⌝ }
 {
     let first = values::first_value(b, at, size);
     match first {
-        First::Refused(_) => Step::Bad,
+        First::Refused(_) => Reach::Bad,
         First::Value(from, next) => {
             if values::is_normal(&b[from..next], format, size) {
-                Step::At(next)
+                Reach::At(next)
             } else {
-                Step::Bad
+                Reach::Bad
             }
         }
     }
 }
 
 // The place behind n bytes.
-fn bytes_end(b: &[u8], at: usize, n: usize) -> Step
+fn bytes_end(b: &[u8], at: usize, n: usize) -> Reach
     requires { ⌜ at ≤ length (now b) ⌝ }
     ensures { λ r. ⌜ Walked (now (b .entry)) (rest-of (cut 2 n (drop at (now (b .entry))))) r ⌝ }
 {
     if b.len() - at < n {
-        return Step::Bad;
+        return Reach::Bad;
     }
-    Step::At(at + n)
+    Reach::At(at + n)
 }
 
 // The place behind n values. Where all bytes are in normal form, n values are so many bytes; an n that no count can say goes one by one,
 // so that the product is never too large.
-fn values_end(b: &[u8], at: usize, n: usize, format: usize, size: usize) -> Step
+fn values_end(b: &[u8], at: usize, n: usize, format: usize, size: usize) -> Reach
     requires { ⌜ (at ≤ length (now b)) × (format < 5) × (allowed (format-at format) size ≡ true) ⌝ }
     ensures { λ r. ⌜ Walked (now (b .entry)) (rest-of (times n (stored-value (format-at format) size) (drop at (now (b .entry))))) r ⌝ }
 {
@@ -60,16 +60,16 @@ fn values_end(b: &[u8], at: usize, n: usize, format: usize, size: usize) -> Step
     while i < n {
         let step = value_end(b, p, format, size);
         match step {
-            Step::Bad => {
-                return Step::Bad;
+            Reach::Bad => {
+                return Reach::Bad;
             }
-            Step::At(next) => {
+            Reach::At(next) => {
                 p = next;
             }
         }
         i += 1;
     }
-    Step::At(p)
+    Reach::At(p)
 }
 
 // Whether a count stands at a place, and is not over its limit.
@@ -83,7 +83,7 @@ pub fn has_count(b: &[u8], at: usize) -> bool
 }
 
 // The place behind the cell of a field, by its format, standard length and whether it is MU.
-fn cell_end(b: &[u8], at: usize, format: usize, size: usize, multiple: bool) -> Step
+fn cell_end(b: &[u8], at: usize, format: usize, size: usize, multiple: bool) -> Reach
     requires { ⌜ (at ≤ length (now b)) × (format < 5) × (allowed (format-at format) size ≡ true) ⌝ }
     ensures { λ r. ⌜ Walked (now (b .entry)) (rest-of (counted multiple (stored-value (format-at format) size) (drop at (now (b .entry))))) r ⌝ }
 {
@@ -91,25 +91,25 @@ fn cell_end(b: &[u8], at: usize, format: usize, size: usize, multiple: bool) -> 
         if has_count(b, at) {
             return values_end(b, at + 1, b[at] as usize, format, size);
         }
-        return Step::Bad;
+        return Reach::Bad;
     }
     value_end(b, at, format, size)
 }
 
 // The place behind the cell of entry i, where it is a field; a group by itself has no bytes.
-fn member_end(t: &[u8], b: &[u8], at: usize, i: usize) -> Step
+fn member_end(t: &[u8], b: &[u8], at: usize, i: usize) -> Reach
     requires { ⌜ Valid (now t) × (i < length (entries-of (now t))) × (at ≤ length (now b)) ⌝ }
     ensures { λ r. ⌜ Walked (now (b .entry)) (rest-of (each stored-cell (field-of (getD (entries-of (now (t .entry))) i blank .name) (getD (entries-of (now (t .entry))) i blank .what)) (drop at (now (b .entry))))) r ⌝ }
 {
     let e = tables::entry_at(t, i);
     if e.format == tables::GROUP {
-        return Step::At(at);
+        return Reach::At(at);
     }
     cell_end(b, at, e.format as usize, e.size as usize, e.multiple)
 }
 
 // The place behind the cells of the fields among the entries from first to end, once each.
-fn members_end(t: &[u8], b: &[u8], at: usize, first: usize, end: usize) -> Step
+fn members_end(t: &[u8], b: &[u8], at: usize, first: usize, end: usize) -> Reach
     requires { ⌜ Valid (now t) × (first ≤ end) × (end ≤ length (entries-of (now t))) × (at ≤ length (now b)) ⌝ }
     ensures { λ r. ⌜ Walked (now (b .entry)) (rest-of (each stored-cell (fields-of (slice first end (entries-of (now (t .entry))))) (drop at (now (b .entry))))) r ⌝ }
 {
@@ -118,16 +118,16 @@ fn members_end(t: &[u8], b: &[u8], at: usize, first: usize, end: usize) -> Step
     while i < end {
         let step = member_end(t, b, p, i);
         match step {
-            Step::Bad => {
-                return Step::Bad;
+            Reach::Bad => {
+                return Reach::Bad;
             }
-            Step::At(next) => {
+            Reach::At(next) => {
                 p = next;
             }
         }
         i += 1;
     }
-    Step::At(p)
+    Reach::At(p)
 }
 
 // Keeps a place at a number of the directory, where it has so many.
@@ -150,7 +150,7 @@ fn occurrences_end(
     end: usize,
     places: &mut [u16; DIRECTORY],
     kept: usize,
-) -> Step
+) -> Reach
     requires { ⌜ Valid (now t) × (first ≤ end) × (end ≤ length (entries-of (now t))) × (at ≤ length (now b)) × (length (now b) ≤ longest-record) × (length (now places) ≡ directory) × (kept + n ≤ 65535) ⌝ }
     ensures { λ r. ⌜ Walked (now (b .entry)) (rest-of (times n (each stored-cell (fields-of (slice first end (entries-of (now (t .entry)))))) (drop at (now (b .entry))))) r × Keeps (each stored-cell (fields-of (slice first end (entries-of (now (t .entry)))))) (now (b .entry)) at n kept (now (places .entry)) (now (places .exit)) r ⌝ }
 {
@@ -160,16 +160,16 @@ fn occurrences_end(
         keep(places, kept + i, p);
         let step = members_end(t, b, p, first, end);
         match step {
-            Step::Bad => {
-                return Step::Bad;
+            Reach::Bad => {
+                return Reach::Bad;
             }
-            Step::At(next) => {
+            Reach::At(next) => {
                 p = next;
             }
         }
         i += 1;
     }
-    Step::At(p)
+    Reach::At(p)
 }
 
 // The place behind the part that entry i begins, if it begins one.
@@ -181,7 +181,7 @@ fn entry_end(
     inside: bool,
     places: &mut [u16; DIRECTORY],
     kept: usize,
-) -> Step
+) -> Reach
     requires { ⌜ Valid (now t) × (i < length (entries-of (now t))) × (at ≤ length (now b)) × (length (now b) ≤ longest-record) × (length (now places) ≡ directory) × (kept ≤ 65280) ⌝ }
     ensures { λ r. ⌜ Walked (now (b .entry)) (behind inside (getD (entries-of (now (t .entry))) i blank) (drop (suc i) (entries-of (now (t .entry)))) (drop at (now (b .entry)))) r × Keeps (occurrence (entries-of (now (t .entry))) i) (now (b .entry)) (at + 1) (rows-of (getD (entries-of (now (t .entry))) i blank .what) (getD (now (b .entry)) at 0)) kept (now (places .entry)) (now (places .exit)) r ⌝ }
 {
@@ -190,10 +190,10 @@ fn entry_end(
             let end = tables::group_end(t, i);
             return occurrences_end(t, b, at + 1, b[at] as usize, i + 1, end, places, kept);
         }
-        return Step::Bad;
+        return Reach::Bad;
     }
     if inside {
-        return Step::At(at);
+        return Reach::At(at);
     }
     member_end(t, b, at, i)
 }
@@ -243,10 +243,10 @@ pub fn check(t: &[u8], b: &[u8], places: &mut [u16; DIRECTORY]) -> bool
             let step = entry_end(t, b, p, i, inside, places, kept);
             kept = kept_behind(t, b, p, i, kept);
             match step {
-                Step::Bad => {
+                Reach::Bad => {
                     return false;
                 }
-                Step::At(next) => {
+                Reach::At(next) => {
                     p = next;
                 }
             }

@@ -10,11 +10,11 @@ use Rattle.rules.specs.Table.{Entry}
 use Rattle.buffer.proofs.Laws.{splice-nil, splice-then, set-splice, take-splice}
 use Rattle.tables.specs.Entries.{blank, is-group}
 use Rattle.tables.specs.Groups.{run-below, numbers-below, field-at, Expanded, Fields-of}
-use Rattle.tables.specs.declared.Walked.{Walked}
+use Rattle.tables.specs.declared.Expansion.{Expansion}
 use Rattle.tables.proofs.Nesting.{run-short, run-more, run-stop, run-none, numbers-short, numbers-stop, numbers-none, numbers-field, numbers-group, run-then, numbers-then, numbers-fields}
 
 module _ (es : List Entry) (level at count : ℕ) (before : List ℕ) where
-  empty : (r : Walked) → run-below level (drop at es) ≡ 0 → numbers-below level at (drop at es) ≡ [] → r .next ≡ at → r .count ≡ count
+  empty : (r : Expansion) → run-below level (drop at es) ≡ 0 → numbers-below level at (drop at es) ≡ [] → r .next ≡ at → r .count ≡ count
       → Expanded es level at count before before r
   empty r e f p q = record {
     past = rw e (omega arith);
@@ -23,14 +23,14 @@ module _ (es : List Entry) (level at count : ℕ) (before : List ℕ) where
     same = refl;
   }
 
-  pub done-none : (r : Walked) → length es ≤ at → r .next ≡ at → r .count ≡ count → Expanded es level at count before before r
+  pub done-none : (r : Expansion) → length es ≤ at → r .next ≡ at → r .count ≡ count → Expanded es level at count before before r
   done-none r h = empty r (run-none es level at h) (numbers-none es level at h)
 
-  pub done-stop : (r : Walked) → at < length es → getD es at blank .level ≤ level → r .next ≡ at → r .count ≡ count
+  pub done-stop : (r : Expansion) → at < length es → getD es at blank .level ≤ level → r .next ≡ at → r .count ≡ count
       → Expanded es level at count before before r
   done-stop r h k = empty r (run-stop es level at h k) (numbers-stop es level at h k)
 
-  pub done-field : (r : Walked) (after : List ℕ) → at < length es → level < getD es at blank .level → is-group (getD es at blank .what) ≡ false
+  pub done-field : (r : Expansion) (after : List ℕ) → at < length es → level < getD es at blank .level → is-group (getD es at blank .what) ≡ false
       → count < length before
       → Expanded es level (at + 1) (count + 1) (set before count at) after r
       → Expanded es level at count before after r
@@ -44,7 +44,7 @@ module _ (es : List Entry) (level at count : ℕ) (before : List ℕ) where
     same = x .same ∙ simp length-set;
   }
 
-  pub done-group : (deep : ℕ) (i r : Walked) (mid after : List ℕ) → at < length es → deep ≡ getD es at blank .level → level < deep
+  pub done-group : (deep : ℕ) (i r : Expansion) (mid after : List ℕ) → at < length es → deep ≡ getD es at blank .level → level < deep
       → is-group (getD es at blank .what) ≡ true
       → count ≤ at → length es ≤ length before
       → Expanded es deep (at + 1) count before mid i
@@ -67,7 +67,7 @@ module _ (es : List Entry) (level at count : ℕ) (before : List ℕ) where
       }
 
 -- the walk from the entry behind group i, as its expansion
-pub expanded : (es : List Entry) (i : ℕ) (before after : List ℕ) (r : Walked) → Expanded es (getD es i blank .level) (i + 1) 0 before after r
+pub expanded : (es : List Entry) (i : ℕ) (before after : List ℕ) (r : Expansion) → Expanded es (getD es i blank .level) (i + 1) 0 before after r
     → Fields-of es i before after (r .count)
 expanded es i before after r x =
     let ns = numbers-below (getD es i blank .level) (i + 1) (drop (i + 1) es) in

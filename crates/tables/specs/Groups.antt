@@ -12,7 +12,7 @@ use Rattle.rules.specs.Use.{fields-to}
 use Rattle.buffer.specs.Splice.{splice}
 use Rattle.tables.specs.Entries.{blank, group-number}
 use Rattle.tables.specs.declared.Entry.{Entry as Row}
-use Rattle.tables.specs.declared.Walked.{Walked}
+use Rattle.tables.specs.declared.Expansion.{Expansion}
 
 -- How many entries there are before the next that is not deeper than a level.
 unfoldable pub run-below : ℕ → List Entry → ℕ
@@ -52,7 +52,7 @@ fields-in (e ∷ es) = with-field (e .name) (e .what) (fields-in es)
 
 -- What a walk over the entries behind a group leaves: it stands behind the members, and the fields' numbers are written from
 -- `count` on, with every other byte as it was.
-pub record Expanded (es : List Entry) (level at count : ℕ) (before after : List ℕ) (r : Walked) : Type 0 where
+pub record Expanded (es : List Entry) (level at count : ℕ) (before after : List ℕ) (r : Expansion) : Type 0 where
   pub past : r .next ≡ at + run-below level (drop at es)
   pub counted : r .count ≡ count + length (numbers-below level at (drop at es))
   pub written : after ≡ splice count (numbers-below level at (drop at es)) before

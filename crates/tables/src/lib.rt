@@ -409,22 +409,29 @@ pub fn inside(t: &[u8], i: usize) -> bool
 }
 
 // Where a walk over entries stands: the next entry, and how many fields were written.
-struct Walked {
+struct Expansion {
     next: usize,
     count: usize,
 }
 
 // Writes the numbers of the fields among the entries from at on that are deeper than level, a group's members by a call of its own.
-fn expand_from(t: &[u8], at: usize, n: usize, level: u8, out: &mut [u8; 64], count: usize) -> Walked
+fn expand_from(
+    t: &[u8],
+    at: usize,
+    n: usize,
+    level: u8,
+    out: &mut [u8; 64],
+    count: usize,
+) -> Expansion
     requires { ⌜ Valid (now t) × (n ≡ length (entries-of (now t))) × (at ≤ n) × (count ≤ at) × (length (now out) ≡ 64) ⌝ }
     ensures { λ r. ⌜ Expanded (entries-of (now (t .entry))) level at count (now (out .entry)) (now (out .exit)) r ⌝ }
 {
     if at == n {
-        return Walked { next: n, count };
+        return Expansion { next: n, count };
     }
     let deep = level_at(t, at);
     if deep <= level {
-        return Walked { next: at, count };
+        return Expansion { next: at, count };
     }
     if group_at(t, at) {
         let inner = expand_from(t, at + 1, n, deep, out, count);

@@ -15,7 +15,7 @@ use Rattle.rules.specs.Update.{name-alike}
 use Rattle.buffer.proofs.Cases.{by-order}
 use Rattle.formats.specs.Elements.{range}
 use Rattle.uses.specs.Meant.{use-meant, Span-held, Span-known}
-use Rattle.uses.specs.Twice.{numbers, Small, small, numbered-use, kept-use, met-before, Keeps}
+use Rattle.uses.specs.Twice.{numbers, Small-span, small, numbered-use, kept-use, met-before, Keeps-use}
 use Rattle.uses.specs.declared.Span.{Span}
 use Rattle.uses.specs.declared.Use.{Use}
 use Rattle.uses.specs.declared.Use.the-variants as code
@@ -102,7 +102,7 @@ module _ (s : Span) (l : List ℕ) (at : ℕ) (h : at + 6 ≤ length l) where
     sets-at (numbers s) l at 5 (at + 5) refl h (omega arith),
   )
 
-pub keeps-span : (s : Span) (count : ℕ) (l : List ℕ) → 6 * count + 6 ≤ length l → Keeps (code.Values s) count l (count + 1) (sets l (6 * count) (numbers s))
+pub keeps-span : (s : Span) (count : ℕ) (l : List ℕ) → 6 * count + 6 ≤ length l → Keeps-use (code.Values s) count l (count + 1) (sets l (6 * count) (numbers s))
 keeps-span s count l h = record {
   same = length-sets l (6 * count) (numbers s);
   more = omega arith;
@@ -118,11 +118,11 @@ keeps-span s count l h = record {
 
 -- What names nothing is not kept.
 pub keeps-none : (u : Use) (count : ℕ) (l : List ℕ) → ((es : List Entry) (f : Bytes) (v : rules.Use) → name-alike (use-meant es f u) v ≡ false)
-    → Keeps u count l count l
+    → Keeps-use u count l count l
 keeps-none u count l e = record { same = refl; more = omega arith; ends = λ es k h. h; met = λ es f v k. rw (e es f v) }
 
 -- The numbers of a span are small.
-span-small : {es : List Entry} {s : Span} → length es ≤ most-entries → Span-held es s → Small s
+span-small : {es : List Entry} {s : Span} → length es ≤ most-entries → Span-held es s → Small-span s
 span-small {es} {s} l h =
     let o = ordered-within (range (s .from) (s .upto)) (h .occurrences) in
     let v = ordered-within (range (s .«value_from») (s .«value_upto»)) (h .values) in

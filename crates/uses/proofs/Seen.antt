@@ -17,9 +17,9 @@ use Rattle.rules.proofs.Steps.{from-bind, from-need}
 use Rattle.tables.proofs.Bools.{or-false, or-true}
 use Rattle.uses.specs.Meant.{use-meant, indexes-kept, uses-of}
 use Rattle.uses.specs.Ahead.{Ahead, Nexts}
-use Rattle.uses.specs.Twice.{met-before, Ends, Met, Keeps, Named-twice}
+use Rattle.uses.specs.Twice.{met-before, Kept-ends, Met, Keeps-use, Named-twice}
 use Rattle.uses.specs.declared.Use.{Use}
-use Rattle.uses.specs.declared.Next.the-variants.{More, Last, Refused}
+use Rattle.uses.specs.declared.Turn.the-variants.{More, Last, Refused}
 use Rattle.uses.proofs.Testing.{span-known}
 use Rattle.uses.proofs.Ahead.{uses-all}
 use Rattle.uses.proofs.Keeping.{met-none}
@@ -73,7 +73,7 @@ pub record Seen (es : List Entry) (f : Bytes) (kept last : List ℕ) (at count :
   pub indexes : length last ≡ indexes-kept
   pub fewer : count ≤ at
   pub room : 6 * length f ≤ length kept
-  pub ends : Ends es kept count
+  pub ends : Kept-ends es kept count
   pub left : (us : List Meaning) → Ahead es f (replicate indexes-kept 0) 0 us
       → (vs : List Meaning) × Ahead es f last at vs × (twice-after (met-before es kept count) vs ≡ named-twice us)
 
@@ -96,7 +96,7 @@ module _ {es : List Entry} {f : Bytes} {kept : List ℕ} where
           let q = n .answer (l .0) (l .1) in
           sym (ap (twice-after (met-before es kept count)) (q .1) ∙ after-met _ _ (q .0) (sym (m f) ∙ t)) ∙ l .2
 
-      pub seen-more : r ≡ false → {kept′ : List ℕ} {count′ : ℕ} → Keeps u count kept count′ kept′ → Seen es f kept′ after next count′
+      pub seen-more : r ≡ false → {kept′ : List ℕ} {count′ : ℕ} → Keeps-use u count kept count′ kept′ → Seen es f kept′ after next count′
       seen-more t {kept′} {count′} k =
           let known = span-known es f u (n .known .2) in record {
             place = n .known .1;

@@ -17,7 +17,7 @@ use Rattle.rules.specs.Use.{Indexes, last-index, indexes-after, use-of, uses}
 use Rattle.rules.proofs.Steps.{from-bind, from-need, done-inj, not-done}
 use Rattle.tables.proofs.Bools.{clash}
 use Rattle.formats.specs.Elements.{element-of, sound}
-use Rattle.formats.specs.Syntax.{parsed, before, behind, by-step}
+use Rattle.formats.specs.Syntax.{parsed, element-before, elements-behind, by-step}
 use Rattle.formats.specs.declared.Element.{Element}
 use Rattle.formats.specs.declared.syntax.Step.the-variants.{At, Bad}
 use Rattle.formats.proofs.StepLaws.{behind-last, behind-more}
@@ -91,19 +91,19 @@ module _ (es : List Entry) (f : Bytes) where
     module _ (e : Element) (stop : ℕ) (p : parsed (drop at f) ≡ by-step f (At e stop)) where
       pub testing-refused : (n : ℕ) → Means es last e (meant.Refused n) → sound f e → Tested (uses-of es f) n
       testing-refused n k z =
-          from-bind (behind f stop) _ (sym p ∙ w .parsed) λ ys g q.
+          from-bind (elements-behind f stop) _ (sym p ∙ w .parsed) λ ys g q.
           w .rest n (subst (λ xs. Tested (uses es (w .indexes) xs) n) (done-inj q)
           (first-refused es (w .indexes) (element-of f e) ys n (sym (k .answer f (w .indexes) (w .remembers))) (k .held f z)))
 
       module _ (u : Use) (k : Means es last e (meant.As u)) where
         pub testing-last : eqb (getD f stop 0) period ≡ true → Tested (uses-of es f) 0
         testing-last h =
-            w .rest 0 (subst (λ xs. Tested (uses es (w .indexes) xs) 0) (done-inj (sym (p ∙ ap (before (element-of f e)) (behind-last f stop h)) ∙ w .parsed))
+            w .rest 0 (subst (λ xs. Tested (uses es (w .indexes) xs) 0) (done-inj (sym (p ∙ ap (element-before (element-of f e)) (behind-last f stop h)) ∙ w .parsed))
             (first-done es (w .indexes) (element-of f e) [] (use-meant es f u) (sym (k .answer f (w .indexes) (w .remembers))) 0 (no-more es _)))
 
         pub testing-more : eqb (getD f stop 0) period ≡ false → {after : List ℕ} → Remembered es u last after → Testing es f after (stop + 1)
         testing-more h r =
-            from-bind (parsed (drop (stop + 1) f)) _ (sym (p ∙ ap (before (element-of f e)) (behind-more f stop h)) ∙ w .parsed) λ ys g q. record {
+            from-bind (parsed (drop (stop + 1) f)) _ (sym (p ∙ ap (element-before (element-of f e)) (behind-more f stop h)) ∙ w .parsed) λ ys g q. record {
               indexes = indexes-after (use-meant es f u) (w .indexes);
               left = ys;
               parsed = g;

@@ -12,8 +12,8 @@ use Rattle.rules.specs.Use.{Indexes, uses}
 use Rattle.formats.specs.Syntax.{parsed}
 use Rattle.uses.specs.Meant.{use-meant, Remembers, Use-held}
 use Rattle.uses.specs.declared.Use.{Use}
-use Rattle.uses.specs.declared.Next.{Next}
-use Rattle.uses.specs.declared.Next.the-variants.{More, Last, Refused}
+use Rattle.uses.specs.declared.Turn.{Turn}
+use Rattle.uses.specs.declared.Turn.the-variants.{More, Last, Refused}
 
 -- The uses of the elements from a place of a format on, behind the last index so far of each entry.
 pub record Ahead (es : List Entry) (f : Bytes) (last : List ℕ) (at : ℕ) (us : List rules-use.Use) : Type 0 where
@@ -24,19 +24,19 @@ pub record Ahead (es : List Entry) (f : Bytes) (last : List ℕ) (at : ℕ) (us 
   pub meant : uses es indexes left ≡ done us
 
 -- Those uses by a step of the code: a use and those behind it, or the last.
-abbrev pub by-next : List Entry → Bytes → List ℕ → Next → List rules-use.Use → Type 0
+abbrev pub by-next : List Entry → Bytes → List ℕ → Turn → List rules-use.Use → Type 0
 by-next es f after (More u place) us = (vs : List rules-use.Use) × (us ≡ use-meant es f u ∷ vs) × Ahead es f after place vs
 by-next es f after (Last u) us = us ≡ use-meant es f u ∷ []
 by-next es f after Refused us = ⊥
 
 -- A next step is at a later place, and what is known of a use holds.
-abbrev pub next-known : List Entry → Bytes → ℕ → Next → Type 0
+abbrev pub next-known : List Entry → Bytes → ℕ → Turn → Type 0
 next-known es f at (More u place) = (at < place) × (place ≤ length f) × Use-held es f u
 next-known es f at (Last u) = Use-held es f u
 next-known es f at Refused = Unit {0}
 
 -- A step was made.
-pub record Nexts (es : List Entry) (f : Bytes) (at : ℕ) (before after : List ℕ) (r : Next) : Type 0 where
+pub record Nexts (es : List Entry) (f : Bytes) (at : ℕ) (before after : List ℕ) (r : Turn) : Type 0 where
   pub same : length after ≡ length before
   pub known : next-known es f at r
   pub answer : (us : List rules-use.Use) → Ahead es f before at us → by-next es f after r us

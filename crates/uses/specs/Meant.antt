@@ -136,7 +136,7 @@ pub record Span-held (es : List Entry) (s : Span) : Type 0 where
   -- Fields at their standard have value 1 alone.
   pub once : s .standard ≡ true → (s .«value_from» ≡ 1) × (s .«value_upto» ≡ 1)
   -- Where the first entry lies in a periodic group, all do, in the same, and their fields are of fixed length.
-  pub together : s .standard ≡ true → (g : ℕ) → Home es (s .first) g → (s .end ≤ group-end es g) × (all plain (fields-from es (s .first) (s .end)) ≡ true)
+  pub one-group : s .standard ≡ true → (g : ℕ) → Home es (s .first) g → (s .end ≤ group-end es g) × (all plain (fields-from es (s .first) (s .end)) ≡ true)
   -- Where it lies outside, all do.
   pub outside : s .standard ≡ true → inside-at es (s .first) ≡ false → (j : ℕ) → s .first ≤ j → j < s .end → inside-at es j ≡ false
   -- Where it lies in one, they are the members of the group that the entry before the first is.
@@ -150,14 +150,14 @@ Use-held es f (code.ValueCount i k) =
     (i < length es) × (is-multiple (getD es i blank .what) ≡ true) × (1 ≤ k) × (k ≤ highest-index) × (inside-at es i ≡ false → k ≡ 1)
 Use-held es f (code.Values s) = Span-held es s
 
-abbrev pub Held : List Entry → Bytes → Meant → Type 0
-Held es f (meant.As u) = Use-held es f u
-Held es f (meant.Refused n) = 0 < n
+abbrev pub Meant-held : List Entry → Bytes → Meant → Type 0
+Meant-held es f (meant.As u) = Use-held es f u
+Meant-held es f (meant.Refused n) = 0 < n
 
 -- The rules' outcome is met, where no byte of the format matters.
 pub record Settles (es : List Entry) (o : Outcome rules.Use) (r : Meant) : Type 0 where
   pub answer : (f : Bytes) → outcome-of es f r ≡ o
-  pub held : (f : Bytes) → Held es f r
+  pub held : (f : Bytes) → Meant-held es f r
 
 -- The rules for a name, a count and a series, by the entries that are named.
 abbrev pub field-use : List Entry → ℕ → ℕ → Named → Outcome rules.Use
@@ -213,7 +213,7 @@ Remembers es last ls = (i : ℕ) → i < length es → getD last i 0 ≡ last-in
 -- What an element means, behind the indexes so far.
 pub record Means (es : List Entry) (last : List ℕ) (e : Element) (r : Meant) : Type 0 where
   pub answer : (f : Bytes) (ls : Indexes) → Remembers es last ls → outcome-of es f r ≡ use-of es ls (element-of f e)
-  pub held : (f : Bytes) → sound f e → Held es f r
+  pub held : (f : Bytes) → sound f e → Meant-held es f r
 
 abbrev pub Name-means : List Entry → List ℕ → Named → Meant → Type 0
 Name-means es last n r = Means es last (element.Named n) r

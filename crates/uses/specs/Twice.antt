@@ -24,15 +24,15 @@ stored-fields es first end = map as-stored (fields-from es first end)
 abbrev pub numbers : Span → Bytes
 numbers s = s .first ∷ s .end ∷ s .from ∷ s .upto ∷ s .«value_from» ∷ s .«value_upto» ∷ []
 
-abbrev pub Small : Span → Type 0
-Small s = (s .first < 256) × (s .end < 256) × (s .from < 256) × (s .upto < 256) × (s .«value_from» < 256) × (s .«value_upto» < 256)
+abbrev pub Small-span : Span → Type 0
+Small-span s = (s .first < 256) × (s .end < 256) × (s .from < 256) × (s .upto < 256) × (s .«value_from» < 256) × (s .«value_upto» < 256)
 
 abbrev pub small : Use → Type 0
 small (code.Blanks n) = Unit {0}
 small (code.Text from upto) = Unit {0}
 small (code.GroupCount i) = Unit {0}
 small (code.ValueCount i k) = Unit {0}
-small (code.Values s) = Small s
+small (code.Values s) = Small-span s
 
 abbrev pub numbered-use : List Entry → (first end from upto low high : ℕ) → rules-use.Use
 numbered-use es first end from upto low high = rules-use.values (stored-fields es first end) (range from upto) (range low high) false
@@ -47,8 +47,8 @@ met-before es kept zero u = false
 met-before es kept (suc n) u = name-alike (kept-use es kept (6 * n)) u || met-before es kept n u
 
 -- The spans kept end among the entries.
-abbrev pub Ends : List Entry → Bytes → ℕ → Type 0
-Ends es kept count = (i : ℕ) → i < count → getD kept (6 * i + 1) 0 ≤ length es
+abbrev pub Kept-ends : List Entry → Bytes → ℕ → Type 0
+Kept-ends es kept count = (i : ℕ) → i < count → getD kept (6 * i + 1) 0 ≤ length es
 
 -- The answers of the code, whatever the format.
 abbrev pub Kept-alike : List Entry → Bytes → ℕ → Span → Bool → Type 0
@@ -58,10 +58,10 @@ abbrev pub Met : List Entry → Bytes → ℕ → Use → Bool → Type 0
 Met es kept count u r = (f : Bytes) → r ≡ met-before es kept count (use-meant es f u)
 
 -- A use was kept: what is met then is what it meets and what was met before.
-pub record Keeps (u : Use) (count : ℕ) (before : Bytes) (r : ℕ) (after : Bytes) : Type 0 where
+pub record Keeps-use (u : Use) (count : ℕ) (before : Bytes) (r : ℕ) (after : Bytes) : Type 0 where
   pub same : length after ≡ length before
   pub more : r ≤ count + 1
-  pub ends : (es : List Entry) → Span-known es u → Ends es before count → Ends es after r
+  pub ends : (es : List Entry) → Span-known es u → Kept-ends es before count → Kept-ends es after r
   pub met : (es : List Entry) (f : Bytes) (v : rules-use.Use) → Span-known es u
       → met-before es after r v ≡ (name-alike (use-meant es f u) v || met-before es before count v)
 

@@ -55,7 +55,7 @@ pub enum Meant {
 }
 
 // The use of an element and the place where the next element begins, the use of the last element, or no use.
-pub enum Next {
+pub enum Turn {
     More(Use, usize),
     Last(Use),
     Refused,
@@ -471,7 +471,7 @@ pub fn remember(t: &[u8], last: &mut [u8; INDEXES], u: Use)
 }
 
 // The use of the element at a place, behind the last indexes so far, which it adds to.
-pub fn next_use(t: &[u8], f: &[u8], at: usize, last: &mut [u8; INDEXES]) -> Next
+pub fn next_use(t: &[u8], f: &[u8], at: usize, last: &mut [u8; INDEXES]) -> Turn
     requires { ⌜ Valid (now t) × (at ≤ length (now f)) × (length (now last) ≡ indexes-kept) ⌝ }
     ensures { λ r. ⌜ Nexts (entries-of (now (t .entry))) (now (f .entry)) at (now (last .entry)) (now (last .exit)) r ⌝ }
 {
@@ -479,14 +479,14 @@ pub fn next_use(t: &[u8], f: &[u8], at: usize, last: &mut [u8; INDEXES]) -> Next
         Step::At(e, stop) => match use_of(t, last, e) {
             Meant::As(u) => {
                 if formats::syntax::is_last(f, stop) {
-                    return Next::Last(u);
+                    return Turn::Last(u);
                 }
                 remember(t, last, u);
-                Next::More(u, stop + 1)
+                Turn::More(u, stop + 1)
             }
-            Meant::Refused(_) => Next::Refused,
+            Meant::Refused(_) => Turn::Refused,
         },
-        Step::Bad => Next::Refused,
+        Step::Bad => Turn::Refused,
     }
 }
 

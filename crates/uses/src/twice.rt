@@ -1,8 +1,8 @@
 // Refusal 6: whether two elements of a format name an occurrence in common. Six numbers are kept of each element that names any: its
 // entries, its occurrences and its values, each from and up to. So an element is read once, and compared with all that are kept.
 use super::INDEXES;
-use super::Next;
 use super::Span;
+use super::Turn;
 use super::Use;
 use super::next_use;
 ghost use mathlib.Core.Path.{_≡_};
@@ -13,7 +13,7 @@ ghost use Rattle.rules.specs.Update.{meet, share};
 ghost use Rattle.tables.specs.Entries.{Valid, entries-of};
 ghost use Rattle.formats.specs.Elements.{range};
 ghost use Rattle.uses.specs.Meant.{Span-held, Span-known};
-ghost use Rattle.uses.specs.Twice.{stored-fields, Ends, Kept-alike, Met, numbers, Small, small, Keeps, Named-twice};
+ghost use Rattle.uses.specs.Twice.{stored-fields, Kept-ends, Kept-alike, Met, numbers, Small-span, small, Keeps-use, Named-twice};
 
 // The longest of the formats whose spans are kept in the smaller area. An element takes a byte at least, so that there is room for all.
 const SHORT: usize = 64;
@@ -77,7 +77,7 @@ fn kept_alike(t: &[u8], kept: &[u8], at: usize, s: Span) -> bool
 
 // Whether one of the spans kept names an occurrence that another names.
 fn span_met(t: &[u8], kept: &[u8], count: usize, s: Span) -> bool
-    requires { ⌜ Valid (now t) × (6 * count ≤ length (now kept)) × Ends (entries-of (now t)) (now kept) count × Span-held (entries-of (now t)) s ⌝ }
+    requires { ⌜ Valid (now t) × (6 * count ≤ length (now kept)) × Kept-ends (entries-of (now t)) (now kept) count × Span-held (entries-of (now t)) s ⌝ }
     ensures { λ r. ⌜ Met (entries-of (now (t .entry))) (now (kept .entry)) count (Use.Values s) r ⌝ }
 {
     let mut i = count;
@@ -92,7 +92,7 @@ fn span_met(t: &[u8], kept: &[u8], count: usize, s: Span) -> bool
 
 // Whether one of the spans kept names an occurrence that a use names. Counts, spaces and text name nothing.
 fn met_before(t: &[u8], kept: &[u8], count: usize, u: Use) -> bool
-    requires { ⌜ Valid (now t) × (6 * count ≤ length (now kept)) × Ends (entries-of (now t)) (now kept) count × Span-known (entries-of (now t)) u ⌝ }
+    requires { ⌜ Valid (now t) × (6 * count ≤ length (now kept)) × Kept-ends (entries-of (now t)) (now kept) count × Span-known (entries-of (now t)) u ⌝ }
     ensures { λ r. ⌜ Met (entries-of (now (t .entry))) (now (kept .entry)) count u r ⌝ }
 {
     match u {
@@ -105,7 +105,7 @@ fn met_before(t: &[u8], kept: &[u8], count: usize, u: Use) -> bool
 }
 
 fn keep_span(kept: &mut [u8], at: usize, s: Span)
-    requires { ⌜ (at + 6 ≤ length (now kept)) × Small s ⌝ }
+    requires { ⌜ (at + 6 ≤ length (now kept)) × Small-span s ⌝ }
     ensures { λ _. ⌜ now (kept .exit) ≡ sets (now (kept .entry)) at (numbers s) ⌝ }
 {
     kept[at] = s.first as u8;
@@ -119,7 +119,7 @@ fn keep_span(kept: &mut [u8], at: usize, s: Span)
 // Keeps the span of a use behind the others, and says how many there are then.
 fn keep(kept: &mut [u8], count: usize, u: Use) -> usize
     requires { ⌜ (6 * count + 6 ≤ length (now kept)) × small u ⌝ }
-    ensures { λ r. ⌜ Keeps u count (now (kept .entry)) r (now (kept .exit)) ⌝ }
+    ensures { λ r. ⌜ Keeps-use u count (now (kept .entry)) r (now (kept .exit)) ⌝ }
 {
     match u {
         Use::Values(s) => {
@@ -143,17 +143,17 @@ fn named_twice_by(t: &[u8], f: &[u8], kept: &mut [u8]) -> bool
     let mut count = 0;
     loop {
         match next_use(t, f, at, &mut last) {
-            Next::More(u, next) => {
+            Turn::More(u, next) => {
                 if met_before(t, kept, count, u) {
                     return true;
                 }
                 count = keep(kept, count, u);
                 at = next;
             }
-            Next::Last(u) => {
+            Turn::Last(u) => {
                 return met_before(t, kept, count, u);
             }
-            Next::Refused => {
+            Turn::Refused => {
                 return false;
             }
         }

@@ -23,9 +23,9 @@ use Rattle.words.proofs.Digits.{length-digits}
 use Rattle.decimals.specs.Decimals.{decimal-format}
 use Rattle.decimals.proofs.Normal.{normal-fits, normal-done, carried-value}
 use Rattle.decimals.proofs.Written.{length-written}
-use Rattle.values.specs.Formats.{ranged}
+use Rattle.values.specs.Formats.{range-kind}
 use Rattle.values.proofs.Numbered.{and-first}
-use Rattle.values.specs.Fits.{size-of, carried-length}
+use Rattle.values.specs.Fits.{bytes-size, carried-length}
 
 -- A refusal has one number: 8 of a meaning, 9 of a normal form.
 abbrev Refuses : {A : Type 0} → ℕ → Outcome A → Type 0
@@ -93,7 +93,7 @@ unfolding converted
 converted-refuses f g n v = need-refuses 9 (in-range (conversion f g) v) _ (normal-refuses g n v)
 
 -- "8 where they mean nothing, then 9"
-pub bad-value : (f g : Format) (n : ℕ) (bs : Bytes) → is-done (meaning f bs) ≡ false → size-of (carried f g n bs) ≡ refused 8
+pub bad-value : (f g : Format) (n : ℕ) (bs : Bytes) → is-done (meaning f bs) ≡ false → bytes-size (carried f g n bs) ≡ refused 8
 unfolding carried
 bad-value f g n bs e = rw (meaning-refuses f bs e)
 
@@ -114,11 +114,11 @@ no-fit f g n bs e h =
     c ∙ converted-refuses f g n (value-of (meaning f bs)) (rw c at h)
 
 pub does-fit : (f g : Format) (n : ℕ) (bs : Bytes) → is-done (carried f g n bs) ≡ true
-    → size-of (carried f g n bs) ≡ done (length (bytes-of (carried f g n bs)))
+    → bytes-size (carried f g n bs) ≡ done (length (bytes-of (carried f g n bs)))
 unfolding bytes-of
 does-fit f g n bs h = by-outcome (carried f g n bs) h
   where
-    by-outcome : (o : Outcome Bytes) → is-done o ≡ true → size-of o ≡ done (length (bytes-of o))
+    by-outcome : (o : Outcome Bytes) → is-done o ≡ true → bytes-size o ≡ done (length (bytes-of o))
     by-outcome (done b) e = refl
     by-outcome (refused k) e = cc
 
@@ -174,13 +174,13 @@ word-number (number below n) v e =
     let l = leb-true n 2147483648 (p .1) in
     (ap signed-value (p .0), rw (← p .0) l)
 
-pub word-outside : (x : Value) (b : Bool) → word-of x ≡ Outside → in-range (ranged b) x ≡ false
+pub word-outside : (x : Value) (b : Bool) → word-of x ≡ Outside → in-range (range-kind b) x ≡ false
 unfolding word-of in-range
 word-outside (text t) true e = refl
 word-outside (text t) false e = refl
 word-outside (number below n) b e = beyond below b (leb-false n 2147483648 (unpicked (leb n 2147483648) _ e))
   where
-    beyond : (below b : Bool) → 2147483648 < n → in-range (ranged b) (number below n) ≡ false
+    beyond : (below b : Bool) → 2147483648 < n → in-range (range-kind b) (number below n) ≡ false
     beyond false true h = lt-leb n 2147483647 (omega arith)
     beyond false false h = lt-leb n 2147483647 (omega arith)
     beyond true true h = refl
@@ -190,12 +190,12 @@ below-is : (n : ℕ) → ltb n 2147483648 ≡ leb n 2147483647
 below-is n = by-order n 2147483648 (λ h. lt-ltb n 2147483648 h ∙ sym (le-leb n 2147483647 (omega arith))) (λ h. le-ltb n 2147483648 h ∙ sym (lt-leb n 2147483647 h))
 
 -- The ranges of a word.
-pub minus-range : (b : Bool) (n : ℕ) → n ≤ 2147483648 → not b ≡ in-range (ranged b) (number true n)
+pub minus-range : (b : Bool) (n : ℕ) → n ≤ 2147483648 → not b ≡ in-range (range-kind b) (number true n)
 unfolding in-range
 minus-range true n h = refl
 minus-range false n h = sym (le-leb n 2147483648 h)
 
-pub plus-range : (b : Bool) (n : ℕ) → ltb n 2147483648 ≡ in-range (ranged b) (number false n)
+pub plus-range : (b : Bool) (n : ℕ) → ltb n 2147483648 ≡ in-range (range-kind b) (number false n)
 unfolding in-range
 plus-range true n = below-is n
 plus-range false n = below-is n

@@ -18,8 +18,8 @@ use Rattle.words.proofs.Digits.{Below}
 use Rattle.words.proofs.Fixed.{twos-plus, twos-minus, fixed-normal}
 use Rattle.binaries.proofs.Binary.{binary-normal}
 use Rattle.decimals.specs.Decimals.{decimal-format}
-use Rattle.values.specs.Formats.{format-at, ranged}
-use Rattle.values.specs.Fits.{Asked, Carrying, carried-length}
+use Rattle.values.specs.Formats.{format-at, range-kind}
+use Rattle.values.specs.Fits.{Carriable, Carrying, carried-length}
 use Rattle.kinds.proofs.Five.{five}
 use Rattle.values.proofs.Numbered.{at-alpha, at-binary, at-fixed, at-decimal, some-size, size-253, size-29, two-four, every-low, every-high, ranged-from, ranged-to}
 use Rattle.values.proofs.Carried.{no-fit, done-bytes, every-carried, carried-size, carried-size-is, ranged-done, out-of-range, carried-range, carried-normal, word-number, word-outside}
@@ -53,7 +53,7 @@ fixed-word-is s v o e =
     rw (← q, le-leb (v .magnitude) 2147483648 (fixed-small (length s) (spelled 256 s 0) v o q))
 
 -- Every value converts: the formats are the same, or both decimal.
-module _ {from to n : ℕ} {s : Bytes} (a : Asked from to n s) (c : conversion (format-at from) (format-at to) ≡ every) where
+module _ {from to n : ℕ} {s : Bytes} (a : Carriable from to n s) (c : conversion (format-at from) (format-at to) ≡ every) where
   there-low : from < 3 → to ≡ from
   there-low h = every-low from to (a .source) (a .target) h c
 
@@ -95,13 +95,13 @@ module _ {from to n : ℕ} {s : Bytes} (a : Asked from to n s) (c : conversion (
     )
 
 -- A value that is a word, carried through it.
-module _ {from to n : ℕ} {s : Bytes} (a : Asked from to n s) (b : Bool) (c : conversion (format-at from) (format-at to) ≡ ranged b) where
+module _ {from to n : ℕ} {s : Bytes} (a : Carriable from to n s) (b : Bool) (c : conversion (format-at from) (format-at to) ≡ range-kind b) where
   pub word-source : (0 < from) × (from < 5) × (allowed (format-at from) (length s) ≡ true) × (is-done (meaning (format-at from) s) ≡ true)
   word-source = (ranged-from from to b c, a .source, a .size, a .value)
 
   pub word-beyond : word-of (value-of (meaning (format-at from) s)) ≡ Outside → is-done (carried (format-at from) (format-at to) n s) ≡ false
   word-beyond w =
-      out-of-range (format-at from) (format-at to) n s (a .value) (ranged b) c (word-outside (value-of (meaning (format-at from) s)) b w)
+      out-of-range (format-at from) (format-at to) n s (a .value) (range-kind b) c (word-outside (value-of (meaning (format-at from) s)) b w)
 
   module _ {v : Signed} (w : word-of (value-of (meaning (format-at from) s)) ≡ Number v) where
     is-word : value-of (meaning (format-at from) s) ≡ signed-value v
@@ -110,17 +110,17 @@ module _ {from to n : ℕ} {s : Bytes} (a : Asked from to n s) (b : Bool) (c : c
     pub word-asked : (v .magnitude ≤ 2147483648) × (0 < to) × (to < 5) × (allowed (format-at to) n ≡ true)
     word-asked = (word-number (value-of (meaning (format-at from) s)) v w .1, ranged-to from to b c, a .target, a .length-there)
 
-    pub word-done : (in-range (ranged b) (signed-value v) && is-done (normal (format-at to) n (signed-value v))) ≡ is-done (carried (format-at from) (format-at to) n s)
-    word-done = sym (rw is-word at (ranged-done (format-at from) (format-at to) n s (a .value) (ranged b) c))
+    pub word-done : (in-range (range-kind b) (signed-value v) && is-done (normal (format-at to) n (signed-value v))) ≡ is-done (carried (format-at from) (format-at to) n s)
+    word-done = sym (rw is-word at (ranged-done (format-at from) (format-at to) n s (a .value) (range-kind b) c))
 
     pub word-written : is-done (carried (format-at from) (format-at to) n s) ≡ true → carried (format-at from) (format-at to) n s ≡ normal (format-at to) n (signed-value v)
     word-written d =
         rw is-word at
-        (carried-normal (format-at from) (format-at to) n s (a .value) (ranged b) c
-        (carried-range (format-at from) (format-at to) n s (a .value) (ranged b) c d))
+        (carried-normal (format-at from) (format-at to) n s (a .value) (range-kind b) c
+        (carried-range (format-at from) (format-at to) n s (a .value) (range-kind b) c d))
 
 -- A value that is asked for is refused with 9, or so long as its length says.
-module _ {from to n : ℕ} {s : Bytes} (a : Asked from to n s) where
+module _ {from to n : ℕ} {s : Bytes} (a : Carriable from to n s) where
   abbrev there : Outcome Bytes
   there = carried (format-at from) (format-at to) n s
 
@@ -139,7 +139,7 @@ carrying-room {from} {to} {n} {s} {at} {room} c p =
     let q = carried-size (format-at from) (format-at to) n s (c .fits) (some-size to n (c .asked .target) (c .asked .length-there) p) in
     rw q at (c .enough)
 
-pub which : {k : Kind} → (k ≡ word) ⊎ (k ≡ natural) → (b : Bool) × (k ≡ ranged b)
+pub which : {k : Kind} → (k ≡ word) ⊎ (k ≡ natural) → (b : Bool) × (k ≡ range-kind b)
 which o = ⊎-elim (λ e. (false, e)) (λ e. (true, e)) o
 
 -- The length of a value that has one.

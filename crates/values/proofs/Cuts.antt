@@ -16,7 +16,7 @@ use Rattle.rules.specs.Lists.{Bytes, cut}
 use Rattle.rules.specs.Values.{first-value}
 use Rattle.rules.proofs.Steps.{not-done, from-done, from-need, and-right}
 use Rattle.buffer.proofs.Cases.{by-order}
-use Rattle.values.specs.Places.{Found}
+use Rattle.values.specs.Places.{Located}
 use Rattle.values.specs.declared.First.{First}
 use Rattle.values.specs.declared.First.the-variants.{Value, Refused}
 
@@ -39,10 +39,10 @@ first-own zero bs z = absurd (z refl)
 first-own (suc n) bs z = refl
 
 module _ (s : Bytes) (at n : ℕ) (z : n ≡ 0 → ⊥) (h : at ≤ length s) where
-  pub own-short : length s - at < n → Found s at (first-value n (drop at s)) (Refused 7)
+  pub own-short : length s - at < n → Located s at (first-value n (drop at s)) (Refused 7)
   own-short l = record { answer = sym (first-own n (drop at s) z ∙ cut-short 7 n (drop at s) (rw length-drop l)); place = tt }
 
-  pub own-found : n ≤ length s - at → Found s at (first-value n (drop at s)) (Value at (at + n))
+  pub own-found : n ≤ length s - at → Located s at (first-value n (drop at s)) (Value at (at + n))
   own-found l = record {
     answer =
         let e : at + n - at ≡ n = omega arith in
@@ -59,27 +59,27 @@ first-counted : (n : ℕ) (bs : Bytes) → first-value 0 (n ∷ bs) ≡ (need (l
 unfolding first-value
 first-counted n bs = refl
 
-pub none-left : (s : Bytes) (at : ℕ) → length s ≤ at → Found s at (first-value 0 (drop at s)) (Refused 7)
+pub none-left : (s : Bytes) (at : ℕ) → length s ≤ at → Located s at (first-value 0 (drop at s)) (Refused 7)
 none-left s at h = record { answer = sym (rw (drop-of-length-le s h) first-nil); place = tt }
 
 module _ (s : Bytes) (at n : ℕ) (h : at < length s) (e : n ≡ getD s at 0) where
   here : first-value 0 (drop at s) ≡ (need (leb 1 n && leb n 254) 8 >>= λ _. cut 7 (n - 1) (drop (at + 1) s))
   here = rw (add-one, drop-cons s at 0, e) (first-counted (getD s at 0) (drop (suc at) s))
 
-  pub bad-zero : n ≡ 0 → Found s at (first-value 0 (drop at s)) (Refused 8)
+  pub bad-zero : n ≡ 0 → Located s at (first-value 0 (drop at s)) (Refused 8)
   bad-zero q = record { answer = sym (here ∙ rw q); place = tt }
 
-  pub bad-255 : n ≡ 255 → Found s at (first-value 0 (drop at s)) (Refused 8)
+  pub bad-255 : n ≡ 255 → Located s at (first-value 0 (drop at s)) (Refused 8)
   bad-255 q = record { answer = sym (here ∙ rw q); place = tt }
 
   module _ (lo : 1 ≤ n) (hi : n ≤ 254) where
     good : first-value 0 (drop at s) ≡ cut 7 (n - 1) (drop (at + 1) s)
     good = here ∙ rw (le-leb 1 n lo, le-leb n 254 hi)
 
-    pub counted-short : length s - at < n → Found s at (first-value 0 (drop at s)) (Refused 7)
+    pub counted-short : length s - at < n → Located s at (first-value 0 (drop at s)) (Refused 7)
     counted-short l = record { answer = sym (good ∙ cut-short 7 (n - 1) (drop (at + 1) s) (rw length-drop (omega arith))); place = tt }
 
-    pub counted-found : n ≤ length s - at → Found s at (first-value 0 (drop at s)) (Value (at + 1) (at + n))
+    pub counted-found : n ≤ length s - at → Located s at (first-value 0 (drop at s)) (Value (at + 1) (at + n))
     counted-found l = record {
       answer =
           let p : at + n - (at + 1) ≡ n - 1 = omega arith in
@@ -89,7 +89,7 @@ module _ (s : Bytes) (at n : ℕ) (h : at < length s) (e : n ≡ getD s at 0) wh
     }
 
 -- A length given as 0.
-pub at-zero : (s : Bytes) (at size : ℕ) (r : First) → size ≡ 0 → Found s at (first-value 0 (drop at s)) r → Found s at (first-value size (drop at s)) r
+pub at-zero : (s : Bytes) (at size : ℕ) (r : First) → size ≡ 0 → Located s at (first-value 0 (drop at s)) r → Located s at (first-value size (drop at s)) r
 at-zero s at size r z f = rw z f
 
 -- The content of the first value has its length, or at most 253 bytes behind a length byte.
@@ -109,6 +109,6 @@ first-content zero (n ∷ bs) v rest e =
     inl (refl, omega arith)
 first-content (suc size) bs v rest e = inr (sym (cut-length 7 (suc size) bs v rest e))
 
-pub found-content : (s : Bytes) (at size from next : ℕ) → Found s at (first-value size (drop at s)) (Value from next)
+pub found-content : (s : Bytes) (at size from next : ℕ) → Located s at (first-value size (drop at s)) (Value from next)
     → ((size ≡ 0) × (length (take (next - from) (drop from s)) ≤ 253)) ⊎ (size ≡ length (take (next - from) (drop from s)))
 found-content s at size from next f = first-content size (drop at s) (take (next - from) (drop from s)) (drop next s) (sym (f .answer))

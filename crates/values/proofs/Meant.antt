@@ -18,7 +18,7 @@ use Rattle.buffer.proofs.Cases.{by-order}
 use Rattle.words.proofs.Digits.{Below, length-digits, spelled-digits, spelled-below}
 use Rattle.words.proofs.Fixed.{twos-plus, twos-minus}
 use Rattle.words.proofs.NormalForm.{is-normal-form, normal-form-is}
-use Rattle.decimals.specs.Decimals.{decimal-format, sign-of, is-minus, magnitude-of, places}
+use Rattle.decimals.specs.Decimals.{decimal-format, sign-half, is-minus, magnitude-of, places}
 use Rattle.decimals.proofs.Normal.{normal-fits, normal-done}
 use Rattle.decimals.proofs.Sound.{sound}
 use Rattle.values.proofs.Strip.{strip-blank, strip-again}
@@ -122,7 +122,7 @@ fixed-meant n x o h =
 
 minus-above : (p : Bool) (bs : Bytes) → is-minus p bs ≡ true → 0 < magnitude-of p bs
 unfolding is-minus
-minus-above p bs e = ltb-true 0 (magnitude-of p bs) (and-second (accepted-minus (sign-of p bs)) (ltb 0 (magnitude-of p bs)) e)
+minus-above p bs e = ltb-true 0 (magnitude-of p bs) (and-second (accepted-minus (sign-half p bs)) (ltb 0 (magnitude-of p bs)) e)
 
 decimal-meant : (p : Bool) (bs : Bytes) (v : Value) → meaning (decimal-format p) bs ≡ done v → Meant v
 decimal-meant p bs v e =

@@ -11,7 +11,7 @@ use Rattle.rules.specs.Values.{Format, alpha, binary, fixed, packed, unpacked, 
 use Rattle.rules.proofs.Steps.{by-test}
 use Rattle.decimals.specs.Decimals.{decimal-format}
 use Rattle.kinds.specs.Formats.{is-every, is-natural}
-use Rattle.values.specs.Formats.{format-at, ranged}
+use Rattle.values.specs.Formats.{format-at, range-kind}
 use Rattle.kinds.proofs.Five.{five}
 use Rattle.kinds.proofs.Constants.{least, greatest, allowed-is}
 
@@ -133,7 +133,7 @@ to-alpha fixed = refl
 to-alpha packed = refl
 to-alpha unpacked = refl
 
-not-ranged : (k : Kind) (b : Bool) → through-word k ≡ false → k ≡ ranged b → ⊥
+not-ranged : (k : Kind) (b : Bool) → through-word k ≡ false → k ≡ range-kind b → ⊥
 unfolding through-word
 not-ranged k true h e = false≢true (sym h ∙ ap through-word e)
 not-ranged k false h e = false≢true (sym h ∙ ap through-word e)
@@ -141,7 +141,7 @@ not-ranged k false h e = false≢true (sym h ∙ ap through-word e)
 above-zero : (n : ℕ) → (n ≡ 0 → ⊥) → 0 < n
 above-zero n z = omega (arith, z)
 
-module _ (from to : ℕ) (b : Bool) (e : conversion (format-at from) (format-at to) ≡ ranged b) where
+module _ (from to : ℕ) (b : Bool) (e : conversion (format-at from) (format-at to) ≡ range-kind b) where
   pub ranged-from : 0 < from
   ranged-from = above-zero from (λ z. not-ranged _ b (from-alpha (format-at to)) (rw (at-alpha from z) at e))
 
@@ -164,12 +164,12 @@ every-kind every e = refl
 every-kind word e = absurd (false≢true e)
 every-kind natural e = absurd (false≢true e)
 
-ranged-by : (k : Kind) → elim k [ never ↦ false | every ↦ true | word ↦ true | natural ↦ true ] ≡ true → is-every k ≡ false → k ≡ ranged (is-natural k)
+ranged-by : (k : Kind) → elim k [ never ↦ false | every ↦ true | word ↦ true | natural ↦ true ] ≡ true → is-every k ≡ false → k ≡ range-kind (is-natural k)
 ranged-by never c e = absurd (false≢true c)
 ranged-by every c e = absurd (false≢true (sym e))
 ranged-by word c e = refl
 ranged-by natural c e = refl
 
-pub ranged-kind : (f g : Format) → converts f g ≡ true → is-every (conversion f g) ≡ false → conversion f g ≡ ranged (is-natural (conversion f g))
+pub ranged-kind : (f g : Format) → converts f g ≡ true → is-every (conversion f g) ≡ false → conversion f g ≡ range-kind (is-natural (conversion f g))
 unfolding converts
 ranged-kind f g c e = ranged-by (conversion f g) c e

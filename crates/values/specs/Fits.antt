@@ -11,9 +11,9 @@ use Rattle.values.specs.declared.Fit.{Fit}
 use Rattle.values.specs.declared.Fit.the-variants.{Bytes as Size, Refused}
 
 -- The length of the bytes, or the refusal.
-abbrev pub size-of : Outcome Bytes → Outcome ℕ
-size-of (done b) = done (length b)
-size-of (refused k) = refused k
+abbrev pub bytes-size : Outcome Bytes → Outcome ℕ
+bytes-size (done b) = done (length b)
+bytes-size (refused k) = refused k
 
 abbrev pub fitted : Fit → Outcome ℕ
 fitted (Size n) = done n
@@ -25,7 +25,7 @@ carried-length zero s = suc (length (strip s))
 carried-length (suc n) s = suc n
 
 -- s is a value of a format, to be carried to another at length n.
-pub record Asked (from to n : ℕ) (s : Bytes) : Type 0 where
+pub record Carriable (from to n : ℕ) (s : Bytes) : Type 0 where
   pub source : from < 5
   pub target : to < 5
   pub size : allowed (format-at from) (length s) ≡ true
@@ -34,6 +34,6 @@ pub record Asked (from to n : ℕ) (s : Bytes) : Type 0 where
 
 -- It is carried, and there is room for it at a place.
 pub record Carrying (from to n : ℕ) (s : Bytes) (at room : ℕ) : Type 0 where
-  pub asked : Asked from to n s
+  pub asked : Carriable from to n s
   pub fits : is-done (carried (format-at from) (format-at to) n s) ≡ true
   pub enough : at + length (bytes-of (carried (format-at from) (format-at to) n s)) ≤ room

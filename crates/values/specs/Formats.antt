@@ -6,6 +6,6 @@ unfoldable pub use Rattle.kinds.specs.Formats.{format-at}
 pub use Rattle.kinds.specs.Formats.{kind-of}
 
 -- The conversion ranges: of words not below zero, and of words.
-abbrev pub ranged : Bool → Rules.Kind
-ranged true = natural
-ranged false = word
+abbrev pub range-kind : Bool → Rules.Kind
+range-kind true = natural
+range-kind false = word

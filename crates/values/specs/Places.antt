@@ -16,6 +16,6 @@ abbrev pub inside : Bytes → ℕ → First → Type 0
 inside s at (Value from next) = (at ≤ from) × (from ≤ next) × (next ≤ length s)
 inside s at (Refused n) = Unit {0}
 
-pub record Found (s : Bytes) (at : ℕ) (o : Outcome (Bytes × Bytes)) (r : First) : Type 0 where
+pub record Located (s : Bytes) (at : ℕ) (o : Outcome (Bytes × Bytes)) (r : First) : Type 0 where
   pub answer : found s r ≡ o
   pub place : inside s at r

@@ -9,8 +9,8 @@ ghost use Rattle.rules.specs.Lists.{bytes-of};
 ghost use Rattle.rules.specs.Values.{every, word, natural, allowed, normal, conversion, in-range, carried};
 ghost use Rattle.words.specs.Words.{signed-value};
 ghost use Rattle.buffer.specs.Splice.{splice};
-ghost use Rattle.values.specs.Formats.{format-at, ranged};
-ghost use Rattle.values.specs.Fits.{Asked, Carrying, carried-length};
+ghost use Rattle.values.specs.Formats.{format-at, range-kind};
+ghost use Rattle.values.specs.Fits.{Carriable, Carrying, carried-length};
 use super::numbers;
 use super::texts;
 use kinds::ALPHA;
@@ -23,7 +23,7 @@ use words::Word;
 
 // Whether s fits, where every value converts.
 pub fn every_fits(s: &[u8], from: usize, to: usize, n: usize) -> bool
-    requires { ⌜ Asked from to n (now s) × (conversion (format-at from) (format-at to) ≡ every) ⌝ }
+    requires { ⌜ Carriable from to n (now s) × (conversion (format-at from) (format-at to) ≡ every) ⌝ }
     ensures { λ r. ⌜ r ≡ is-done (carried (format-at from) (format-at to) n (now (s .entry))) ⌝ }
 {
     if from == ALPHA {
@@ -41,7 +41,7 @@ pub fn every_fits(s: &[u8], from: usize, to: usize, n: usize) -> bool
 // Whether v lies in a conversion range: that of words, or of those not below zero.
 fn within_range(v: Signed, natural: bool) -> bool
     requires { ⌜ v .magnitude ≤ 2147483648 ⌝ }
-    ensures { λ r. ⌜ r ≡ in-range (ranged natural) (signed-value v) ⌝ }
+    ensures { λ r. ⌜ r ≡ in-range (range-kind natural) (signed-value v) ⌝ }
 {
     if v.negative {
         return !natural;
@@ -52,7 +52,7 @@ fn within_range(v: Signed, natural: bool) -> bool
 // Whether v converts in a range of words, and fits.
 pub fn word_fits(v: Signed, to: usize, n: usize, natural: bool) -> bool
     requires { ⌜ (v .magnitude ≤ 2147483648) × (0 < to) × (to < 5) × (allowed (format-at to) n ≡ true) ⌝ }
-    ensures { λ r. ⌜ r ≡ (in-range (ranged natural) (signed-value v) && is-done (normal (format-at to) n (signed-value v))) ⌝ }
+    ensures { λ r. ⌜ r ≡ (in-range (range-kind natural) (signed-value v) && is-done (normal (format-at to) n (signed-value v))) ⌝ }
 {
     if within_range(v, natural) {
         return numbers::fits_word(v, to, n);
@@ -62,7 +62,7 @@ pub fn word_fits(v: Signed, to: usize, n: usize, natural: bool) -> bool
 
 // Whether s fits, where a range of words converts.
 fn ranged_fits(s: &[u8], from: usize, to: usize, n: usize, natural: bool) -> bool
-    requires { ⌜ Asked from to n (now s) × (conversion (format-at from) (format-at to) ≡ ranged natural) ⌝ }
+    requires { ⌜ Carriable from to n (now s) × (conversion (format-at from) (format-at to) ≡ range-kind natural) ⌝ }
     ensures { λ r. ⌜ r ≡ is-done (carried (format-at from) (format-at to) n (now (s .entry))) ⌝ }
 {
     let word = numbers::to_word(s, from);
@@ -74,7 +74,7 @@ fn ranged_fits(s: &[u8], from: usize, to: usize, n: usize, natural: bool) -> boo
 
 // Whether the value s is carried.
 pub fn carries(s: &[u8], from: usize, to: usize, n: usize) -> bool
-    requires { ⌜ Asked from to n (now s) ⌝ }
+    requires { ⌜ Carriable from to n (now s) ⌝ }
     ensures { λ r. ⌜ r ≡ is-done (carried (format-at from) (format-at to) n (now (s .entry))) ⌝ }
 {
     let kind = kinds::conversion(from, to);

@@ -11,9 +11,9 @@ ghost use Rattle.rules.specs.Values.{packed, first-value, null, in-normal-form,
 ghost use Rattle.buffer.specs.Splice.{splice};
 ghost use Rattle.rules.specs.Values as Rules;
 ghost use Rattle.values.specs.Formats.{format-at};
-ghost use Rattle.values.specs.Places.{Found};
+ghost use Rattle.values.specs.Places.{Located};
 ghost use Rattle.values.specs.Normals.{Any-normal};
-ghost use Rattle.values.specs.Fits.{fitted, size-of};
+ghost use Rattle.values.specs.Fits.{fitted, bytes-size};
 
 pub mod carrying;
 pub mod numbers;
@@ -39,7 +39,7 @@ fn wide(x: u8) -> usize
 // The first value of length 0 from at on.
 fn first_variable(s: &[u8], at: usize) -> First
     requires { ⌜ at ≤ length (now s) ⌝ }
-    ensures { λ r. ⌜ Found (now (s .entry)) at (first-value 0 (drop at (now (s .entry)))) r ⌝ }
+    ensures { λ r. ⌜ Located (now (s .entry)) at (first-value 0 (drop at (now (s .entry)))) r ⌝ }
 {
     if at == s.len() {
         return First::Refused(7);
@@ -60,7 +60,7 @@ fn first_variable(s: &[u8], at: usize) -> First
 // The first value of a length from at on.
 pub fn first_value(s: &[u8], at: usize, size: usize) -> First
     requires { ⌜ at ≤ length (now s) ⌝ }
-    ensures { λ r. ⌜ Found (now (s .entry)) at (first-value size (drop at (now (s .entry)))) r ⌝ }
+    ensures { λ r. ⌜ Located (now (s .entry)) at (first-value size (drop at (now (s .entry)))) r ⌝ }
 {
     if size == 0 {
         return first_variable(s, at);
@@ -179,7 +179,7 @@ pub enum Fit {
 // What the content s of a value gives at another format and length n.
 pub fn fits(s: &[u8], from: usize, to: usize, n: usize) -> Fit
     requires { ⌜ (from < 5) × (to < 5) × (Rules.allowed (format-at from) (length (now s)) ≡ true) × (Rules.allowed (format-at to) n ≡ true) ⌝ }
-    ensures { λ r. ⌜ fitted r ≡ size-of (carried (format-at from) (format-at to) n (now (s .entry))) ⌝ }
+    ensures { λ r. ⌜ fitted r ≡ bytes-size (carried (format-at from) (format-at to) n (now (s .entry))) ⌝ }
 {
     if numbers::is_value(s, from) {
         if carrying::carries(s, from, to, n) {

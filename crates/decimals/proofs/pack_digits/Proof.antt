@@ -4,7 +4,7 @@ use mathlib.Core.Bool.{true, false}
 use Prim.Native.Nat.{_-_, _/_, _≤_}
 use native.Mathlib.Omega.{arith}
 use lib.ListN.{length}
-use Rattle.decimals.specs.Decimals.{magnitude-of, before, places, byte-base}
+use Rattle.decimals.specs.Decimals.{magnitude-of, first-spelled, places, byte-base}
 use Rattle.decimals.proofs.Spelling.{unpacked-but-one, before-two-less}
 use Rattle.decimals.proofs.Written.{Writing, writing-start, writing-turn, writing-end}
 use borrow.Author.Needs.{needs}
@@ -12,7 +12,7 @@ use Rattle.decimals.proofs.pack_digits.Statement.{statement}
 use Rattle.decimals.proofs.pack_digits.Tie as tie
 
 abbrev Inv-loop : tie.InvT-loop
-Inv-loop s n out₀ at j₀ i₀ out j i = Writing true (n - 1) (magnitude-of false s / 10) at out₀ out (before false s j) i × (j ≤ length s)
+Inv-loop s n out₀ at j₀ i₀ out j i = Writing true (n - 1) (magnitude-of false s / 10) at out₀ out (first-spelled false s j) i × (j ≤ length s)
 
 abbrev μ-loop : tie.MeasureT-loop
 μ-loop s n out₀ at j₀ i₀ out j i = i

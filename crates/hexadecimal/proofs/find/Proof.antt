@@ -3,14 +3,14 @@ use Prim.Native.Nat.{_+_, _-_, _≤_}
 use mathlib.Core.Path.{_≡_, refl}
 use native.Mathlib.Omega.{arith}
 use lib.ListN.{length, drop}
-use Rattle.hexadecimal.specs.Text.{before}
+use Rattle.hexadecimal.specs.Text.{upto-first}
 use Rattle.hexadecimal.proofs.Scanning.{before-end, before-here, before-later}
 use borrow.Author.Needs.{needs}
 use Rattle.hexadecimal.proofs.find.Statement.{statement}
 use Rattle.hexadecimal.proofs.find.Tie as tie
 
 abbrev Inv-loop : tie.InvT-loop
-Inv-loop s at b i₀ i = (at ≤ i) × (i ≤ length s) × (i + before b (drop i s) ≡ at + before b (drop at s))
+Inv-loop s at b i₀ i = (at ≤ i) × (i ≤ length s) × (i + upto-first b (drop i s) ≡ at + upto-first b (drop at s))
 
 abbrev μ-loop : tie.MeasureT-loop
 μ-loop s at b i₀ i = length s - i

@@ -3,14 +3,14 @@ use Prim.Native.Nat.{_-_, _≤_}
 use mathlib.Core.Path.{_≡_, refl, sym, _∙_}
 use native.Mathlib.Omega.{arith}
 use lib.ListN.{length, drop}
-use Rattle.hexadecimal.specs.Text.{all-digits}
+use Rattle.hexadecimal.specs.Text.{all-of-base}
 use Rattle.hexadecimal.proofs.Scanning.{digits-end, digits-stop, digits-turn}
 use borrow.Author.Needs.{needs}
 use Rattle.hexadecimal.proofs.has_digits.Statement.{statement}
 use Rattle.hexadecimal.proofs.has_digits.Tie as tie
 
 abbrev Inv-loop : tie.InvT-loop
-Inv-loop base w i₀ i = (i ≤ length w) × (all-digits base (drop i w) ≡ all-digits base w)
+Inv-loop base w i₀ i = (i ≤ length w) × (all-of-base base (drop i w) ≡ all-of-base base w)
 
 abbrev μ-loop : tie.MeasureT-loop
 μ-loop base w i₀ i = length w - i

@@ -2,7 +2,7 @@
 use mathlib.Core.List.{[], _∷_}
 use native.Mathlib.Omega.{arith}
 use lib.ListN.{length-append}
-use Rattle.hexadecimal.specs.Text.{decimal}
+use Rattle.hexadecimal.specs.Text.{decimal-word}
 use Rattle.hexadecimal.proofs.Numbers.{decimal-short}
 use Rattle.hexadecimal.proofs.Ways.{push}
 use borrow.Author.Needs.{needs}
@@ -29,7 +29,7 @@ returns : tie.Need-returns
 returns c =
     let p = c .before .before in
     let s = p .before .before .before in
-    let n = decimal (s .args .n) in
+    let n = decimal-word (s .args .n) in
     let d = decimal-short (s .args .n) (s .pre .0) in
     let e = p .put-number .ensures in
     (omega (arith, e .0, length-append n (s .args .behind ∷ [])), push (s .args .at) n (s .args .out .now) _ _ (s .args .behind) (e .1) (e .0) (omega (arith, e .0)), omega (arith, e .0))

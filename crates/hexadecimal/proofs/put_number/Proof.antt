@@ -10,7 +10,7 @@ use Rattle.hexadecimal.proofs.put_number.Statement.{statement}
 use Rattle.hexadecimal.proofs.put_number.Tie as tie
 
 abbrev Inv-loop : tie.InvT-loop
-Inv-loop n out₀ at k i₀ rest₀ out i rest = (k ≡ Text.places n) × (k ≤ 6) × Left n (Text.places n) i rest × Down at k (Text.decimal n) out₀ out i
+Inv-loop n out₀ at k i₀ rest₀ out i rest = (k ≡ Text.decimal-places n) × (k ≤ 6) × Left n (Text.decimal-places n) i rest × Down at k (Text.decimal-word n) out₀ out i
 
 abbrev μ-loop : tie.MeasureT-loop
 μ-loop n out₀ at k i₀ rest₀ out i rest = i
@@ -48,7 +48,7 @@ loop-again c =
     let l = c .before .before .loop in
     let n = c .before .before .before .before .before .args .n in
     let t = c .before .loop-test .taken in
-    (l .inv .0, l .inv .1, left-turn n (Text.places n) (l .i) (l .rest) t (l .inv .2), down-turn (l .inv .3) t refl (c .glyph-of .ensures ∙ left-digit n (l .i) (l .rest) t (l .inv .2)))
+    (l .inv .0, l .inv .1, left-turn n (Text.decimal-places n) (l .i) (l .rest) t (l .inv .2), down-turn (l .inv .3) t refl (c .glyph-of .ensures ∙ left-digit n (l .i) (l .rest) t (l .inv .2)))
 
 add-result : tie.Need-add-result Inv-loop μ-loop
 add-result c = search needs

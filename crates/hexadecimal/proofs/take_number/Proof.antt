@@ -1,13 +1,13 @@
 -- `hexadecimal::take_number` meets its contract: the place lies behind the line, or the rest of the line is the word. Assumes nothing.
 use mathlib.Core.Path.{_∙_, sym, ap}
-use Rattle.hexadecimal.specs.Answers.{number-of}
+use Rattle.hexadecimal.specs.Answers.{number-read}
 use Rattle.hexadecimal.proofs.Taking.{number-beyond, number-here}
 use borrow.Author.Needs.{needs}
 use Rattle.hexadecimal.proofs.take_number.Statement.{statement}
 use Rattle.hexadecimal.proofs.take_number.Tie as tie
 
 returns : tie.Need-returns
-returns c = ap number-of (sym (number-beyond _ _ (c .if1 .taken)))
+returns c = ap number-read (sym (number-beyond _ _ (c .if1 .taken)))
 
 sub-read-number : tie.Need-sub-read-number
 sub-read-number c = search needs
@@ -22,7 +22,7 @@ read-number-requires : tie.Need-read-number-requires
 read-number-requires c κs = search needs
 
 returns-2 : tie.Need-returns-2
-returns-2 c = c .read-number .ensures ∙ ap number-of (sym (number-here _ _ (c .before .before .if1 .left)))
+returns-2 c = c .read-number .ensures ∙ ap number-read (sym (number-here _ _ (c .before .before .if1 .left)))
 
 pub take-number-spec : {M : Type 1} → statement M
 take-number-spec =

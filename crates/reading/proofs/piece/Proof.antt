@@ -28,7 +28,7 @@ piece-inside-requires c κs =
       subst (λ (j : ℕ). g < j) (sym (way .entry)) (home-before es (a .s .first) g (held .begins) home),
       omega (arith, way .entry, held .ordered),
       held .upto,
-      held .together (s .pre .2) g home .0,
+      held .one-group (s .pre .2) g home .0,
       s .pre .4,
       way .leads,
       inside,

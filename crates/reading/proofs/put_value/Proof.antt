@@ -1,14 +1,14 @@
 -- `reading::put_value` meets its contract: A converts with A alone, another format by the kind of the conversion. Assumes nothing.
 use mathlib.Core.Path.{sym, _∙_, ap}
 use Rattle.kinds.specs.Formats.{format-at, is-every, is-natural}
-use Rattle.values.specs.Formats.{ranged}
-use Rattle.values.specs.Fits.{Asked}
+use Rattle.values.specs.Formats.{range-kind}
+use Rattle.values.specs.Fits.{Carriable}
 use Rattle.values.proofs.Numbered.{at-alpha, alpha-alone, size-253, every-kind, ranged-kind}
 use borrow.Author.Needs.{needs}
 use Rattle.reading.proofs.put_value.Statement.{statement}
 use Rattle.reading.proofs.put_value.Tie as tie
 
-asked : (c : tie.Start) → Asked (c .args .own) (c .args .format) (c .args .size) (c .args .s .now)
+asked : (c : tie.Start) → Carriable (c .args .own) (c .args .format) (c .args .size) (c .args .s .now)
 asked c = record { source = c .pre .0; target = c .pre .1; size = c .pre .2; length-there = c .pre .3; value = c .pre .4 }
 
 put-alpha-requires : tie.Need-put-alpha-requires
@@ -56,7 +56,7 @@ put-word-requires c κs =
     let a = k .before .before .before .before in
     let e = ap is-every (sym (k .conversion .ensures)) ∙ sym (i .before .is-every .ensures) ∙ i .if2 .left in
     let r = ranged-kind (format-at (a .args .own)) (format-at (a .args .format)) (a .pre .5) e in
-    (asked a, r ∙ ap ranged (ap is-natural (sym (k .conversion .ensures)) ∙ sym (n .is-natural .ensures)), a .pre .6, a .pre .7)
+    (asked a, r ∙ ap range-kind (ap is-natural (sym (k .conversion .ensures)) ∙ sym (n .is-natural .ensures)), a .pre .6, a .pre .7)
 
 same-length-3 : tie.Need-same-length-3
 same-length-3 c = search needs

@@ -2,7 +2,7 @@
 use mathlib.Core.Path.{sym, ap, _∙_}
 use Rattle.rules.specs.Outcome.{done}
 use Rattle.values.specs.Formats.{format-at}
-use Rattle.values.specs.Fits.{size-of}
+use Rattle.values.specs.Fits.{bytes-size}
 use Rattle.values.proofs.Numbered.{size-253}
 use Rattle.values.proofs.Carried.{bad-value, no-fit, does-fit, carried-size-is}
 use borrow.Author.Needs.{needs}
@@ -34,7 +34,7 @@ returns-2 c =
     let k = c .before in
     let v = k .before .before in
     let a = v .before .before in
-    sym (ap size-of (no-fit (format-at (a .args .from)) (format-at (a .args .to)) (a .args .n) (a .args .s .now) (sym (v .is-value .ensures) ∙ k .before .if1 .taken) (sym (k .carries .ensures) ∙ c .if2 .left)))
+    sym (ap bytes-size (no-fit (format-at (a .args .from)) (format-at (a .args .to)) (a .args .n) (a .args .s .now) (sym (v .is-value .ensures) ∙ k .before .if1 .taken) (sym (k .carries .ensures) ∙ c .if2 .left)))
 
 returns-3 : tie.Need-returns-3
 returns-3 c =

@@ -8,7 +8,7 @@ use Rattle.rules.specs.Record.{each, stored-cell}
 use Rattle.tables.specs.Entries.{entries-of}
 use Rattle.records.specs.Where.{fields-of}
 use Rattle.records.specs.Walk.{rest-of, Walked}
-use Rattle.records.specs.declared.Step.the-variants.{At}
+use Rattle.records.specs.declared.Reach.the-variants.{At}
 use Rattle.records.proofs.Skips.{fields-skipped}
 use borrow.Author.Needs.{needs}
 use Rattle.records.proofs.places.place_in.Statement.{statement}
