@@ -14,7 +14,7 @@ use Rattle.rules.specs.Table.{Entry, is-inside, parts}
 use Rattle.rules.specs.Record.{stored}
 use Rattle.buffer.proofs.Cases.{by-order}
 use Rattle.tables.specs.Entries.{blank}
-use Rattle.records.specs.Walk.{Walked, behind, is-headed, directory, occurrence, rows-of, Kept, Rows, Checked}
+use Rattle.records.specs.Walk.{Walked, behind, is-headed, directory, occurrence, rows-of, Kept, Rows, Checked, greatest-byte}
 use Rattle.records.specs.declared.Reach.{Reach}
 use Rattle.records.specs.declared.Reach.the-variants.{At, Bad}
 use Rattle.records.proofs.Entries.{never}
@@ -32,7 +32,7 @@ no-head es b places ok h k = refuses es b places ok (stored-headless (parts es) 
 pub record Rowing (es : List Entry) (b : Bytes) (places : List ℕ) (i kept : ℕ) : Type 0 where
   pub long : length places ≡ directory
   pub least : 128 ≤ kept
-  pub most : kept ≤ 128 + i * 255
+  pub most : kept ≤ 128 + i * greatest-byte
   pub low : (g : ℕ) → g < i → 128 ≤ getD places (64 + g) 0
   pub high : (g : ℕ) → g < i → getD places (64 + g) 0 + rows-of (getD es g blank .what) (getD b (getD places g 0) 0) ≤ kept
   pub rows : (g : ℕ) → g < i → Rows es b places g
@@ -75,7 +75,7 @@ module _ {es : List Entry} {b : Bytes} {places : List ℕ} {i kept : ℕ} (l : R
   new-rows : Rows es b after i
   new-rows = rw (new, new-first) (k .rows)
 
-  pub rowed : {next : ℕ} → next ≡ kept + rows-of (getD es i blank .what) (getD b p 0) → next ≤ kept + 255 → Rowing es b after (i + 1) next
+  pub rowed : {next : ℕ} → next ≡ kept + rows-of (getD es i blank .what) (getD b p 0) → next ≤ kept + greatest-byte → Rowing es b after (i + 1) next
   rowed q h = record {
     long = k .long ∙ long-set places i p (64 + i) kept ∙ l .long;
     least = omega (arith, l .least, q);

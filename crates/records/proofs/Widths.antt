@@ -18,10 +18,12 @@ use Rattle.tables.specs.declared.Found.the-variants.{At, Nothing}
 use Rattle.records.specs.Where.{field-of, fields-of}
 use Rattle.records.specs.Paths.{lengths, Width}
 use Rattle.records.proofs.Entries.{never}
+use Rattle.rules.specs.Limits.{most-entries}
+use Rattle.records.specs.Walk.{greatest-byte}
 use Rattle.records.proofs.EmptyRows.{row-group}
 
 -- One entry, by the numbers that the code has of it.
-pub width-group : (n : ℕ) (w : What) → format-number w ≡ 5 → Width (field-of n w) 255 (At 0)
+pub width-group : (n : ℕ) (w : What) → format-number w ≡ 5 → Width (field-of n w) greatest-byte (At 0)
 unfolding field-of all lengths
 width-group n w h = rw (row-group w h) (record { plains = refl; width = refl }, omega arith)
 
@@ -35,7 +37,7 @@ unfolding field-of all plain
 width-none n (field f s mu) g h z = rw (h, z) refl
 width-none n (group p) g h z = absurd (g refl)
 
-pub width-plain : (n : ℕ) (w : What) → (format-number w ≡ 5 → ⊥) → is-multiple w ≡ false → 0 < size-of w → size-of w ≤ 255 → Width (field-of n w) 255 (At (size-of w))
+pub width-plain : (n : ℕ) (w : What) → (format-number w ≡ 5 → ⊥) → is-multiple w ≡ false → 0 < size-of w → size-of w ≤ greatest-byte → Width (field-of n w) greatest-byte (At (size-of w))
 unfolding field-of all plain lengths
 width-plain n (field f s mu) g h z m = (record { plains = rw (h, le-leb 1 s z) refl; width = omega arith }, m)
 width-plain n (group p) g h z m = absurd (g refl)
@@ -60,7 +62,7 @@ pub record Adding (es : List Entry) (first end i w : ℕ) : Type 0 where
   pub upto : i ≤ end
   pub plains : all plain (fields-of (slice i end es)) ≡ all plain (fields-of (slice first end es))
   pub width : w + lengths (fields-of (slice i end es)) ≡ lengths (fields-of (slice first end es))
-  pub most : w ≤ i * 255
+  pub most : w ≤ i * greatest-byte
 
 pub adding : (es : List Entry) (first end : ℕ) → first ≤ end → Adding es first end first 0
 adding es first end h = record { upto = h; plains = refl; width = zero-add _; most = omega arith }
@@ -71,7 +73,7 @@ module _ {es : List Entry} {first end i w : ℕ} (l : Adding es first end i w) w
     unfolding fields-of
     here = rw (add-one i, slice-cons i end es d less most) refl
 
-    pub add-on : (r : Found) → Width (field-of (getD es i d .name) (getD es i d .what)) 255 r → {n : ℕ} → r ≡ At n → Adding es first end (i + 1) (w + n)
+    pub add-on : (r : Found) → Width (field-of (getD es i d .name) (getD es i d .what)) greatest-byte r → {n : ℕ} → r ≡ At n → Adding es first end (i + 1) (w + n)
     add-on r one {n} q =
         let x = rw q at one in
         let own = field-of (getD es i d .name) (getD es i d .what) in
@@ -83,13 +85,13 @@ module _ {es : List Entry} {first end i w : ℕ} (l : Adding es first end i w) w
           most = omega (arith, l .most, x .1);
         }
 
-    pub add-off : (r : Found) → Width (field-of (getD es i d .name) (getD es i d .what)) 255 r → r ≡ Nothing → all plain (fields-of (slice first end es)) ≡ false
+    pub add-off : (r : Found) → Width (field-of (getD es i d .name) (getD es i d .what)) greatest-byte r → r ≡ Nothing → all plain (fields-of (slice first end es)) ≡ false
     add-off r one q =
         let own = field-of (getD es i d .name) (getD es i d .what) in
         let rest = fields-of (slice (i + 1) end es) in
         sym (l .plains) ∙ ap (all plain) here ∙ plains-append own rest ∙ ap (λ (t : Bool). t && all plain rest) (rw q at one)
 
-  pub added : end ≤ i → end ≤ 64 → Width (fields-of (slice first end es)) 16320 (At w)
+  pub added : end ≤ i → end ≤ 64 → Width (fields-of (slice first end es)) (most-entries * greatest-byte) (At w)
   unfolding fields-of all lengths
   added h k =
       let z : i ≡ end = omega (arith, l .upto) in

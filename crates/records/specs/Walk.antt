@@ -69,6 +69,13 @@ is-headed b = leb (length b) longest-record && same (take 5 b) record-head
 abbrev pub directory : ℕ
 directory = 640
 
+-- Each is kept in two bytes; a count and a standard length are one byte.
+abbrev pub greatest-kept : ℕ
+greatest-kept = 65535
+
+abbrev pub greatest-byte : ℕ
+greatest-byte = 255
+
 -- An occurrence of the periodic group that entry g is; and how many of them an entry has, by the byte at its place.
 unfoldable pub occurrence : List Entry → ℕ → Reader Occurrence
 occurrence es g = each stored-cell (fields-of (slice (g + 1) (group-end es g) es))

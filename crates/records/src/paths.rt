@@ -1,12 +1,14 @@
 // How a field is reached in a record, as far as the table tells it.
 ghost use mathlib.Core.Path.{_≡_};
 ghost use mathlib.Core.Bool.{false};
-ghost use Prim.Native.Nat.{_≤_, _<_};
+ghost use Prim.Native.Nat.{_≤_, _<_, _*_};
 ghost use lib.ListN.{length, getD};
 ghost use lib.Seq.{slice};
 ghost use Rattle.tables.specs.Entries.{Valid, entries-of, blank, is-periodic};
 ghost use Rattle.tables.specs.Places.{Home};
 ghost use Rattle.records.specs.Where.{field-of, fields-of};
+ghost use Rattle.rules.specs.Limits.{most-entries};
+ghost use Rattle.records.specs.Walk.{greatest-byte};
 ghost use Rattle.records.specs.Paths.{Width, Leads};
 use tables::Found;
 
@@ -23,7 +25,7 @@ pub struct Path {
 // The bytes of entry i's cell, where they are always as many; a group by itself has none.
 fn width_at(t: &[u8], i: usize) -> Found
     requires { ⌜ Valid (now t) × (i < length (entries-of (now t))) ⌝ }
-    ensures { λ r. ⌜ Width (field-of (getD (entries-of (now (t .entry))) i blank .name) (getD (entries-of (now (t .entry))) i blank .what)) 255 r ⌝ }
+    ensures { λ r. ⌜ Width (field-of (getD (entries-of (now (t .entry))) i blank .name) (getD (entries-of (now (t .entry))) i blank .what)) greatest-byte r ⌝ }
 {
     let e = tables::entry_at(t, i);
     if e.format == tables::GROUP {
@@ -41,7 +43,7 @@ fn width_at(t: &[u8], i: usize) -> Found
 // The same of the fields among the entries from first to end together.
 pub fn width_of(t: &[u8], first: usize, end: usize) -> Found
     requires { ⌜ Valid (now t) × (first ≤ end) × (end ≤ length (entries-of (now t))) ⌝ }
-    ensures { λ r. ⌜ Width (fields-of (slice first end (entries-of (now (t .entry))))) 16320 r ⌝ }
+    ensures { λ r. ⌜ Width (fields-of (slice first end (entries-of (now (t .entry))))) (most-entries * greatest-byte) r ⌝ }
 {
     let mut w = 0;
     let mut i = first;

@@ -10,7 +10,7 @@ ghost use Rattle.tables.specs.Entries.{Valid, entries-of, blank, is-group, is-m
 ghost use Rattle.tables.specs.Places.{inside-at};
 ghost use Rattle.tables.specs.Groups.{group-end};
 ghost use Rattle.records.specs.Places.{Held, Holds, Entered, Cell-of, Outside, Piece-of, Rows-of};
-ghost use Rattle.records.specs.Walk.{directory, rest-of, Walked, Ends, start-of, occurrence};
+ghost use Rattle.records.specs.Walk.{directory, rest-of, Walked, Ends, start-of, occurrence, greatest-kept};
 ghost use Rattle.records.specs.Paths.{Wide, Leads};
 ghost use Rattle.records.specs.Where.{fields-of};
 ghost use Rattle.records.specs.declared.Reach.the-variants.{At};
@@ -33,7 +33,7 @@ pub enum Content {
 
 // A place as it is kept, as a number.
 fn wide(place: u16) -> usize
-    ensures { λ r. ⌜ (r ≡ place) × (r ≤ 65535) ⌝ }
+    ensures { λ r. ⌜ (r ≡ place) × (r ≤ greatest-kept) ⌝ }
 {
     place as usize
 }
@@ -41,7 +41,7 @@ fn wide(place: u16) -> usize
 // The place of entry i's part.
 fn place_of(places: &[u16; DIRECTORY], i: usize) -> usize
     requires { ⌜ i < directory ⌝ }
-    ensures { λ r. ⌜ (r ≡ getD (now (places .entry)) i 0) × (r ≤ 65535) ⌝ }
+    ensures { λ r. ⌜ (r ≡ getD (now (places .entry)) i 0) × (r ≤ greatest-kept) ⌝ }
 {
     wide(places[i])
 }

@@ -10,7 +10,7 @@ ghost use Rattle.rules.specs.Values.{allowed};
 ghost use Rattle.rules.specs.Record.{times, each, counted, stored-value, stored-cell};
 ghost use Rattle.tables.specs.Entries.{Valid, entries-of, blank, format-at};
 ghost use Rattle.records.specs.Where.{field-of, fields-of};
-ghost use Rattle.records.specs.Walk.{directory, rest-of, Walked, has-count, behind, is-headed, occurrence, rows-of, Keeps, Checked};
+ghost use Rattle.records.specs.Walk.{directory, rest-of, Walked, has-count, behind, is-headed, occurrence, rows-of, Keeps, Checked, greatest-kept, greatest-byte};
 use crate::DIRECTORY;
 use crate::Reach;
 use values::First;
@@ -132,7 +132,7 @@ fn members_end(t: &[u8], b: &[u8], at: usize, first: usize, end: usize) -> Reach
 
 // Keeps a place at a number of the directory, where it has so many.
 fn keep(places: &mut [u16; DIRECTORY], number: usize, place: usize)
-    requires { ⌜ (length (now places) ≡ directory) × (place ≤ 65535) ⌝ }
+    requires { ⌜ (length (now places) ≡ directory) × (place ≤ greatest-kept) ⌝ }
     ensures { λ _. ⌜ now (places .exit) ≡ set (now (places .entry)) number place ⌝ }
 {
     if number < DIRECTORY {
@@ -151,7 +151,7 @@ fn occurrences_end(
     places: &mut [u16; DIRECTORY],
     kept: usize,
 ) -> Reach
-    requires { ⌜ Valid (now t) × (first ≤ end) × (end ≤ length (entries-of (now t))) × (at ≤ length (now b)) × (length (now b) ≤ longest-record) × (length (now places) ≡ directory) × (kept + n ≤ 65535) ⌝ }
+    requires { ⌜ Valid (now t) × (first ≤ end) × (end ≤ length (entries-of (now t))) × (at ≤ length (now b)) × (length (now b) ≤ longest-record) × (length (now places) ≡ directory) × (kept + n ≤ greatest-kept) ⌝ }
     ensures { λ r. ⌜ Walked (now (b .entry)) (rest-of (times n (each stored-cell (fields-of (slice first end (entries-of (now (t .entry)))))) (drop at (now (b .entry))))) r × Keeps (each stored-cell (fields-of (slice first end (entries-of (now (t .entry)))))) (now (b .entry)) at n kept (now (places .entry)) (now (places .exit)) r ⌝ }
 {
     let mut p = at;
@@ -182,7 +182,7 @@ fn entry_end(
     places: &mut [u16; DIRECTORY],
     kept: usize,
 ) -> Reach
-    requires { ⌜ Valid (now t) × (i < length (entries-of (now t))) × (at ≤ length (now b)) × (length (now b) ≤ longest-record) × (length (now places) ≡ directory) × (kept ≤ 65280) ⌝ }
+    requires { ⌜ Valid (now t) × (i < length (entries-of (now t))) × (at ≤ length (now b)) × (length (now b) ≤ longest-record) × (length (now places) ≡ directory) × (kept + greatest-byte ≤ greatest-kept) ⌝ }
     ensures { λ r. ⌜ Walked (now (b .entry)) (behind inside (getD (entries-of (now (t .entry))) i blank) (drop (suc i) (entries-of (now (t .entry)))) (drop at (now (b .entry)))) r × Keeps (occurrence (entries-of (now (t .entry))) i) (now (b .entry)) (at + 1) (rows-of (getD (entries-of (now (t .entry))) i blank .what) (getD (now (b .entry)) at 0)) kept (now (places .entry)) (now (places .exit)) r ⌝ }
 {
     if tables::periodic_at(t, i) {
@@ -200,8 +200,8 @@ fn entry_end(
 
 // The number behind those of entry i's occurrences.
 fn kept_behind(t: &[u8], b: &[u8], at: usize, i: usize, kept: usize) -> usize
-    requires { ⌜ Valid (now t) × (i < length (entries-of (now t))) × (kept ≤ 65280) ⌝ }
-    ensures { λ r. ⌜ (r ≡ kept + rows-of (getD (entries-of (now (t .entry))) i blank .what) (getD (now (b .entry)) at 0)) × (r ≤ kept + 255) ⌝ }
+    requires { ⌜ Valid (now t) × (i < length (entries-of (now t))) × (kept + greatest-byte ≤ greatest-kept) ⌝ }
+    ensures { λ r. ⌜ (r ≡ kept + rows-of (getD (entries-of (now (t .entry))) i blank .what) (getD (now (b .entry)) at 0)) × (r ≤ kept + greatest-byte) ⌝ }
 {
     if b.len() <= at {
         return kept;

@@ -1,6 +1,6 @@
 -- `records::paths::path_in` meets its contract: the fields before the entry have a width, or not. Assumes nothing.
 use mathlib.Core.Path.{refl, subst}
-use Prim.Native.Nat.{_+_}
+use Prim.Native.Nat.{_+_, _*_}
 use native.Mathlib.Omega.{arith}
 use lib.Seq.{slice}
 use Rattle.tables.specs.Entries.{entries-of}
@@ -10,6 +10,8 @@ use Rattle.records.specs.Paths.{Width}
 use Rattle.records.proofs.Entries.{never}
 use borrow.Author.Needs.{needs}
 use Rattle.records.proofs.paths.path_in.Statement.{statement}
+use Rattle.rules.specs.Limits.{most-entries}
+use Rattle.records.specs.Walk.{greatest-byte}
 use Rattle.records.proofs.paths.path_in.Tie as tie
 
 add-width-of : tie.Need-add-width-of
@@ -27,7 +29,7 @@ enum-told c = search needs
 returns : tie.Need-returns
 returns c =
     let s = c .before .before .before .before .before in
-    let w = subst (Width (fields-of (slice (s .args .g + 1) (s .args .i) (entries-of (s .args .t .now)))) 16320) (c .before .width .given .1) (c .before .before .before .width-of .ensures) in
+    let w = subst (Width (fields-of (slice (s .args .g + 1) (s .args .i) (entries-of (s .args .t .now)))) (most-entries * greatest-byte)) (c .before .width .given .1) (c .before .before .before .width-of .ensures) in
     (refl, record { home = λ z. s .pre .3; outside = λ z. absurd (never z refl); fixed = λ z. w .0 })
 
 returns-2 : tie.Need-returns-2

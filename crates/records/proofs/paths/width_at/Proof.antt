@@ -7,6 +7,7 @@ use Rattle.tables.specs.Entries.{entries-of, blank, format-number, size-of}
 use Rattle.records.proofs.Widths.{width-group, width-multiple, width-none, width-plain}
 use borrow.Author.Needs.{needs}
 use Rattle.records.proofs.paths.width_at.Statement.{statement}
+use Rattle.records.specs.Walk.{greatest-byte}
 use Rattle.records.proofs.paths.width_at.Tie as tie
 
 entry-at-requires : tie.Need-entry-at-requires
@@ -42,7 +43,7 @@ returns-4 c =
     let q = c .before .before .before .before .before .before .entry-at .ensures in
     let h : format-number (e .what) ≡ 5 → ⊥ = λ z. c .before .before .before .before .if1 .left (ap (λ r. r .format) q ∙ z) in
     let n : size-of (e .what) ≡ 0 → ⊥ = λ z. c .before .if3 .left (ap (λ r. r .size) q ∙ z) in
-    let m : c .before .before .before .before .before .before .entry-at .result .size ≤ 255 = omega arith in
+    let m : c .before .before .before .before .before .before .entry-at .result .size ≤ greatest-byte = omega arith in
     rw q (width-plain (e .name) (e .what) h (ap (λ r. r .multiple) (sym q) ∙ c .before .before .before .if2 .left) (omega (arith, n)) (rw q at m))
 
 pub width-at-spec : {M : Type 1} → statement M
