@@ -8,7 +8,7 @@ use borrow.Author.Tests.{le-leb, lt-leb, leb-true}
 use lib.Dec.{leb}
 use lib.ListN.{length, length-append}
 use Rattle.rules.specs.Outcome.{Outcome, done, refused, is-done}
-use Rattle.rules.specs.Limits.{longest-record}
+use Rattle.rules.specs.Limits.{longest-new-record}
 use Rattle.rules.specs.Lists.{Bytes, bytes-of}
 use Rattle.rules.specs.Table.{table, parts}
 use Rattle.rules.specs.Record.{record-head, record-bytes, empty-record}
@@ -37,23 +37,23 @@ valid-empty t room v = by-outcome (table t)
     (λ es e. rw (e, empty-body-from false es) refl)
     (λ n e. absurd (not-both (sym (ap is-done e) ∙ v)))
 
-pub empty-over : (t : Bytes) (room : ℕ) → Valid t → longest-record < length (empty-bytes t) → empty t room ≡ refused 10
+pub empty-over : (t : Bytes) (room : ℕ) → Valid t → longest-new-record < length (empty-bytes t) → empty t room ≡ refused 10
 unfolding fitting
-empty-over t room v h = valid-empty t room v ∙ rw (lt-leb (length (empty-bytes t)) (min room longest-record) (omega arith)) refl
+empty-over t room v h = valid-empty t room v ∙ rw (lt-leb (length (empty-bytes t)) (min room longest-new-record) (omega arith)) refl
 
 pub empty-cramped : (t : Bytes) (room : ℕ) → Valid t → room < length (empty-bytes t) → empty t room ≡ refused 10
 unfolding fitting
-empty-cramped t room v h = valid-empty t room v ∙ rw (lt-leb (length (empty-bytes t)) (min room longest-record) (omega arith)) refl
+empty-cramped t room v h = valid-empty t room v ∙ rw (lt-leb (length (empty-bytes t)) (min room longest-new-record) (omega arith)) refl
 
-pub empty-done : (t : Bytes) (room : ℕ) → Valid t → length (empty-bytes t) ≤ longest-record → length (empty-bytes t) ≤ room → empty t room ≡ done (empty-bytes t)
+pub empty-done : (t : Bytes) (room : ℕ) → Valid t → length (empty-bytes t) ≤ longest-new-record → length (empty-bytes t) ≤ room → empty t room ≡ done (empty-bytes t)
 unfolding fitting
-empty-done t room v h k = valid-empty t room v ∙ rw (le-leb (length (empty-bytes t)) (min room longest-record) (omega arith)) refl
+empty-done t room v h k = valid-empty t room v ∙ rw (le-leb (length (empty-bytes t)) (min room longest-new-record) (omega arith)) refl
 
 -- What is written lies in the room.
 fitting-within : (room : ℕ) (b : Bytes) → length (bytes-of (fitting room b)) ≤ room
 unfolding fitting bytes-of
-fitting-within room b = by-test (leb (length b) (min room longest-record))
-    (λ e. rw e (omega (arith, leb-true (length b) (min room longest-record) e)))
+fitting-within room b = by-test (leb (length b) (min room longest-new-record))
+    (λ e. rw e (omega (arith, leb-true (length b) (min room longest-new-record) e)))
     (λ e. rw e (omega arith))
 
 pub empty-within : (t : Bytes) (room : ℕ) → length (bytes-of (empty t room)) ≤ room

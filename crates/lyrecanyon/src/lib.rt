@@ -217,13 +217,13 @@ pub fn empty(table: &[u8], room: &mut [u8]) -> Answer
         return Answer::Refused(Refusal::NoTable);
     }
     let size = records::empty::empty_length(table);
-    if rules::LONGEST_RECORD < size {
+    if rules::LONGEST_NEW_RECORD < size {
         return Answer::Refused(Refusal::NoRoom);
     }
     if room.len() < size {
         return Answer::Refused(Refusal::NoRoom);
     }
-    let mut record = [0u8; rules::LONGEST_RECORD];
+    let mut record = [0u8; rules::LONGEST_NEW_RECORD];
     records::empty::write_empty(table, &mut record);
     buffer::put(&record[..size], room, 0);
     Answer::Done(size)

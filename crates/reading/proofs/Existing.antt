@@ -9,7 +9,7 @@ use native.Mathlib.Omega.{arith}
 use lib.ListN.{length, take, drop, getD, drop-of-length-le, length-drop}
 use lib.Seq.{take-nil, take-all}
 use Rattle.rules.specs.Outcome.{done}
-use Rattle.rules.specs.Limits.{highest-index}
+use Rattle.rules.specs.Limits.{greatest-count}
 use Rattle.rules.specs.Lists.{Bytes}
 use Rattle.rules.specs.Record.{Reader, times, counted, stored-value}
 use Rattle.rules.proofs.Steps.{done-inj}
@@ -40,7 +40,7 @@ module _ (w : Wanted) (b : Bytes) (vs : List Bytes) where
 
   -- The cell of an MU field.
   module _ (cell : ℕ) (x : Cell-holds b (format-at (w .own)) (w .standard) true vs (Stands cell)) where
-    pub cell-many : (cell < length b) × (getD b cell 0 ≡ length vs) × (length vs ≤ highest-index)
+    pub cell-many : (cell < length b) × (getD b cell 0 ≡ length vs) × (length vs ≤ greatest-count)
         × (times (length vs) (stored-value (format-at (w .own)) (w .standard)) (drop (cell + 1) b) ≡ done (vs, x .1))
     cell-many = counted-many (stored-value (format-at (w .own)) (w .standard)) (drop cell b) (x .2) λ tail h most t.
         let y = byte-there b cell h in (y .0, y .1, most, rw (add-one cell, ← y .2) t)

@@ -9,13 +9,13 @@ use native.Mathlib.Omega.{arith}
 use lib.Dec.{eqb, leb, leb→le}
 use lib.ListN.{length, take, drop, getD}
 use Rattle.rules.specs.Outcome.{Outcome, done, _>>=_}
-use Rattle.rules.specs.Limits.{highest-index}
+use Rattle.rules.specs.Limits.{greatest-count}
 use Rattle.rules.specs.Lists.{Bytes}
 use Rattle.rules.specs.Values.{Format, first-value, content, with-length-byte, in-normal-form}
 use Rattle.rules.specs.Table.{Field, member}
-use Rattle.rules.specs.Record.{Cell, Occurrence, Reader, times, counted, each, stored-value, stored-cell, cell-of}
+use Rattle.rules.specs.Record.{Cell, Occurrence, Reader, times, stored-count, count-bytes, counted, each, stored-value, stored-cell, cell-of}
 use Rattle.rules.proofs.Steps.{from-bind, from-need, from-as, from-done, not-done, not-some, by-test, T-true}
-use Rattle.rules.proofs.Readers.{cut-sound, value-sound}
+use Rattle.rules.proofs.Readers.{count-sound, cut-sound, value-sound}
 
 -- The first of several, and the others behind it.
 abbrev first-and : {X : Type 0} → Outcome (X × Bytes) → Reader (List X) → Outcome (List X × Bytes)
@@ -60,13 +60,13 @@ times-at one d (suc n) (suc k) bs l p c = times-first one n bs p λ x ys mid e h
 
 -- What is counted stands behind its count; what is not counted stands there once.
 pub counted-many : {X C : Type 0} (one : Reader X) (bs : Bytes) {rest : Bytes} {xs : List X} → counted true one bs ≡ done (xs, rest)
-    → ((tail : Bytes) → bs ≡ length xs ∷ tail → length xs ≤ highest-index → times (length xs) one tail ≡ done (xs, rest) → C) → C
-unfolding counted
-counted-many one [] p c = absurd (not-done p)
-counted-many one (n ∷ bs) p c =
-    from-need (leb n highest-index) 2 _ p λ t k.
-    let l = times-length one n bs k in
-    c bs (rw l refl) (rw l (leb→le n highest-index t)) (rw l k)
+    → ((tail : Bytes) → bs ≡ length xs ∷ tail → length xs ≤ greatest-count → times (length xs) one tail ≡ done (xs, rest) → C) → C
+unfolding counted count-bytes
+counted-many one bs p c =
+    from-bind (stored-count bs) _ p λ n h k.
+    let (m, s) = count-sound bs (n .0) (n .1) h in
+    let l = times-length one (n .0) (n .1) k in
+    c (n .1) (rw l s) (rw l m) (rw l k)
 
 pub counted-once : {X C : Type 0} (one : Reader X) (bs : Bytes) {rest : Bytes} {xs : List X} → counted false one bs ≡ done (xs, rest)
     → ((x : X) → xs ≡ x ∷ [] → one bs ≡ done (x, rest) → C) → C
@@ -87,7 +87,7 @@ members-at n (g ∷ ms₁) f ms₂ bs m q p c = each-first stored-cell g (ms₁ 
 -- A cell of an MU field stands behind its count; another is its one value.
 module _ {C : Type 0} (n : ℕ) (f : Format) (s : ℕ) (bs : Bytes) {rest : Bytes} {vs : Cell} where
   pub cell-many : stored-cell (record { name = n; format = f; size = s; multiple = true }) bs ≡ done (vs, rest)
-      → ((tail : Bytes) → bs ≡ length vs ∷ tail → length vs ≤ highest-index → times (length vs) (stored-value f s) tail ≡ done (vs, rest) → C) → C
+      → ((tail : Bytes) → bs ≡ length vs ∷ tail → length vs ≤ greatest-count → times (length vs) (stored-value f s) tail ≡ done (vs, rest) → C) → C
   unfolding stored-cell
   cell-many p = counted-many (stored-value f s) bs p
 

@@ -6,7 +6,7 @@ use Prim.Native.Nat.{ℕ}
 use Rattle.rules.specs.Lists.{Bytes, join, run}
 use Rattle.rules.specs.Values.{Format, null}
 use Rattle.rules.specs.Table.{What, field, group, Entry, Part, is-inside, parts-from, part-of, alone, fields-below}
-use Rattle.rules.specs.Record.{body-bytes, part-bytes, cell-bytes, each-bytes, counted-bytes, empty-record, laid-out, laid-part, laid-cell, count-or-one}
+use Rattle.rules.specs.Record.{body-bytes, part-bytes, cell-bytes, each-bytes, count-bytes, counted-bytes, empty-record, laid-out, laid-part, laid-cell, count-or-one}
 use Rattle.records.specs.Empty.{empty-entry, empty-from}
 
 -- The empty record of some parts, as bytes.
@@ -16,7 +16,7 @@ empty-body ps = body-bytes ps (empty-record ps)
 -- One entry before the parts behind it.
 step : (inside : Bool) (name : ℕ) (w : What) (es : List Entry) (ps : List Part)
     → empty-body (part-of inside name w es ps) ≡ empty-entry inside w ++ empty-body ps
-unfolding body-bytes part-bytes cell-bytes each-bytes counted-bytes empty-record laid-out laid-part laid-cell count-or-one part-of alone empty-entry join run
+unfolding body-bytes part-bytes cell-bytes each-bytes count-bytes counted-bytes empty-record laid-out laid-part laid-cell count-or-one part-of alone empty-entry join run
 step inside name (group true) es ps = refl
 step inside name (group false) es ps = refl
 step true name (field f n mu) es ps = refl

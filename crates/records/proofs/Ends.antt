@@ -11,7 +11,7 @@ use lib.Dec.{leb, ltb}
 use lib.ListN.{length, take, drop, getD, length-drop}
 use lib.Seq.{slice, take-nil}
 use Rattle.rules.specs.Outcome.{done, refused}
-use Rattle.rules.specs.Limits.{highest-index}
+use Rattle.rules.specs.Limits.{greatest-count}
 use Rattle.rules.specs.Lists.{Bytes}
 use Rattle.rules.specs.Table.{What, field, group, Entry, Field, fields-below, alone, part-of}
 use Rattle.rules.specs.Record.{Reader, times, counted, each, stored-value, stored-cell, stored-part}
@@ -28,13 +28,13 @@ use Rattle.records.proofs.Passing.{below-on, below-end}
 use Rattle.records.proofs.EmptyRows.{row-field, row-group}
 
 -- A count that stands there and is not over its limit: so many follow; else nothing is read.
-has-count-is : (b : Bytes) (at : ℕ) → at < length b → getD b at 0 ≤ highest-index → has-count b at ≡ true
+has-count-is : (b : Bytes) (at : ℕ) → at < length b → getD b at 0 ≤ greatest-count → has-count b at ≡ true
 unfolding has-count
-has-count-is b at h k = rw (lt-ltb at (length b) h, le-leb (getD b at 0) highest-index k) refl
+has-count-is b at h k = rw (lt-ltb at (length b) h, le-leb (getD b at 0) greatest-count k) refl
 
-pub count-some : (b : Bytes) (at : ℕ) → has-count b at ≡ true → (at < length b) × (getD b at 0 ≤ highest-index)
+pub count-some : (b : Bytes) (at : ℕ) → has-count b at ≡ true → (at < length b) × (getD b at 0 ≤ greatest-count)
 unfolding has-count
-count-some b at h = both-are (ltb at (length b)) (leb (getD b at 0) highest-index) h (λ l k. (ltb-true at (length b) l, leb-true (getD b at 0) highest-index k))
+count-some b at h = both-are (ltb at (length b)) (leb (getD b at 0) greatest-count) h (λ l k. (ltb-true at (length b) l, leb-true (getD b at 0) greatest-count k))
   where
     both-are : {C : Type 0} (x y : Bool) → (x && y) ≡ true → (x ≡ true → y ≡ true → C) → C
     both-are true y e k = k refl e
@@ -46,7 +46,7 @@ module _ {X : Type 0} (one : Reader X) (b : Bytes) (at : ℕ) where
 
   pub count-none : has-count b at ≡ false → rest-of (counted true one (drop at b)) ≡ refused 2
   count-none h = by-order at (length b)
-      (λ l. by-order highest-index (getD b at 0) (count-over one b at l) (λ k. absurd (never h (has-count-is b at l k))))
+      (λ l. by-order greatest-count (getD b at 0) (count-over one b at l) (λ k. absurd (never h (has-count-is b at l k))))
       (count-missing one b at)
 
 -- One reader alone.

@@ -7,7 +7,7 @@ use native.Mathlib.Omega.{arith}
 use lib.ListN.{length, drop, getD, List·getD-eq-default}
 use lib.Seq.{slice, slice-empty, slice-cons}
 use Rattle.rules.specs.Outcome.{done}
-use Rattle.rules.specs.Limits.{highest-index}
+use Rattle.rules.specs.Limits.{greatest-count}
 use Rattle.rules.specs.Lists.{Bytes}
 use Rattle.rules.specs.Values.{Format}
 use Rattle.rules.specs.Table.{field, group, Entry, Field, fields-below, parts-from}
@@ -25,7 +25,7 @@ no-cells n [] = refl
 no-cells n (f ∷ fs) = refl
 
 module _ {before : Bool} {es : List Entry} {bs : Bytes} {r : Record} {d : Entry} {g : ℕ} {os : List Occurrence} {mid : Bytes} (q : Grouped before es bs r d g os mid) where
-  pub occurrences : {C : Type 0} → ((tail : Bytes) → start-of before es bs g ≡ length os ∷ tail → length os ≤ highest-index
+  pub occurrences : {C : Type 0} → ((tail : Bytes) → start-of before es bs g ≡ length os ∷ tail → length os ≤ greatest-count
       → times (length os) (each stored-cell (fields-below 1 (drop (suc g) es))) tail ≡ done (os, mid) → C) → C
   unfolding stored-part
   occurrences = counted-many (each stored-cell (fields-below 1 (drop (suc g) es))) (start-of before es bs g) (q .stands)

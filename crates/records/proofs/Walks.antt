@@ -9,9 +9,9 @@ use lib.Dec.{leb}
 use lib.ListN.{length, drop, getD, drop-of-length-le}
 use lib.Seq.{drop-cons}
 use Rattle.rules.specs.Outcome.{Outcome, done, refused, _>>=_, need}
-use Rattle.rules.specs.Limits.{highest-index}
+use Rattle.rules.specs.Limits.{greatest-count}
 use Rattle.rules.specs.Lists.{Bytes}
-use Rattle.rules.specs.Record.{Reader, times, each, counted}
+use Rattle.rules.specs.Record.{Reader, times, each, stored-count, counted}
 use Rattle.rules.proofs.Steps.{done-inj, not-done, by-outcome}
 use Rattle.records.specs.Walk.{rest-of, seen, walk-place, Walked}
 use Rattle.records.specs.declared.Reach.{Reach}
@@ -95,17 +95,17 @@ turns-over one b n i p h inv = let q : n - i ≡ 0 = omega arith in rw q at inv
 -- What is counted: no byte, a count over its limit, a count and so many; and what is not counted.
 module _ {X : Type 0} (one : Reader X) (b : Bytes) (at : ℕ) where
   pub count-missing : length b ≤ at → rest-of (counted true one (drop at b)) ≡ refused 2
-  unfolding counted
+  unfolding counted stored-count
   count-missing h = rw (drop-of-length-le b h) refl
 
-  pub count-over : at < length b → highest-index < getD b at 0 → rest-of (counted true one (drop at b)) ≡ refused 2
-  unfolding counted
-  count-over h k = rw (drop-cons b at 0 h, lt-leb (getD b at 0) highest-index k) refl
+  pub count-over : at < length b → greatest-count < getD b at 0 → rest-of (counted true one (drop at b)) ≡ refused 2
+  unfolding counted stored-count
+  count-over h k = rw (drop-cons b at 0 h, lt-leb (getD b at 0) greatest-count k) refl
 
-  pub count-good : at < length b → getD b at 0 ≤ highest-index
+  pub count-good : at < length b → getD b at 0 ≤ greatest-count
       → rest-of (counted true one (drop at b)) ≡ rest-of (times (getD b at 0) one (drop (suc at) b))
-  unfolding counted
-  count-good h k = rw (drop-cons b at 0 h, le-leb (getD b at 0) highest-index k) refl
+  unfolding counted stored-count
+  count-good h k = rw (drop-cons b at 0 h, le-leb (getD b at 0) greatest-count k) refl
 
   pub not-counted : rest-of (counted false one (drop at b)) ≡ rest-of (one (drop at b))
   unfolding counted times

@@ -7,7 +7,7 @@ use lib.Dec.{leb, ltb}
 use lib.ListN.{length, take, drop, getD}
 use lib.Seq.{slice}
 use Rattle.rules.specs.Outcome.{Outcome, done, refused, is-done}
-use Rattle.rules.specs.Limits.{most-entries, highest-index, longest-record}
+use Rattle.rules.specs.Limits.{most-entries, greatest-count, longest-record}
 use Rattle.rules.specs.Lists.{Bytes, same}
 use Rattle.rules.specs.Table.{What, Entry, is-inside, part-of, parts}
 use Rattle.rules.specs.Record.{Occurrence, Reader, record-head, times, each, stored-cell, stored-part, stored}
@@ -59,7 +59,7 @@ start-of before (e ∷ es) bs (suc j) = start-of (is-inside before e) es (bytes-
 
 -- Whether a count stands at a place, and is not over its limit.
 unfoldable pub has-count : Bytes → ℕ → Bool
-has-count b at = ltb at (length b) && leb (getD b at 0) highest-index
+has-count b at = ltb at (length b) && leb (getD b at 0) greatest-count
 
 -- Whether bytes are not too many for a record and begin as one.
 unfoldable pub is-headed : Bytes → Bool

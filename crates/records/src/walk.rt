@@ -50,7 +50,7 @@ fn values_end(b: &[u8], at: usize, n: usize, format: usize, size: usize) -> Reac
     requires { ⌜ (at ≤ length (now b)) × (format < 5) × (allowed (format-at format) size ≡ true) ⌝ }
     ensures { λ r. ⌜ Walked (now (b .entry)) (rest-of (times n (stored-value (format-at format) size) (drop at (now (b .entry))))) r ⌝ }
 {
-    if n <= rules::HIGHEST_INDEX {
+    if n <= rules::GREATEST_COUNT {
         if values::any_bytes(format, size) {
             return bytes_end(b, at, n * size);
         }
@@ -79,7 +79,7 @@ pub fn has_count(b: &[u8], at: usize) -> bool
     if b.len() <= at {
         return false;
     }
-    b[at] as usize <= rules::HIGHEST_INDEX
+    b[at] as usize <= rules::GREATEST_COUNT
 }
 
 // The place behind the cell of a field, by its format, standard length and whether it is MU.

@@ -8,10 +8,10 @@ use lib.Dec.{T, leb, le→leb}
 use lib.ListN.{length, take, drop}
 use lib.Seq.{take-append-seam, drop-append-seam}
 use Rattle.rules.specs.Outcome.{Outcome, done, refused, _>>=_, need}
-use Rattle.rules.specs.Limits.{highest-index, longest-record}
+use Rattle.rules.specs.Limits.{greatest-count, longest-record}
 use Rattle.rules.specs.Lists.{Bytes, nothing, same, join}
 use Rattle.rules.specs.Table.{Field, Part}
-use Rattle.rules.specs.Record.{Cell, Occurrence, Record, Reader, times, counted, each, counted-bytes, each-bytes, stored-value, stored-cell, stored-part, stored, record-head, cell-bytes, part-bytes, body-bytes, record-bytes}
+use Rattle.rules.specs.Record.{Cell, Occurrence, Record, Reader, times, stored-count, counted, each, count-bytes, counted-bytes, each-bytes, stored-value, stored-cell, stored-part, stored, record-head, cell-bytes, part-bytes, body-bytes, record-bytes}
 use Rattle.rules.proofs.Steps.{need-true, same-same}
 
 -- every element of a list; two lists side by side
@@ -26,7 +26,7 @@ Beside P (y ∷ ys) [] = ⊥
 Beside P (y ∷ ys) (x ∷ xs) = P y x × Beside P ys xs
 
 abbrev pub Sized : Bool → ℕ → Type 0
-Sized true n = n ≤ highest-index
+Sized true n = n ≤ greatest-count
 Sized false n = n ≡ 1
 
 -- what a writer wrote, the reader takes
@@ -38,9 +38,13 @@ unfolding times join
 times-back one w [] a rest = refl
 times-back one w (x ∷ xs) a rest = rw (append-assoc, a .0 (join (map w xs) ++ rest), times-back one w xs (a .1) rest) refl
 
+pub count-back : (n : ℕ) → n ≤ greatest-count → Back stored-count count-bytes n
+unfolding stored-count count-bytes
+count-back n h rest = rw (need-true _ 2 (le→leb n greatest-count h)) refl
+
 pub counted-back : {X : Type 0} (one : Reader X) (w : X → Bytes) (c : Bool) (xs : List X) → Sized c (length xs) → All (Back one w) xs → Back (counted c one) (counted-bytes c w) xs
 unfolding counted counted-bytes
-counted-back one w true xs s a rest = rw (need-true _ 2 (le→leb (length xs) highest-index s)) (times-back one w xs a rest)
+counted-back one w true xs s a rest = rw (append-assoc, count-back (length xs) s (join (map w xs) ++ rest)) (times-back one w xs a rest)
 counted-back one w false xs s a rest = rw (← s) (times-back one w xs a rest)
 
 pub each-back : {X Y : Type 0} (one : Y → Reader X) (w : Y → X → Bytes) (ys : List Y) (xs : List X) → Beside (λ y x. Back (one y) (w y) x) ys xs → Back (each one ys) (each-bytes w ys) xs

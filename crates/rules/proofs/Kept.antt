@@ -7,13 +7,13 @@ use native.Mathlib.Omega.{arith}
 use lib.Dec.{T, leb, leb→le, le→leb}
 use lib.ListN.{length, take, drop}
 use Rattle.rules.specs.Outcome.{Outcome, done, refused, _>>=_, need, as-number}
-use Rattle.rules.specs.Limits.{highest-index, longest-record, longest-alpha}
+use Rattle.rules.specs.Limits.{greatest-count, longest-record, longest-alpha}
 use Rattle.rules.specs.Lists.{Bytes, nothing, same, cut}
 use Rattle.rules.specs.Values.{Format, first-value, with-length-byte, in-normal-form}
 use Rattle.rules.specs.Table.{Field, Part}
-use Rattle.rules.specs.Record.{Cell, Occurrence, Record, Reader, times, counted, each, stored-value, stored-cell, stored-part, stored, record-head}
+use Rattle.rules.specs.Record.{Cell, Occurrence, Record, Reader, times, stored-count, counted, each, stored-value, stored-cell, stored-part, stored, record-head}
 use Rattle.rules.proofs.Steps.{from-bind, from-need, from-as, from-done, done-inj, not-done, same-eq, and-left, and-right, same-same, need-true, and-intro}
-use Rattle.rules.proofs.Readers.{times-sound, cut-sound}
+use Rattle.rules.proofs.Readers.{times-sound, count-sound, cut-sound}
 use Rattle.rules.proofs.Back.{All, Beside, Sized, Stored, Cell-ok, Part-ok, Record-ok}
 
 -- whatever a reader takes has the property
@@ -34,11 +34,10 @@ times-keeps P one s (suc n) bs xs rest p =
 counted-keeps : {X : Type 0} (P : X → Type 0) (one : Reader X) (c : Bool) → Keeps P one → Keeps (λ xs. Sized c (length xs) × All P xs) (counted c one)
 unfolding counted
 counted-keeps P one false s bs xs rest p = times-keeps P one s 1 bs xs rest p
-counted-keeps P one true s [] xs rest p = absurd (not-done p)
-counted-keeps P one true s (n ∷ bs) xs rest p =
-    from-need (leb n highest-index) 2 _ p λ t k.
-    let (l, a) = times-keeps P one s n bs xs rest k in
-    (let h = leb→le n highest-index t in omega arith, a)
+counted-keeps P one true s bs xs rest p =
+    from-bind (stored-count bs) _ p λ n h k.
+    let (l, a) = times-keeps P one s (n .0) (n .1) xs rest k in
+    (let m = count-sound bs (n .0) (n .1) h .0 in omega arith, a)
 
 each-keeps : {X Y : Type 0} (P : Y → X → Type 0) (one : Y → Reader X) → ((y : Y) → Keeps (P y) (one y)) → (ys : List Y) → Keeps (Beside P ys) (each one ys)
 unfolding each

@@ -7,11 +7,11 @@ use native.Mathlib.Omega.{arith}
 use lib.Dec.{T, leb, leb→le}
 use lib.ListN.{length, take, drop, take-append-drop}
 use Rattle.rules.specs.Outcome.{Outcome, done, refused, _>>=_, need, as-number}
-use Rattle.rules.specs.Limits.{highest-index, longest-record, longest-alpha}
+use Rattle.rules.specs.Limits.{greatest-count, longest-record, longest-alpha}
 use Rattle.rules.specs.Lists.{Bytes, nothing, same, cut, join}
 use Rattle.rules.specs.Values.{Format, first-value, with-length-byte, in-normal-form}
 use Rattle.rules.specs.Table.{Field, Part}
-use Rattle.rules.specs.Record.{Cell, Occurrence, Record, Reader, times, counted, each, counted-bytes, each-bytes, stored-value, stored-cell, stored-part, stored, record-head, cell-bytes, part-bytes, body-bytes, record-bytes}
+use Rattle.rules.specs.Record.{Cell, Occurrence, Record, Reader, times, stored-count, counted, each, count-bytes, counted-bytes, each-bytes, stored-value, stored-cell, stored-part, stored, record-head, cell-bytes, part-bytes, body-bytes, record-bytes}
 use Rattle.rules.proofs.Steps.{nothing-eq, done-inj, not-done, bind-done, need-done, from-need, from-as, from-bind, from-done, and-left, and-right, same-eq}
 
 -- what a reader took is what the writer writes
@@ -30,14 +30,22 @@ times-sound one w s (suc n) bs xs rest p =
     let g₂ = s bs (x .0) (x .1) h in
     rw (← e, ← f) (ap suc l, g₂ ∙ rw (g, append-assoc) refl)
 
+-- A count that was read is not over its limit, and its bytes stand before the rest.
+pub count-sound : (bs : Bytes) (n : ℕ) (rest : Bytes) → stored-count bs ≡ done (n, rest) → (n ≤ greatest-count) × (bs ≡ count-bytes n ++ rest)
+unfolding stored-count count-bytes
+count-sound [] n rest p = absurd (not-done p)
+count-sound (m ∷ bs) n rest p =
+    from-need (leb m greatest-count) 2 _ p λ t k.
+    from-done k λ e f.
+    rw (← e, f) (leb→le m greatest-count t, refl)
+
 pub counted-sound : {X : Type 0} (one : Reader X) (w : X → Bytes) (c : Bool) → Sound one w → Sound (counted c one) (counted-bytes c w)
 unfolding counted counted-bytes
 counted-sound one w false s bs xs rest p = times-sound one w s 1 bs xs rest p .1
-counted-sound one w true s [] xs rest p = absurd (not-done p)
-counted-sound one w true s (n ∷ bs) xs rest p =
-    from-bind (need (leb n highest-index) 2) _ p λ u h k.
-    let (l, g) = times-sound one w s n bs xs rest k in
-    rw (l, g) refl
+counted-sound one w true s bs xs rest p =
+    from-bind (stored-count bs) _ p λ n h k.
+    let (l, g) = times-sound one w s (n .0) (n .1) xs rest k in
+    count-sound bs (n .0) (n .1) h .1 ∙ rw (l, g, append-assoc) refl
 
 pub each-sound : {X Y : Type 0} (one : Y → Reader X) (w : Y → X → Bytes) → ((y : Y) → Sound (one y) (w y)) →
     (ys : List Y) → Sound (each one ys) (each-bytes w ys)

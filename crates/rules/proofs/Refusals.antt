@@ -6,12 +6,12 @@ use Prim.Native.Nat.{ℕ, zero, suc}
 use lib.Dec.{eqb, leb}
 use lib.ListN.{length, take, drop, getD}
 use Rattle.rules.specs.Outcome.{refused, as-number, is-done}
-use Rattle.rules.specs.Limits.{most-entries, highest-index, longest-record, longest-format, longest-blanks, longest-text, greatest-length, most-digits}
+use Rattle.rules.specs.Limits.{most-entries, greatest-count, longest-record, longest-format, longest-blanks, longest-text, greatest-length, most-digits}
 use Rattle.rules.specs.Characters.{space, period, apostrophe, hyphen, open-parenthesis, close-parenthesis, digit, letter-C, letter-X}
 use Rattle.rules.specs.Lists.{Bytes, nothing, absent, same, all, but-last, last}
 use Rattle.rules.specs.Values.{Format, allowed, first-value, in-normal-form}
 use Rattle.rules.specs.Table.{group, format-of, is-name, name-of, what-of, entries, levels, differ, names, table, table-head, Field, Part}
-use Rattle.rules.specs.Record.{Reader, times, counted, each, stored-value, stored-cell, stored-part, stored, record-head}
+use Rattle.rules.specs.Record.{Reader, times, stored-count, counted, each, stored-value, stored-cell, stored-part, stored, record-head}
 use Rattle.rules.specs.Format.{Range, Element, blanks, quoted, named, count, series, Piece, element, length-piece, format-piece, turned, ends, texts, trim, leading-digits, number-first, closing, parenthesis, after-range, after-index, series-to, after-name, is-override, after-number, text-piece, piece, Pending, settled, completed, put-before, assembled, elements}
 use Rattle.rules.proofs.Only.{Only, Is, only-bind, only-need, only-as, only-pick, only-list, only-option, refused-by}
 
@@ -63,11 +63,15 @@ times-only one h zero bs = tt
 times-only one h (suc n) bs =
     only-bind (Is 2) (one bs) _ (h bs) (λ x. only-bind (Is 2) (times n one (x .1)) _ (times-only one h n (x .1)) (λ xs. tt))
 
+count-only : (bs : Bytes) → Only (Is 2) (stored-count bs)
+unfolding stored-count
+count-only [] = refl
+count-only (n ∷ bs) = only-need (Is 2) (leb n greatest-count) refl _ tt
+
 counted-only : {X : Type 0} (c : Bool) (one : Reader X) → ((bs : Bytes) → Only (Is 2) (one bs)) → (bs : Bytes) → Only (Is 2) (counted c one bs)
 unfolding counted
 counted-only false one h bs = times-only one h 1 bs
-counted-only true one h [] = refl
-counted-only true one h (n ∷ bs) = only-need (Is 2) (leb n highest-index) refl _ (times-only one h n bs)
+counted-only true one h bs = only-bind (Is 2) (stored-count bs) _ (count-only bs) (λ n. times-only one h (n .0) (n .1))
 
 each-only : {X Y : Type 0} (one : Y → Reader X) → ((y : Y) (bs : Bytes) → Only (Is 2) (one y bs)) → (ys : List Y) (bs : Bytes) → Only (Is 2) (each one ys bs)
 unfolding each

@@ -1,5 +1,6 @@
 pub mod Outcome
 pub mod Limits
+pub mod Numbers
 pub mod Characters
 pub mod Lists
 pub mod Values

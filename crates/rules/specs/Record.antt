@@ -6,7 +6,7 @@ use Prim.Native.Nat.{ℕ, zero, suc, pred, _+_}
 use lib.Dec.{eqb, leb}
 use lib.ListN.{length, take, drop, getD}
 use Rattle.rules.specs.Outcome.{Outcome, done, refused, _>>=_, need, as-number}
-use Rattle.rules.specs.Limits.{highest-index, longest-record}
+use Rattle.rules.specs.Limits.{greatest-count, longest-record, record-head-size}
 use Rattle.rules.specs.Lists.{Bytes, nothing, same, join, run}
 use Rattle.rules.specs.Values.{Format, first-value, with-length-byte, in-normal-form, null}
 use Rattle.rules.specs.Table.{Field, Part, member}
@@ -38,13 +38,19 @@ times (suc n) one bs = do
   xs ← times n one (x .1)
   done (x .0 ∷ xs .0, xs .1)
 
--- "a count byte 0 to 191 and that many"; without a count, one.
+-- "a count byte 0 to 191"
+unfoldable pub stored-count : Reader ℕ
+stored-count [] = refused 2
+stored-count (n ∷ bs) = do
+  _ ← need (leb n greatest-count) 2
+  done (n, bs)
+
+-- "a count byte .. and that many"; without a count, one.
 unfoldable pub counted : {X : Type 0} → Bool → Reader X → Reader (List X)
 counted false one bs = times 1 one bs
-counted true one [] = refused 2
-counted true one (n ∷ bs) = do
-  _ ← need (leb n highest-index) 2
-  times n one bs
+counted true one bs = do
+  n ← stored-count bs
+  times (n .0) one (n .1)
 
 -- "its members in order"
 unfoldable pub each : {X Y : Type 0} → (Y → Reader X) → List Y → Reader (List X)
@@ -73,15 +79,18 @@ stored-part p = counted (p .periodic) (each stored-cell (p .members))
 unfoldable pub stored : List Part → Bytes → Outcome Record
 stored ps bs = do
   _ ← need (leb (length bs) longest-record) 2
-  _ ← need (same (take 5 bs) record-head) 2
-  r ← each stored-part ps (drop 5 bs)
+  _ ← need (same (take record-head-size bs) record-head) 2
+  r ← each stored-part ps (drop record-head-size bs)
   _ ← need (nothing (r .1)) 2
   done (r .0)
 
 -- The bytes of a record, by the same sentences.
+unfoldable pub count-bytes : ℕ → Bytes
+count-bytes n = n ∷ []
+
 unfoldable pub counted-bytes : {X : Type 0} → Bool → (X → Bytes) → List X → Bytes
 counted-bytes false one xs = join (map one xs)
-counted-bytes true one xs = length xs ∷ join (map one xs)
+counted-bytes true one xs = count-bytes (length xs) ++ join (map one xs)
 
 unfoldable pub each-bytes : {X Y : Type 0} → (Y → X → Bytes) → List Y → List X → Bytes
 each-bytes one [] xs = []

@@ -5,7 +5,7 @@ use Prim.Native.Nat.{ℕ, _-_, min}
 use lib.Dec.{leb}
 use lib.ListN.{length, take, replicate}
 use Rattle.rules.specs.Outcome.{Outcome, done, refused, _>>=_, need}
-use Rattle.rules.specs.Limits.{longest-items, longest-record}
+use Rattle.rules.specs.Limits.{longest-items, longest-new-record}
 use Rattle.rules.specs.Characters.{space}
 use Rattle.rules.specs.Lists.{Bytes}
 use Rattle.rules.specs.Values.{content, carried}
@@ -53,7 +53,7 @@ assignments-of es f buffer = do
 -- "new record over 4,096 bytes or over the lent room" is 10.
 unfoldable pub fitting : ℕ → Bytes → Outcome Bytes
 fitting room b = do
-  _ ← need (leb (length b) (min room longest-record)) 10
+  _ ← need (leb (length b) (min room longest-new-record)) 10
   done b
 
 -- Update: 1, 2, then what it assigns, then 10.

@@ -6,7 +6,7 @@ use Prim.Native.Nat.{ℕ, zero, suc, _+_, _*_}
 use lib.Dec.{eqb, leb, ltb}
 use lib.ListN.{take, drop, getD}
 use Rattle.rules.specs.Outcome.{Outcome, done, refused, _>>=_, need}
-use Rattle.rules.specs.Limits.{most-entries, deepest-level}
+use Rattle.rules.specs.Limits.{most-entries, deepest-level, table-head-size}
 use Rattle.rules.specs.Characters.{space, letter, digit, letter-A, letter-B, letter-E, letter-F, letter-P, letter-U}
 use Rattle.rules.specs.Lists.{Bytes, same, all, look-up}
 use Rattle.rules.specs.Values.{Format, alpha, binary, fixed, packed, unpacked, allowed}
@@ -89,7 +89,7 @@ unfoldable pub table : Bytes → Outcome (List Entry)
 table bs = do
   _ ← need (same (take 5 bs) table-head) 1
   _ ← need (leb 1 (getD bs 5 0) && leb (getD bs 5 0) most-entries) 1
-  es ← entries (getD bs 5 0) (drop 6 bs)
+  es ← entries (getD bs 5 0) (drop table-head-size bs)
   _ ← need (levels (group false) 0 es && differ (names es)) 1
   done es
 

@@ -5,7 +5,7 @@ use Prim.Native.Nat.{ℕ, zero, suc, _+_, _-_, _*_, _/_, _%_, _^_}
 use lib.Dec.{eqb, leb, ltb}
 use lib.ListN.{length, replicate, drop}
 use Rattle.rules.specs.Outcome.{Outcome, done, refused, _>>=_, need}
-use Rattle.rules.specs.Limits.{longest-alpha, longest-binary, longest-packed, longest-unpacked, greatest-word}
+use Rattle.rules.specs.Limits.{longest-alpha, longest-binary, longest-packed, longest-unpacked, lowest-word, greatest-word}
 use Rattle.rules.specs.Characters.{space}
 use Rattle.rules.specs.Lists.{Bytes, bytes-of, same, all, cut, spelled, digits, but-last, last}
 
@@ -202,7 +202,7 @@ in-range never v = false
 in-range every v = true
 in-range word (text t) = false
 in-range word (number false n) = leb n greatest-word
-in-range word (number true n) = leb n (suc greatest-word)
+in-range word (number true n) = leb n lowest-word
 in-range natural (text t) = false
 in-range natural (number false n) = leb n greatest-word
 in-range natural (number true n) = false
