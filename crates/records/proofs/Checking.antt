@@ -9,6 +9,7 @@ use native.Mathlib.Omega.{arith}
 use lib.Dec.{ltb}
 use lib.ListN.{length, drop, getD, drop-of-length-le}
 use lib.Seq.{drop-cons}
+use Rattle.rules.specs.Limits.{record-head-size}
 use Rattle.rules.specs.Outcome.{Outcome, done, refused, _>>=_}
 use Rattle.rules.specs.Lists.{Bytes}
 use Rattle.rules.specs.Table.{What, field, group, Entry, Part, is-inside, parts-from, part-of, parts}
@@ -73,11 +74,11 @@ nothing-left before bs = refl
 pub record Checking (es : List Entry) (b : Bytes) (places : List ℕ) (before : Bool) (i p : ℕ) : Type 0 where
   pub upto : i ≤ length es
   pub inside : p ≤ length b
-  pub rest : left before (drop i es) (drop p b) ≡ left false es (drop 5 b)
-  pub starts : (j : ℕ) → start-of before (drop i es) (drop p b) j ≡ start-of false es (drop 5 b) (i + j)
+  pub rest : left before (drop i es) (drop p b) ≡ left false es (drop record-head-size b)
+  pub starts : (j : ℕ) → start-of before (drop i es) (drop p b) j ≡ start-of false es (drop record-head-size b) (i + j)
   pub kept : (j : ℕ) → j < i → Starts es b places j
 
-pub start : (es : List Entry) (b : Bytes) (places : List ℕ) → 5 ≤ length b → Checking es b places false 0 5
+pub start : (es : List Entry) (b : Bytes) (places : List ℕ) → record-head-size ≤ length b → Checking es b places false 0 record-head-size
 start es b places h = record {
   upto = omega arith;
   inside = h;
@@ -88,7 +89,7 @@ start es b places h = record {
 
 module _ {es : List Entry} {b : Bytes} {places : List ℕ} {before : Bool} {i p : ℕ} (c : Checking es b places before i p) (less : i < length es) (d : Entry) where
   -- The place of entry i is where the walk stands.
-  here : start-of false es (drop 5 b) i ≡ drop p b
+  here : start-of false es (drop record-head-size b) i ≡ drop p b
   here = rw add-zero at (sym (c .starts 0)) ∙ rw (drop-cons es i d less) (start-here before (getD es i d) (drop (suc i) es) (drop p b))
 
   pub turn : (q : ℕ) (after : List ℕ) → getD after i 0 ≡ p → ((j : ℕ) → j < i → getD after j 0 ≡ getD places j 0) → q ≤ length b
@@ -99,12 +100,12 @@ module _ {es : List Entry} {b : Bytes} {places : List ℕ} {before : Bool} {i p 
     inside = h;
     rest = rw add-one (sym (entry-on before (getD es i d) (drop (suc i) es) (drop p b) (drop q b) e) ∙ rw (drop-cons es i d less) at (c .rest));
     starts = λ j. rw add-one (sym (start-on before (getD es i d) (drop (suc i) es) (drop p b) (drop q b) j e)
-        ∙ rw (drop-cons es i d less) at (c .starts (suc j)) ∙ ap (start-of false es (drop 5 b)) (omega arith));
+        ∙ rw (drop-cons es i d less) at (c .starts (suc j)) ∙ ap (start-of false es (drop record-head-size b)) (omega arith));
     kept = λ j k. by-order j i (λ l. rw (old j l) (c .kept j l)) (λ l. let z : j ≡ i = omega arith in rw (z, new) (c .inside, sym here));
   }
 
-  pub bad : behind (is-inside before (getD es i d)) (getD es i d) (drop (suc i) es) (drop p b) ≡ refused 2 → left false es (drop 5 b) ≡ refused 2
+  pub bad : behind (is-inside before (getD es i d)) (getD es i d) (drop (suc i) es) (drop p b) ≡ refused 2 → left false es (drop record-head-size b) ≡ refused 2
   bad e = sym (c .rest) ∙ rw (drop-cons es i d less) (entry-off before (getD es i d) (drop (suc i) es) (drop p b) 2 e)
 
-pub over : {es : List Entry} {b : Bytes} {places : List ℕ} {before : Bool} {i p : ℕ} → Checking es b places before i p → length es ≤ i → left false es (drop 5 b) ≡ done (drop p b)
+pub over : {es : List Entry} {b : Bytes} {places : List ℕ} {before : Bool} {i p : ℕ} → Checking es b places before i p → length es ≤ i → left false es (drop record-head-size b) ≡ done (drop p b)
 over {es} {b} {places} {before} {i} {p} c h = sym (c .rest) ∙ rw (drop-of-length-le es h) (nothing-left before (drop p b))

@@ -14,13 +14,15 @@ use Rattle.rules.specs.Table.{Entry, is-inside, parts}
 use Rattle.rules.specs.Record.{stored}
 use Rattle.buffer.proofs.Cases.{by-order}
 use Rattle.tables.specs.Entries.{blank}
-use Rattle.records.specs.Walk.{Walked, behind, is-headed, directory, occurrence, rows-of, Kept, Rows, Checked, greatest-byte}
+use Rattle.rules.specs.Limits.{most-entries}
+use Rattle.records.specs.Counts.{greatest-byte}
+use Rattle.records.specs.Walk.{Walked, behind, is-headed, firsts, kept-from, directory, occurrence, rows-of, Kept, Rows, Checked}
 use Rattle.records.specs.declared.Reach.{Reach}
 use Rattle.records.specs.declared.Reach.the-variants.{At, Bad}
 use Rattle.records.proofs.Entries.{never}
 use Rattle.records.proofs.Walks.{walked-at, walked-bad}
 use Rattle.records.proofs.Checking.{Checking, turn, bad, over}
-use Rattle.records.proofs.Heads.{stored-headless, stored-bad, stored-over}
+use Rattle.records.proofs.HeadLaws.{stored-headless, stored-bad, stored-over}
 
 refuses : (es : List Entry) (b : Bytes) (places : List ℕ) (ok : Bool) → is-done (stored (parts es) b) ≡ false → ok ≡ false → Checked es b places ok
 refuses es b places ok h k = record { answer = k ∙ sym h; starts = λ e j l. absurd (never k e); rows = λ e j l. absurd (never k e) }
@@ -31,13 +33,13 @@ no-head es b places ok h k = refuses es b places ok (stored-headless (parts es) 
 -- The occurrences of the entries before entry i are kept, each entry's before the next one's, and all before the number `kept`.
 pub record Rowing (es : List Entry) (b : Bytes) (places : List ℕ) (i kept : ℕ) : Type 0 where
   pub long : length places ≡ directory
-  pub least : 128 ≤ kept
-  pub most : kept ≤ 128 + i * greatest-byte
-  pub low : (g : ℕ) → g < i → 128 ≤ getD places (64 + g) 0
-  pub high : (g : ℕ) → g < i → getD places (64 + g) 0 + rows-of (getD es g blank .what) (getD b (getD places g 0) 0) ≤ kept
+  pub least : kept-from ≤ kept
+  pub most : kept ≤ kept-from + i * greatest-byte
+  pub low : (g : ℕ) → g < i → kept-from ≤ getD places (firsts + g) 0
+  pub high : (g : ℕ) → g < i → getD places (firsts + g) 0 + rows-of (getD es g blank .what) (getD b (getD places g 0) 0) ≤ kept
   pub rows : (g : ℕ) → g < i → Rows es b places g
 
-pub rowing : (es : List Entry) (b : Bytes) (places : List ℕ) → length places ≡ directory → Rowing es b places 0 128
+pub rowing : (es : List Entry) (b : Bytes) (places : List ℕ) → length places ≡ directory → Rowing es b places 0 kept-from
 rowing es b places h = record {
   long = h;
   least = omega arith;
@@ -51,33 +53,33 @@ pub long-set : (l : List ℕ) (i v j w : ℕ) → length (set (set l i v) j w) �
 long-set l i v j w = length-set (set l i v) j w ∙ length-set l i v
 
 -- Entry i adds its place, the number of its first occurrence, and the places of its occurrences.
-module _ {es : List Entry} {b : Bytes} {places : List ℕ} {i kept : ℕ} (l : Rowing es b places i kept) (small : i < 64) (p : ℕ) {after : List ℕ}
-    (k : Kept (occurrence es i) b (p + 1) (rows-of (getD es i blank .what) (getD b p 0)) kept (set (set places i p) (64 + i) kept) after) where
-  others : (j : ℕ) → j < kept → (j ≡ i → ⊥) → (j ≡ 64 + i → ⊥) → getD after j 0 ≡ getD places j 0
-  others j h a c = k .others j h ∙ getD-set-other (set places i p) (64 + i) j kept 0 c ∙ getD-set-other places i j p 0 a
+module _ {es : List Entry} {b : Bytes} {places : List ℕ} {i kept : ℕ} (l : Rowing es b places i kept) (small : i < most-entries) (p : ℕ) {after : List ℕ}
+    (k : Kept (occurrence es i) b (p + 1) (rows-of (getD es i blank .what) (getD b p 0)) kept (set (set places i p) (firsts + i) kept) after) where
+  others : (j : ℕ) → j < kept → (j ≡ i → ⊥) → (j ≡ firsts + i → ⊥) → getD after j 0 ≡ getD places j 0
+  others j h a c = k .others j h ∙ getD-set-other (set places i p) (firsts + i) j kept 0 c ∙ getD-set-other places i j p 0 a
 
   pub old : (j : ℕ) → j < i → getD after j 0 ≡ getD places j 0
   old j h = others j (omega (arith, l .least)) (λ z. omega arith) (λ z. omega arith)
 
   pub new : getD after i 0 ≡ p
-  new = k .others i (omega (arith, l .least)) ∙ getD-set-other (set places i p) (64 + i) i kept 0 (λ z. omega arith) ∙ getD-set-same places i p 0 (omega (arith, l .long))
+  new = k .others i (omega (arith, l .least)) ∙ getD-set-other (set places i p) (firsts + i) i kept 0 (λ z. omega arith) ∙ getD-set-same places i p 0 (omega (arith, l .long))
 
-  old-first : (j : ℕ) → j < i → getD after (64 + j) 0 ≡ getD places (64 + j) 0
-  old-first j h = others (64 + j) (omega (arith, l .least)) (λ z. omega arith) (λ z. omega arith)
+  old-first : (j : ℕ) → j < i → getD after (firsts + j) 0 ≡ getD places (firsts + j) 0
+  old-first j h = others (firsts + j) (omega (arith, l .least)) (λ z. omega arith) (λ z. omega arith)
 
-  new-first : getD after (64 + i) 0 ≡ kept
-  new-first = k .others (64 + i) (omega (arith, l .least)) ∙ getD-set-same (set places i p) (64 + i) kept 0 (omega (arith, length-set places i p, l .long))
+  new-first : getD after (firsts + i) 0 ≡ kept
+  new-first = k .others (firsts + i) (omega (arith, l .least)) ∙ getD-set-same (set places i p) (firsts + i) kept 0 (omega (arith, length-set places i p, l .long))
 
   old-rows : (g : ℕ) → g < i → Rows es b after g
   old-rows g h = rw (old g h, old-first g h) λ n less room.
-      rw (others (getD places (64 + g) 0 + n) (omega (arith, less, l .high g h)) (λ z. omega (arith, l .low g h)) (λ z. omega (arith, l .low g h))) (l .rows g h n less room)
+      rw (others (getD places (firsts + g) 0 + n) (omega (arith, less, l .high g h)) (λ z. omega (arith, l .low g h)) (λ z. omega (arith, l .low g h))) (l .rows g h n less room)
 
   new-rows : Rows es b after i
   new-rows = rw (new, new-first) (k .rows)
 
   pub rowed : {next : ℕ} → next ≡ kept + rows-of (getD es i blank .what) (getD b p 0) → next ≤ kept + greatest-byte → Rowing es b after (i + 1) next
   rowed q h = record {
-    long = k .long ∙ long-set places i p (64 + i) kept ∙ l .long;
+    long = k .long ∙ long-set places i p (firsts + i) kept ∙ l .long;
     least = omega (arith, l .least, q);
     most = omega (arith, l .most);
     low = λ g m. by-order g i (λ o. rw (old-first g o) (l .low g o)) (λ o. let z : g ≡ i = omega arith in rw (z, new-first) (l .least));

@@ -7,11 +7,12 @@ use native.Mathlib.Numerals.{add-one}
 use native.Mathlib.Omega.{arith}
 use borrow.Author.Tests.{eqb-true, eqb-false, ne-eqb}
 use lib.Dec.{T, ltb, eqb, leb, leb→le}
-use lib.ListN.{length, replicate, drop, getD, length-append, drop-of-length-le}
+use lib.ListN.{length, drop, getD, length-append, drop-of-length-le}
 use lib.Seq.{drop-cons}
 use Rattle.rules.specs.Limits.{longest-alpha, longest-binary, longest-packed, longest-unpacked}
 use Rattle.rules.specs.Lists.{Bytes}
 use Rattle.rules.specs.Values.{Format, alpha, binary, fixed, packed, unpacked, allowed, null}
+use Rattle.rules.specs.Record.{count-bytes}
 use Rattle.rules.specs.Table.{What, field, group, Entry, inside-of, is-inside}
 use Rattle.tables.specs.Entries.{blank, format-at, number-of, format-number, size-of, is-multiple, is-periodic, decoded}
 use Rattle.buffer.specs.Splice.{splice}
@@ -88,7 +89,7 @@ inside-not before l (group p) h b = rw (h, b) refl
 
 -- What an entry adds.
 module _ (inside : Bool) (w : What) where
-  pub adds-count : format-number w ≡ 5 → is-periodic w ≡ true → empty-entry inside w ≡ 0 ∷ []
+  pub adds-count : format-number w ≡ 5 → is-periodic w ≡ true → empty-entry inside w ≡ count-bytes 0
   unfolding empty-entry
   adds-count h p = ap (empty-entry inside) (row-group w h) ∙ rw p refl
 
@@ -100,7 +101,7 @@ module _ (inside : Bool) (w : What) where
   unfolding empty-entry
   adds-no-more h p = ap (empty-entry inside) (row-field w h) ∙ rw p refl
 
-  pub adds-no-values : (format-number w ≡ 5 → ⊥) → inside ≡ false → is-multiple w ≡ true → empty-entry inside w ≡ 0 ∷ []
+  pub adds-no-values : (format-number w ≡ 5 → ⊥) → inside ≡ false → is-multiple w ≡ true → empty-entry inside w ≡ count-bytes 0
   unfolding empty-entry
   adds-no-values h p m = ap (empty-entry inside) (row-field w h) ∙ rw (p, m) refl
 
@@ -118,7 +119,7 @@ pub empty-over : (before : Bool) (es : List Entry) (i : ℕ) → length es ≤ i
 unfolding empty-from
 empty-over before es i h = rw (drop-of-length-le es h) refl
 
--- What adds null, and what adds zeros or nothing.
+-- What adds null, and what adds a count of 0 or nothing.
 module _ (inside : Bool) (e : Entry) where
   pub null-adds : null-row inside (decoded e) ≡ true
       → ((format-number (e .what) ≡ 5 → ⊥) × (empty-entry inside (e .what) ≡ null (format-at (format-number (e .what))) (size-of (e .what))))
@@ -132,17 +133,24 @@ module _ (inside : Bool) (e : Entry) where
           (λ y. by-test (is-multiple w) (λ z. absurd (not-both (rw (x, y, z) at q)))
           (λ z. (eqb-false (format-number w) 5 x, adds-null i w (eqb-false (format-number w) 5 x) y z))))
 
-  pub zeros-added : null-row inside (decoded e) ≡ false → empty-entry inside (e .what) ≡ replicate (length (empty-entry inside (e .what))) 0
+  pub nothing-added : length (empty-entry inside (e .what)) ≡ 0 → empty-entry inside (e .what) ≡ []
+  nothing-added h = go (empty-entry inside (e .what)) h
+    where
+      go : (bs : Bytes) → length bs ≡ 0 → bs ≡ []
+      go [] z = refl
+      go (b ∷ bs) z = absurd (omega (arith, z))
+
+  pub count-added : null-row inside (decoded e) ≡ false → (length (empty-entry inside (e .what)) ≡ 0 → ⊥) → empty-entry inside (e .what) ≡ count-bytes 0
   unfolding null-row empty-entry
-  zeros-added h = go (e .what) inside h
+  count-added h more = go (e .what) inside h more
     where
       go : (w : What) (i : Bool) → (not (eqb (format-number w) 5) && not i && not (is-multiple w)) ≡ false
-          → empty-entry i w ≡ replicate (length (empty-entry i w)) 0
-      go (group true) i q = refl
-      go (group false) i q = refl
-      go (field f n m) true q = refl
-      go (field f n true) false q = refl
-      go (field f n false) false q = absurd (not-both (sym (rw (ne-eqb (number-of f) 5 (λ z. let l = number-small f in omega arith)) at q)))
+          → (length (empty-entry i w) ≡ 0 → ⊥) → empty-entry i w ≡ count-bytes 0
+      go (group true) i q z = refl
+      go (group false) i q z = absurd (z refl)
+      go (field f n m) true q z = absurd (z refl)
+      go (field f n true) false q z = refl
+      go (field f n false) false q z = absurd (not-both (sym (rw (ne-eqb (number-of f) 5 (λ z. let l = number-small f in omega arith)) at q)))
 
 -- A loop that writes what the entries add: i are written, up to the place `at`, and the rest makes up the whole.
 pub record Writing (es : List Entry) (start : ℕ) (out₀ out : Bytes) (inside : Bool) (i at : ℕ) : Type 0 where
@@ -151,27 +159,27 @@ pub record Writing (es : List Entry) (start : ℕ) (out₀ out : Bytes) (inside 
   pub rest : splice at (empty-from inside (drop i es)) out ≡ splice start (empty-from false es) out₀
 
 module _ {es : List Entry} {start : ℕ} {out₀ out : Bytes} {inside : Bool} {i at : ℕ} (w : Writing es start out₀ out inside i at) where
-  module _ (less : i < length es) (walk-place : Bool) (is : walk-place ≡ is-inside inside (getD es i blank)) where
+  module _ (less : i < length es) (here-inside : Bool) (is : here-inside ≡ is-inside inside (getD es i blank)) where
     added : Bytes
-    added = empty-entry walk-place (getD es i blank .what)
+    added = empty-entry here-inside (getD es i blank .what)
 
-    first : empty-from inside (drop i es) ≡ added ++ empty-from walk-place (drop (i + 1) es)
+    first : empty-from inside (drop i es) ≡ added ++ empty-from here-inside (drop (i + 1) es)
     unfolding added
     first = rw is (empty-turn inside es i blank less)
 
-    pub writing-room : at + length (empty-entry walk-place (getD es i blank .what)) ≤ length out
+    pub writing-room : at + length (empty-entry here-inside (getD es i blank .what)) ≤ length out
     unfolding added
     writing-room = omega (arith, w .room, rw length-append at (ap length first))
 
-    pub writing-turn : (at′ : ℕ) (out′ : Bytes) → at′ ≡ at + length (empty-entry walk-place (getD es i blank .what))
-        → out′ ≡ splice at (empty-entry walk-place (getD es i blank .what)) out → Writing es start out₀ out′ walk-place (i + 1) at′
+    pub writing-turn : (at′ : ℕ) (out′ : Bytes) → at′ ≡ at + length (empty-entry here-inside (getD es i blank .what))
+        → out′ ≡ splice at (empty-entry here-inside (getD es i blank .what)) out → Writing es start out₀ out′ here-inside (i + 1) at′
     unfolding added
     writing-turn at′ out′ e q =
         let l : length out′ ≡ length out = ap length q ∙ length-splice at added out writing-room in
         record {
           same = l ∙ w .same;
           room = omega (arith, w .room, rw length-append at (ap length first));
-          rest = splice-rest at added (empty-from walk-place (drop (i + 1) es)) out out′ (splice start (empty-from false es) out₀) at′ (rw (← first) (w .rest)) q e writing-room;
+          rest = splice-rest at added (empty-from here-inside (drop (i + 1) es)) out out′ (splice start (empty-from false es) out₀) at′ (rw (← first) (w .rest)) q e writing-room;
         }
 
   pub writing-end : length es ≤ i → out ≡ splice start (empty-from false es) out₀

@@ -20,7 +20,8 @@ use Rattle.buffer.proofs.Cases.{by-order}
 use Rattle.tables.specs.Entries.{blank, format-at, format-number, size-of, is-multiple, is-periodic}
 use Rattle.tables.specs.Groups.{run-below, group-end}
 use Rattle.tables.proofs.Nesting.{run-short}
-use Rattle.records.specs.Walk.{rest-of, behind, has-count, occurrence, rows-of, Kept}
+use Rattle.records.specs.Counts.{has-count}
+use Rattle.records.specs.Walk.{rest-of, behind, occurrence, rows-of, Kept}
 use Rattle.records.specs.Where.{field-of, fields-of}
 use Rattle.records.proofs.Walks.{each-turn, each-stop, count-missing, count-over, count-good, not-counted}
 use Rattle.records.proofs.Entries.{never}

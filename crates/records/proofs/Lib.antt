@@ -11,7 +11,7 @@ pub mod Homes
 pub mod EmptyRows
 pub mod Turns
 pub mod Ends
-pub mod Heads
+pub mod HeadLaws
 pub mod Normals
 pub mod Directories
 pub mod Placed

@@ -7,6 +7,7 @@ use native.Mathlib.Nat.{not-suc-le-zero, le-of-suc-le-suc}
 use native.Mathlib.Omega.{arith}
 use lib.ListN.{length, take, drop, getD, length-append, length-drop, drop-of-length-le}
 use lib.Seq.{slice, slice-cons, slice-empty, take-at}
+use Rattle.rules.specs.Limits.{record-head-size}
 use Rattle.rules.specs.Outcome.{Outcome, done}
 use Rattle.rules.specs.Lists.{Bytes, join}
 use Rattle.rules.specs.Values.{Format}
@@ -61,7 +62,7 @@ inside-group es j q = ap (inside-of (inside-before es j) (getD es j blank .level
 
 module _ {es : List Entry} {b : Bytes} {places : List ℕ} {r : Record} (held : Held es b places r) (named : differ (names es) ≡ true) where
   abbrev from : ℕ → Bytes
-  from j = start-of false es (drop 5 b) j
+  from j = start-of false es (drop record-head-size b) j
 
   module _ (j : ℕ) (less : j < length es) where
     abbrev left : Outcome Bytes
@@ -70,13 +71,13 @@ module _ {es : List Entry} {b : Bytes} {places : List ℕ} {r : Record} (held : 
     last-left : length es ≤ suc j → {mid : Bytes} → left ≡ done mid → mid ≡ []
     unfolding parts parts-from behind
     last-left l e = whole-body (parts es) b r (held .stands) λ rest h z.
-        reach false es (drop 5 b) r rest blank j less h λ r′ q.
+        reach false es (drop record-head-size b) r rest blank j less h λ r′ q.
         done-inj (sym (rw (drop-of-length-le es l) at e) ∙ ap rest-of (rw (drop-of-length-le es l) at (q .stands))) ∙ z
 
     next-left : {mid : Bytes} → left ≡ done mid → from (suc j) ≡ mid
     next-left e = by-order (suc j) (length es)
-        (λ l. start-next false es blank (drop 5 b) j l ∙ ap bytes-left e)
-        (λ l. start-none false es (drop 5 b) (suc j) l ∙ sym (last-left l e))
+        (λ l. start-next false es blank (drop record-head-size b) j l ∙ ap bytes-left e)
+        (λ l. start-none false es (drop record-head-size b) (suc j) l ∙ sym (last-left l e))
 
     step-by : inside-at es j ≡ false → (w : What) → getD es j blank .what ≡ w → is-multiple w ≡ false
         → from j ≡ values-of es r 1 (field-of (getD es j blank .name) w) ++ from (suc j)

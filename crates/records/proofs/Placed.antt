@@ -9,7 +9,7 @@ use lib.Dec.{leb}
 use lib.ListN.{length, take, drop, getD}
 use lib.Seq.{slice, getD-drop}
 use Rattle.rules.specs.Outcome.{done, is-done}
-use Rattle.rules.specs.Limits.{longest-record}
+use Rattle.rules.specs.Limits.{longest-record, record-head-size}
 use Rattle.rules.specs.Lists.{Bytes, same, nothing}
 use Rattle.rules.specs.Values.{Format}
 use Rattle.rules.specs.Table.{What, field, group, Entry, Part, is-inside, fields-below, names, differ, parts}
@@ -21,7 +21,7 @@ use Rattle.tables.specs.Places.{inside-at, inside-before, Home}
 use Rattle.tables.specs.Groups.{group-end, field-by, field-at}
 use Rattle.tables.proofs.Rows.{number-back}
 use Rattle.tables.proofs.Nesting.{run-levels}
-use Rattle.records.specs.Walk.{rest-of, Walked, Ends, directory, occurrence, Checked}
+use Rattle.records.specs.Walk.{rest-of, Walked, Ends, firsts, directory, occurrence, Checked}
 use Rattle.records.specs.Where.{inside-from, First, Deeper, fields-of}
 use Rattle.records.specs.Places.{Held, Holds, Entered, Cell-of}
 use Rattle.records.specs.declared.Reach.the-variants as S
@@ -42,16 +42,16 @@ holds es b places ok c t = by-outcome (stored (parts es) b)
     (λ n h. absurd (never (c .answer ∙ ap is-done h) t))
 
 -- The body of a record is what its parts read.
-pub whole-body : {C : Type 0} (ps : List Part) (b : Bytes) (r : Record) → stored ps b ≡ done r → ((rest : Bytes) → each stored-part ps (drop 5 b) ≡ done (r, rest) → rest ≡ [] → C) → C
+pub whole-body : {C : Type 0} (ps : List Part) (b : Bytes) (r : Record) → stored ps b ≡ done r → ((rest : Bytes) → each stored-part ps (drop record-head-size b) ≡ done (r, rest) → rest ≡ [] → C) → C
 unfolding stored
 whole-body ps b r p k =
     from-need (leb (length b) longest-record) 2 _ p λ t k₁.
-    from-need (same (take 5 b) record-head) 2 _ k₁ λ t₂ k₂.
-    from-bind (each stored-part ps (drop 5 b)) _ k₂ λ x h k₃.
+    from-need (same (take record-head-size b) record-head) 2 _ k₁ λ t₂ k₂.
+    from-bind (each stored-part ps (drop record-head-size b)) _ k₂ λ x h k₃.
     from-need (nothing (x .1)) 2 _ k₃ λ t₃ k₄.
     k (x .1) (h ∙ rw (done-inj k₄) refl) (nothing-eq (x .1) t₃)
 
-body : {C : Type 0} (ps : List Part) (b : Bytes) (r : Record) → stored ps b ≡ done r → ((rest : Bytes) → each stored-part ps (drop 5 b) ≡ done (r, rest) → C) → C
+body : {C : Type 0} (ps : List Part) (b : Bytes) (r : Record) → stored ps b ≡ done r → ((rest : Bytes) → each stored-part ps (drop record-head-size b) ≡ done (r, rest) → C) → C
 body ps b r p k = whole-body ps b r p λ rest h z. k rest h
 
 -- An entry that is no group is a field.
@@ -106,15 +106,15 @@ module _ {es : List Entry} {b : Bytes} {places : List ℕ} {r : Record} (held : 
   cell-outside i o less what out one =
       body (parts es) b r (held .stands) λ rest h.
       by-field (getD es i blank .what) what λ f s mu w.
-      outside false es (drop 5 b) r rest h blank (getD es i blank .name) i f s mu (own-name i less) (inside-same es i less ∙ out) w λ mid q.
+      outside false es (drop record-head-size b) r rest h blank (getD es i blank .name) i f s mu (own-name i less) (inside-same es i less ∙ out) w λ mid q.
       let p = held .starts i less in
       (p .0, mid, rw (field-is es i f s mu w, p .1, one) q)
 
   -- A periodic group's count is the byte at its place.
   module _ (g : ℕ) (less : g < length es) (what : getD es g blank .what ≡ group true) where
-    group-there : {C : Type 0} → ((os : List Occurrence) (mid : Bytes) → Grouped false es (drop 5 b) r blank g os mid → C) → C
+    group-there : {C : Type 0} → ((os : List Occurrence) (mid : Bytes) → Grouped false es (drop record-head-size b) r blank g os mid → C) → C
     unfolding parts
-    group-there k = body (parts es) b r (held .stands) λ rest h. grouped false es (drop 5 b) r rest h blank g less what k
+    group-there k = body (parts es) b r (held .stands) λ rest h. grouped false es (drop record-head-size b) r rest h blank g less what k
 
     pub count-there : (getD places g 0 < length b) × (getD b (getD places g 0) 0 ≡ group-count-at (parts es) r (getD es g blank .name))
     unfolding parts
@@ -150,8 +150,8 @@ module _ {es : List Entry} {b : Bytes} {places : List ℕ} {r : Record} (held : 
           (λ k h. absurd (not-done (sym (each-off stored-cell (fields-of (slice i (group-end es g) es)) (fields-of (slice (g + 1) i es)) (drop p b) k h)
           ∙ rw (fields-split es blank (i - (g + 1)) (g + 1) i (group-end es g) (omega arith) m (group-within es g less .1)) at (row-whole .1))))
 
-    pub row-kept : (k : ℕ) → k < getD b (getD places g 0) 0 → getD places (64 + g) 0 + k < directory
-        → Walked b (rest-of (times k (occurrence es g) (drop (getD places g 0 + 1) b))) (S.At (getD places (getD places (64 + g) 0 + k) 0))
+    pub row-kept : (k : ℕ) → k < getD b (getD places g 0) 0 → getD places (firsts + g) 0 + k < directory
+        → Walked b (rest-of (times k (occurrence es g) (drop (getD places g 0 + 1) b))) (S.At (getD places (getD places (firsts + g) 0 + k) 0))
     row-kept k some room = held .rows g less k (rw (rows-some (getD es g blank .what) (getD b (getD places g 0) 0) (ap is-periodic what)) some) room
 
   -- Entry i, a field in the periodic group that entry g is, in occurrence o.

@@ -16,7 +16,8 @@ use Rattle.rules.specs.Table.{Field}
 use Rattle.rules.specs.Use.{plain}
 use Rattle.rules.specs.Record.{Reader, times, each, counted, stored-value, stored-cell}
 use Rattle.rules.proofs.Steps.{done-inj, not-done, by-test, by-outcome}
-use Rattle.records.specs.Walk.{rest-of, Walked, Ends, has-count}
+use Rattle.records.specs.Counts.{has-count}
+use Rattle.records.specs.Walk.{rest-of, Walked, Ends}
 use Rattle.records.specs.Paths.{lengths}
 use Rattle.records.specs.declared.Reach.the-variants.{At}
 use Rattle.records.proofs.Entries.{never}

@@ -19,7 +19,7 @@ use Rattle.records.specs.Where.{field-of, fields-of}
 use Rattle.records.specs.Paths.{lengths, Width}
 use Rattle.records.proofs.Entries.{never}
 use Rattle.rules.specs.Limits.{most-entries}
-use Rattle.records.specs.Walk.{greatest-byte}
+use Rattle.records.specs.Counts.{greatest-byte}
 use Rattle.records.proofs.EmptyRows.{row-group}
 
 -- One entry, by the numbers that the code has of it.
@@ -91,7 +91,7 @@ module _ {es : List Entry} {first end i w : ℕ} (l : Adding es first end i w) w
         let rest = fields-of (slice (i + 1) end es) in
         sym (l .plains) ∙ ap (all plain) here ∙ plains-append own rest ∙ ap (λ (t : Bool). t && all plain rest) (rw q at one)
 
-  pub added : end ≤ i → end ≤ 64 → Width (fields-of (slice first end es)) (most-entries * greatest-byte) (At w)
+  pub added : end ≤ i → end ≤ most-entries → Width (fields-of (slice first end es)) (most-entries * greatest-byte) (At w)
   unfolding fields-of all lengths
   added h k =
       let z : i ≡ end = omega (arith, l .upto) in

@@ -5,16 +5,17 @@ use Prim.Native.Nat.{ℕ}
 use lib.Dec.{eqb}
 use Rattle.rules.specs.Lists.{Bytes}
 use Rattle.rules.specs.Values.{null}
+use Rattle.rules.specs.Record.{count-bytes}
 use Rattle.rules.specs.Table.{What, field, group, Entry, is-inside}
 use Rattle.tables.specs.Entries.{group-number}
 use Rattle.tables.specs.declared.Entry.{Entry as Row}
 
 -- An entry that is or lies in a periodic group, or not: a count 0, null, or nothing.
 unfoldable pub empty-entry : Bool → What → Bytes
-empty-entry inside (group true) = 0 ∷ []
+empty-entry inside (group true) = count-bytes 0
 empty-entry inside (group false) = []
 empty-entry true (field f n mu) = []
-empty-entry false (field f n true) = 0 ∷ []
+empty-entry false (field f n true) = count-bytes 0
 empty-entry false (field f n false) = null f n
 
 unfoldable pub empty-from : Bool → List Entry → Bytes

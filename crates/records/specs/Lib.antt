@@ -1,4 +1,5 @@
 pub mod Empty
+pub mod Counts
 pub mod Walk
 pub mod Where
 pub mod Places

@@ -6,6 +6,7 @@ use Prim.Native.Nat.{ℕ, _+_, _*_, _-_, _≤_, _<_}
 use lib.ListN.{length, take, drop, getD}
 use lib.Seq.{slice}
 use Rattle.rules.specs.Outcome.{done}
+use Rattle.rules.specs.Limits.{count-size}
 use Rattle.rules.specs.Lists.{Bytes, join, run}
 use Rattle.rules.specs.Values.{Format, content, allowed}
 use Rattle.rules.specs.Table.{Entry, Field, parts}
@@ -34,7 +35,7 @@ Holds es b places = (r : Record) × Held es b places r
 -- Entry i's place in occurrence o of the periodic group that entry g is: the occurrence stands at p, and there the fields before the entry.
 pub record Stands (es : List Entry) (b : Bytes) (places : List ℕ) (g i o : ℕ) (r : Record) (p q : ℕ) : Type 0 where
   pub many : o ≤ group-count-at (parts es) r (getD es g blank .name)
-  pub row : Walked b (rest-of (times (o - 1) (occurrence es g) (drop (getD places g 0 + 1) b))) (Reach.At p)
+  pub row : Walked b (rest-of (times (o - 1) (occurrence es g) (drop (getD places g 0 + count-size) b))) (Reach.At p)
   pub before : Walked b (rest-of (each stored-cell (fields-of (slice (g + 1) i es)) (drop p b))) (Reach.At q)
 
 -- The same of the code's answer: or there is no such occurrence.

@@ -2,18 +2,19 @@
 use mathlib.Core.Path.{_≡_}
 use mathlib.Core.Bool.{Bool, true, false, cond, _&&_}
 use mathlib.Core.List.{List, [], _∷_}
-use Prim.Native.Nat.{ℕ, zero, suc, _+_, _≤_, _<_}
-use lib.Dec.{leb, ltb}
+use Prim.Native.Nat.{ℕ, zero, suc, _+_, _*_, _≤_, _<_}
+use lib.Dec.{leb}
 use lib.ListN.{length, take, drop, getD}
 use lib.Seq.{slice}
 use Rattle.rules.specs.Outcome.{Outcome, done, refused, is-done}
-use Rattle.rules.specs.Limits.{most-entries, greatest-count, longest-record}
+use Rattle.rules.specs.Limits.{most-entries, longest-record, record-head-size, count-size}
 use Rattle.rules.specs.Lists.{Bytes, same}
 use Rattle.rules.specs.Table.{What, Entry, is-inside, part-of, parts}
 use Rattle.rules.specs.Record.{Occurrence, Reader, record-head, times, each, stored-cell, stored-part, stored}
 use Rattle.tables.specs.Entries.{blank, is-periodic}
 use Rattle.tables.specs.Groups.{group-end}
 use Rattle.records.specs.Where.{fields-of}
+use Rattle.records.specs.Counts.{count-at}
 use Rattle.records.specs.declared.Reach.{Reach}
 use Rattle.records.specs.declared.Reach.the-variants.{At, Bad}
 
@@ -57,26 +58,29 @@ start-of before [] bs j = []
 start-of before (e ∷ es) bs zero = bs
 start-of before (e ∷ es) bs (suc j) = start-of (is-inside before e) es (bytes-left (behind (is-inside before e) e es bs)) j
 
--- Whether a count stands at a place, and is not over its limit.
-unfoldable pub has-count : Bytes → ℕ → Bool
-has-count b at = ltb at (length b) && leb (getD b at 0) greatest-count
-
 -- Whether bytes are not too many for a record and begin as one.
 unfoldable pub is-headed : Bytes → Bool
-is-headed b = leb (length b) longest-record && same (take 5 b) record-head
+is-headed b = leb (length b) longest-record && same (take record-head-size b) record-head
 
--- So many numbers has the directory of a record.
+-- The directory of a record is a list of numbers in three regions: the place of each entry's part; for each entry, from `firsts` on, the
+-- number at which its occurrences are kept; and from `kept-from` on the places of occurrences, `most-kept` of them at most.
+abbrev pub firsts : ℕ
+firsts = most-entries
+
+abbrev pub kept-from : ℕ
+kept-from = 2 * most-entries
+
+abbrev pub most-kept : ℕ
+most-kept = 512
+
 abbrev pub directory : ℕ
-directory = 640
+directory = kept-from + most-kept
 
--- Each is kept in two bytes; a count and a standard length are one byte.
+-- Each number is kept in two bytes.
 abbrev pub greatest-kept : ℕ
 greatest-kept = 65535
 
-abbrev pub greatest-byte : ℕ
-greatest-byte = 255
-
--- An occurrence of the periodic group that entry g is; and how many of them an entry has, by the byte at its place.
+-- An occurrence of the periodic group that entry g is; and how many of them an entry has, by the count at its place.
 unfoldable pub occurrence : List Entry → ℕ → Reader Occurrence
 occurrence es g = each stored-cell (fields-of (slice (g + 1) (group-end es g) es))
 
@@ -95,12 +99,12 @@ Keeps one b at n kept before after r = (e : ℕ) → r ≡ At e → Kept one b a
 
 -- Entry j's part stands from its place on; and each of its occurrences from where it is kept on.
 abbrev pub Starts : List Entry → Bytes → List ℕ → ℕ → Type 0
-Starts es b places j = (getD places j 0 ≤ length b) × (drop (getD places j 0) b ≡ start-of false es (drop 5 b) j)
+Starts es b places j = (getD places j 0 ≤ length b) × (drop (getD places j 0) b ≡ start-of false es (drop record-head-size b) j)
 
 abbrev pub Rows : List Entry → Bytes → List ℕ → ℕ → Type 0
 Rows es b places g =
-    (k : ℕ) → k < rows-of (getD es g blank .what) (getD b (getD places g 0) 0) → getD places (most-entries + g) 0 + k < directory
-    → Walked b (rest-of (times k (occurrence es g) (drop (getD places g 0 + 1) b))) (At (getD places (getD places (most-entries + g) 0 + k) 0))
+    (k : ℕ) → k < rows-of (getD es g blank .what) (count-at b (getD places g 0)) → getD places (firsts + g) 0 + k < directory
+    → Walked b (rest-of (times k (occurrence es g) (drop (getD places g 0 + count-size) b))) (At (getD places (getD places (firsts + g) 0 + k) 0))
 
 -- What is found of a slice: whether it is a record, and then its directory.
 pub record Checked (es : List Entry) (b : Bytes) (places : List ℕ) (ok : Bool) : Type 0 where

@@ -7,6 +7,7 @@ ghost use Rattle.rules.specs.Record.{times, each, counted, stored-value, stored
 ghost use Rattle.tables.specs.Entries.{Valid, entries-of, blank};
 ghost use Rattle.records.specs.Where.{field-of, fields-of};
 ghost use Rattle.records.specs.Walk.{rest-of, Ends, Behind};
+use crate::counts;
 
 // The place behind n values of a standard length.
 pub fn skip(b: &[u8], at: usize, n: usize, size: usize) -> usize
@@ -31,7 +32,8 @@ fn behind_cell(b: &[u8], at: usize, size: usize, multiple: bool) -> usize
     ensures { λ r. ⌜ ((f : Format) → Behind (now (b .entry)) (rest-of (counted multiple (stored-value f size) (drop at (now (b .entry))))) r) ⌝ }
 {
     if multiple {
-        return skip(b, at + 1, b[at] as usize, size);
+        let n = counts::count_at(b, at);
+        return skip(b, counts::after_count(b, at), n, size);
     }
     skip(b, at, 1, size)
 }

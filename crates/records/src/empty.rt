@@ -4,22 +4,25 @@ ghost use mathlib.Core.Bool.{true, false};
 ghost use mathlib.Core.List.{_++_};
 ghost use Prim.Native.Nat.{_+_, _≤_, _<_};
 ghost use lib.ListN.{length, getD};
+ghost use Rattle.rules.specs.Limits.{longest-alpha, record-head-size};
 ghost use Rattle.rules.specs.Record.{record-head};
 ghost use Rattle.buffer.specs.Splice.{splice};
 ghost use Rattle.tables.specs.Entries.{Valid, entries-of, blank};
 ghost use Rattle.records.specs.Empty.{empty-entry, empty-from, null-row};
+use crate::counts;
+use crate::heads;
 use crate::inside_next;
 use tables::Entry;
 
 // How many bytes entry i adds to the empty record.
 fn empty_size(t: &[u8], i: usize, inside: bool) -> usize
     requires { ⌜ Valid (now t) × (i < length (entries-of (now t))) ⌝ }
-    ensures { λ r. ⌜ (r ≡ length (empty-entry inside (getD (entries-of (now (t .entry))) i blank .what))) × (r ≤ 253) ⌝ }
+    ensures { λ r. ⌜ (r ≡ length (empty-entry inside (getD (entries-of (now (t .entry))) i blank .what))) × (r ≤ longest-alpha) ⌝ }
 {
     let e = tables::entry_at(t, i);
     if e.format == tables::GROUP {
         if e.periodic {
-            return 1;
+            return rules::COUNT_SIZE;
         }
         return 0;
     }
@@ -27,7 +30,7 @@ fn empty_size(t: &[u8], i: usize, inside: bool) -> usize
         return 0;
     }
     if e.multiple {
-        return 1;
+        return rules::COUNT_SIZE;
     }
     values::null_length(e.format as usize, e.size as usize)
 }
@@ -35,11 +38,11 @@ fn empty_size(t: &[u8], i: usize, inside: bool) -> usize
 // How long the empty record is.
 pub fn empty_length(t: &[u8]) -> usize
     requires { ⌜ Valid (now t) ⌝ }
-    ensures { λ r. ⌜ r ≡ 5 + length (empty-from false (entries-of (now (t .entry)))) ⌝ }
+    ensures { λ r. ⌜ r ≡ record-head-size + length (empty-from false (entries-of (now (t .entry)))) ⌝ }
 {
     let n = tables::count(t);
     let mut inside = false;
-    let mut total = 5;
+    let mut total = rules::RECORD_HEAD_SIZE;
     let mut i = 0;
     while i < n {
         inside = inside_next(t, i, inside);
@@ -73,17 +76,19 @@ fn write_entry(t: &[u8], i: usize, inside: bool, out: &mut [u8], at: usize) -> u
         values::write_null(e.format as usize, e.size as usize, out, at);
         return at + n;
     }
-    buffer::fill(out, at, n, 0);
-    at + n
+    if n == 0 {
+        return at;
+    }
+    counts::put_count(0, out, at)
 }
 
 // Writes the empty record.
 pub fn write_empty(t: &[u8], out: &mut [u8])
-    requires { ⌜ Valid (now t) × (5 + length (empty-from false (entries-of (now t))) ≤ length (now out)) ⌝ }
+    requires { ⌜ Valid (now t) × (record-head-size + length (empty-from false (entries-of (now t))) ≤ length (now out)) ⌝ }
     ensures { λ _. ⌜ now (out .exit) ≡ splice 0 (record-head ++ empty-from false (entries-of (now (t .entry)))) (now (out .entry)) ⌝ }
 {
     let n = tables::count(t);
-    let mut at = buffer::put(b"\xe5\xd9\xc3\x00\x01", out, 0);
+    let mut at = heads::put_head(out);
     let mut inside = false;
     let mut i = 0;
     while i < n {

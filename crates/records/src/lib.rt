@@ -6,14 +6,22 @@ ghost use Rattle.rules.specs.Table.{is-inside};
 ghost use Rattle.tables.specs.Entries.{Valid, entries-of, blank};
 
 pub mod behind;
+pub mod counts;
 pub mod empty;
+pub mod heads;
 pub mod paths;
 pub mod places;
 pub mod walk;
 
-// The directory of a record has so many numbers. From 0 on it keeps the place of each entry's part, from 64 on the number in the
-// directory itself from which on the entry's occurrences are kept, and from 128 on their places, as long as there is room.
-pub const DIRECTORY: usize = 640;
+// The directory of a record is one array of numbers in three regions: the place of each entry's part; for each entry, from FIRSTS on, the
+// number at which its occurrences are kept; and from KEPT on the places of occurrences, as long as there is room.
+const FIRSTS: usize = rules::MOST_ENTRIES;
+
+const KEPT: usize = 2 * rules::MOST_ENTRIES;
+
+const MOST_KEPT: usize = 512;
+
+pub const DIRECTORY: usize = KEPT + MOST_KEPT;
 
 // Where a walk over a record stands: at a place behind what it was to take, or at something that is no record.
 pub enum Reach {

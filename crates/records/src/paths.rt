@@ -8,7 +8,7 @@ ghost use Rattle.tables.specs.Entries.{Valid, entries-of, blank, is-periodic};
 ghost use Rattle.tables.specs.Places.{Home};
 ghost use Rattle.records.specs.Where.{field-of, fields-of};
 ghost use Rattle.rules.specs.Limits.{most-entries};
-ghost use Rattle.records.specs.Walk.{greatest-byte};
+ghost use Rattle.records.specs.Counts.{greatest-byte};
 ghost use Rattle.records.specs.Paths.{Width, Leads};
 use tables::Found;
 

@@ -4,18 +4,22 @@ ghost use mathlib.Core.Bool.{true, false};
 ghost use Prim.Native.Nat.{_+_, _-_, _≤_, _<_};
 ghost use lib.ListN.{length, drop, getD};
 ghost use lib.Seq.{slice};
+ghost use Rattle.rules.specs.Limits.{record-head-size, count-size};
 ghost use Rattle.rules.specs.Table.{group, parts};
 ghost use Rattle.rules.specs.Record.{Record, times, each, stored-cell, group-count-at, value-count-at};
 ghost use Rattle.tables.specs.Entries.{Valid, entries-of, blank, is-group, is-multiple};
 ghost use Rattle.tables.specs.Places.{inside-at};
 ghost use Rattle.tables.specs.Groups.{group-end};
 ghost use Rattle.records.specs.Places.{Held, Holds, Entered, Cell-of, Outside, Piece-of, Rows-of};
+ghost use Rattle.records.specs.Counts.{count-at, greatest-byte};
 ghost use Rattle.records.specs.Walk.{directory, rest-of, Walked, Ends, start-of, occurrence, greatest-kept};
 ghost use Rattle.records.specs.Paths.{Wide, Leads};
 ghost use Rattle.records.specs.Where.{fields-of};
 ghost use Rattle.records.specs.declared.Reach.the-variants.{At};
 use crate::DIRECTORY;
+use crate::FIRSTS;
 use crate::behind;
+use crate::counts;
 use crate::paths;
 use crate::paths::Path;
 
@@ -47,24 +51,25 @@ fn place_of(places: &[u16; DIRECTORY], i: usize) -> usize
 }
 
 // The count of the periodic group that entry g is.
-pub fn group_count(t: &[u8], b: &[u8], places: &[u16; DIRECTORY], g: usize) -> u8
+pub fn group_count(t: &[u8], b: &[u8], places: &[u16; DIRECTORY], g: usize) -> usize
     requires { ⌜ Valid (now t) × (g < length (entries-of (now t))) × (getD (entries-of (now t)) g blank .what ≡ group true) × Holds (entries-of (now t)) (now b) (now places) ⌝ }
-    ensures { λ n. ⌜ ((r : Record) → Held (entries-of (now (t .entry))) (now (b .entry)) (now (places .entry)) r → n ≡ group-count-at (parts (entries-of (now (t .entry)))) r (getD (entries-of (now (t .entry))) g blank .name)) ⌝ }
+    ensures { λ n. ⌜ (n ≤ greatest-byte) × ((r : Record) → Held (entries-of (now (t .entry))) (now (b .entry)) (now (places .entry)) r → n ≡ group-count-at (parts (entries-of (now (t .entry)))) r (getD (entries-of (now (t .entry))) g blank .name)) ⌝ }
 {
-    b[place_of(places, g)]
+    counts::count_at(b, place_of(places, g))
 }
 
 // The place of occurrence o of the periodic group that entry g is: as it is kept, or behind those before it.
 fn row_at(t: &[u8], b: &[u8], places: &[u16; DIRECTORY], g: usize, o: usize) -> usize
-    requires { ⌜ Valid (now t) × (g < length (entries-of (now t))) × (getD (entries-of (now t)) g blank .what ≡ group true) × (1 ≤ o) × (o ≤ getD (now b) (getD (now places) g 0) 0) × Holds (entries-of (now t)) (now b) (now places) ⌝ }
-    ensures { λ r. ⌜ Walked (now (b .entry)) (rest-of (times (o - 1) (occurrence (entries-of (now (t .entry))) g) (drop (getD (now (places .entry)) g 0 + 1) (now (b .entry))))) (At r) ⌝ }
+    requires { ⌜ Valid (now t) × (g < length (entries-of (now t))) × (getD (entries-of (now t)) g blank .what ≡ group true) × (1 ≤ o) × (o ≤ count-at (now b) (getD (now places) g 0)) × Holds (entries-of (now t)) (now b) (now places) ⌝ }
+    ensures { λ r. ⌜ Walked (now (b .entry)) (rest-of (times (o - 1) (occurrence (entries-of (now (t .entry))) g) (drop (getD (now (places .entry)) g 0 + count-size) (now (b .entry))))) (At r) ⌝ }
 {
-    let number = place_of(places, rules::MOST_ENTRIES + g) + (o - 1);
+    let number = place_of(places, FIRSTS + g) + (o - 1);
     if number < DIRECTORY {
         return place_of(places, number);
     }
+    let from = counts::after_count(b, place_of(places, g));
     let end = tables::group_end(t, g);
-    behind::behind_occurrences(t, b, place_of(places, g) + 1, o - 1, g + 1, end)
+    behind::behind_occurrences(t, b, from, o - 1, g + 1, end)
 }
 
 // The place of an entry in the occurrence that stands at a place: behind the fields before it there.
@@ -84,7 +89,7 @@ fn entry_in(t: &[u8], b: &[u8], places: &[u16; DIRECTORY], path: Path, o: usize)
     ensures { λ c. ⌜ ((r : Record) → Held (entries-of (now (t .entry))) (now (b .entry)) (now (places .entry)) r → Entered (entries-of (now (t .entry))) (now (b .entry)) (now (places .entry)) (path .group) (path .entry) o r c) ⌝ }
 {
     let g = path.group;
-    if (group_count(t, b, places, g) as usize) < o {
+    if group_count(t, b, places, g) < o {
         return Cell::Nothing;
     }
     let row = row_at(t, b, places, g, o);
@@ -111,13 +116,13 @@ pub fn cell_at(t: &[u8], b: &[u8], places: &[u16; DIRECTORY], i: usize, o: usize
 }
 
 // The count of entry i, an MU field, in occurrence o: 0 where there is no such occurrence.
-pub fn value_count(t: &[u8], b: &[u8], places: &[u16; DIRECTORY], i: usize, o: usize) -> u8
+pub fn value_count(t: &[u8], b: &[u8], places: &[u16; DIRECTORY], i: usize, o: usize) -> usize
     requires { ⌜ Valid (now t) × (i < length (entries-of (now t))) × (is-multiple (getD (entries-of (now t)) i blank .what) ≡ true) × (1 ≤ o) × (inside-at (entries-of (now t)) i ≡ false → o ≡ 1) × Holds (entries-of (now t)) (now b) (now places) ⌝ }
-    ensures { λ n. ⌜ ((r : Record) → Held (entries-of (now (t .entry))) (now (b .entry)) (now (places .entry)) r → n ≡ value-count-at (parts (entries-of (now (t .entry)))) r (getD (entries-of (now (t .entry))) i blank .name) o) ⌝ }
+    ensures { λ n. ⌜ (n ≤ greatest-byte) × ((r : Record) → Held (entries-of (now (t .entry))) (now (b .entry)) (now (places .entry)) r → n ≡ value-count-at (parts (entries-of (now (t .entry)))) r (getD (entries-of (now (t .entry))) i blank .name) o) ⌝ }
 {
     let cell = cell_at(t, b, places, i, o);
     match cell {
-        Cell::At(p) => b[p],
+        Cell::At(p) => counts::count_at(b, p),
         Cell::Nothing => 0,
     }
 }
@@ -125,7 +130,7 @@ pub fn value_count(t: &[u8], b: &[u8], places: &[u16; DIRECTORY], i: usize, o: u
 // The place behind the parts of the entries before entry i.
 fn place_behind(t: &[u8], b: &[u8], places: &[u16; DIRECTORY], i: usize) -> usize
     requires { ⌜ Valid (now t) × (i ≤ length (entries-of (now t))) × Holds (entries-of (now t)) (now b) (now places) ⌝ }
-    ensures { λ p. ⌜ (p ≤ length (now (b .entry))) × (drop p (now (b .entry)) ≡ start-of false (entries-of (now (t .entry))) (drop 5 (now (b .entry))) i) ⌝ }
+    ensures { λ p. ⌜ (p ≤ length (now (b .entry))) × (drop p (now (b .entry)) ≡ start-of false (entries-of (now (t .entry))) (drop record-head-size (now (b .entry))) i) ⌝ }
 {
     if i < tables::count(t) {
         return place_of(places, i);

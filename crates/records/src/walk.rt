@@ -4,20 +4,25 @@ ghost use mathlib.Core.Bool.{true};
 ghost use Prim.Native.Nat.{suc, _+_, _≤_, _<_};
 ghost use lib.ListN.{length, drop, getD, set};
 ghost use lib.Seq.{slice};
-ghost use Rattle.rules.specs.Limits.{longest-record};
+ghost use Rattle.rules.specs.Limits.{longest-record, formats, count-size};
 ghost use Rattle.rules.specs.Lists.{cut};
 ghost use Rattle.rules.specs.Values.{allowed};
 ghost use Rattle.rules.specs.Record.{times, each, counted, stored-value, stored-cell};
 ghost use Rattle.tables.specs.Entries.{Valid, entries-of, blank, format-at};
 ghost use Rattle.records.specs.Where.{field-of, fields-of};
-ghost use Rattle.records.specs.Walk.{directory, rest-of, Walked, has-count, behind, is-headed, occurrence, rows-of, Keeps, Checked, greatest-kept, greatest-byte};
+ghost use Rattle.records.specs.Counts.{count-at, greatest-byte};
+ghost use Rattle.records.specs.Walk.{directory, rest-of, Walked, behind, occurrence, rows-of, Keeps, Checked, greatest-kept};
 use crate::DIRECTORY;
+use crate::FIRSTS;
+use crate::KEPT;
 use crate::Reach;
+use crate::counts;
+use crate::heads;
 use values::First;
 
 // The place behind a value of a format and standard length.
 fn value_end(b: &[u8], at: usize, format: usize, size: usize) -> Reach
-    requires { ⌜ (at ≤ length (now b)) × (format < 5) × (allowed (format-at format) size ≡ true) ⌝ }
+    requires { ⌜ (at ≤ length (now b)) × (format < formats) × (allowed (format-at format) size ≡ true) ⌝ }
     ensures { λ r. ⌜ Walked (now (b .entry)) (rest-of (stored-value (format-at format) size (drop at (now (b .entry))))) r ⌝ }
 {
     let first = values::first_value(b, at, size);
@@ -47,7 +52,7 @@ fn bytes_end(b: &[u8], at: usize, n: usize) -> Reach
 // The place behind n values. Where all bytes are in normal form, n values are so many bytes; an n that no count can say goes one by one,
 // so that the product is never too large.
 fn values_end(b: &[u8], at: usize, n: usize, format: usize, size: usize) -> Reach
-    requires { ⌜ (at ≤ length (now b)) × (format < 5) × (allowed (format-at format) size ≡ true) ⌝ }
+    requires { ⌜ (at ≤ length (now b)) × (format < formats) × (allowed (format-at format) size ≡ true) ⌝ }
     ensures { λ r. ⌜ Walked (now (b .entry)) (rest-of (times n (stored-value (format-at format) size) (drop at (now (b .entry))))) r ⌝ }
 {
     if n <= rules::GREATEST_COUNT {
@@ -72,24 +77,15 @@ fn values_end(b: &[u8], at: usize, n: usize, format: usize, size: usize) -> Reac
     Reach::At(p)
 }
 
-// Whether a count stands at a place, and is not over its limit.
-pub fn has_count(b: &[u8], at: usize) -> bool
-    ensures { λ r. ⌜ r ≡ has-count (now (b .entry)) at ⌝ }
-{
-    if b.len() <= at {
-        return false;
-    }
-    b[at] as usize <= rules::GREATEST_COUNT
-}
-
 // The place behind the cell of a field, by its format, standard length and whether it is MU.
 fn cell_end(b: &[u8], at: usize, format: usize, size: usize, multiple: bool) -> Reach
-    requires { ⌜ (at ≤ length (now b)) × (format < 5) × (allowed (format-at format) size ≡ true) ⌝ }
+    requires { ⌜ (at ≤ length (now b)) × (format < formats) × (allowed (format-at format) size ≡ true) ⌝ }
     ensures { λ r. ⌜ Walked (now (b .entry)) (rest-of (counted multiple (stored-value (format-at format) size) (drop at (now (b .entry))))) r ⌝ }
 {
     if multiple {
-        if has_count(b, at) {
-            return values_end(b, at + 1, b[at] as usize, format, size);
+        if counts::has_count(b, at) {
+            let n = counts::count_at(b, at);
+            return values_end(b, counts::after_count(b, at), n, format, size);
         }
         return Reach::Bad;
     }
@@ -183,12 +179,14 @@ fn entry_end(
     kept: usize,
 ) -> Reach
     requires { ⌜ Valid (now t) × (i < length (entries-of (now t))) × (at ≤ length (now b)) × (length (now b) ≤ longest-record) × (length (now places) ≡ directory) × (kept + greatest-byte ≤ greatest-kept) ⌝ }
-    ensures { λ r. ⌜ Walked (now (b .entry)) (behind inside (getD (entries-of (now (t .entry))) i blank) (drop (suc i) (entries-of (now (t .entry)))) (drop at (now (b .entry)))) r × Keeps (occurrence (entries-of (now (t .entry))) i) (now (b .entry)) (at + 1) (rows-of (getD (entries-of (now (t .entry))) i blank .what) (getD (now (b .entry)) at 0)) kept (now (places .entry)) (now (places .exit)) r ⌝ }
+    ensures { λ r. ⌜ Walked (now (b .entry)) (behind inside (getD (entries-of (now (t .entry))) i blank) (drop (suc i) (entries-of (now (t .entry)))) (drop at (now (b .entry)))) r × Keeps (occurrence (entries-of (now (t .entry))) i) (now (b .entry)) (at + count-size) (rows-of (getD (entries-of (now (t .entry))) i blank .what) (count-at (now (b .entry)) at)) kept (now (places .entry)) (now (places .exit)) r ⌝ }
 {
     if tables::periodic_at(t, i) {
-        if has_count(b, at) {
+        if counts::has_count(b, at) {
+            let n = counts::count_at(b, at);
+            let from = counts::after_count(b, at);
             let end = tables::group_end(t, i);
-            return occurrences_end(t, b, at + 1, b[at] as usize, i + 1, end, places, kept);
+            return occurrences_end(t, b, from, n, i + 1, end, places, kept);
         }
         return Reach::Bad;
     }
@@ -201,28 +199,15 @@ fn entry_end(
 // The number behind those of entry i's occurrences.
 fn kept_behind(t: &[u8], b: &[u8], at: usize, i: usize, kept: usize) -> usize
     requires { ⌜ Valid (now t) × (i < length (entries-of (now t))) × (kept + greatest-byte ≤ greatest-kept) ⌝ }
-    ensures { λ r. ⌜ (r ≡ kept + rows-of (getD (entries-of (now (t .entry))) i blank .what) (getD (now (b .entry)) at 0)) × (r ≤ kept + greatest-byte) ⌝ }
+    ensures { λ r. ⌜ (r ≡ kept + rows-of (getD (entries-of (now (t .entry))) i blank .what) (count-at (now (b .entry)) at)) × (r ≤ kept + greatest-byte) ⌝ }
 {
     if b.len() <= at {
         return kept;
     }
     if tables::periodic_at(t, i) {
-        return kept + b[at] as usize;
+        return kept + counts::count_at(b, at);
     }
     kept
-}
-
-// Whether a slice is not too long for a record and has a record's head.
-fn head_right(b: &[u8]) -> bool
-    ensures { λ r. ⌜ r ≡ is-headed (now (b .entry)) ⌝ }
-{
-    if rules::LONGEST_RECORD < b.len() {
-        return false;
-    }
-    if b.len() < 5 {
-        return false;
-    }
-    buffer::stands_at(b, 0, b"\xe5\xd9\xc3\x00\x01")
 }
 
 // Whether a slice is a record, and then its directory.
@@ -230,15 +215,15 @@ pub fn check(t: &[u8], b: &[u8], places: &mut [u16; DIRECTORY]) -> bool
     requires { ⌜ Valid (now t) × (length (now places) ≡ directory) ⌝ }
     ensures { λ r. ⌜ Checked (entries-of (now (t .entry))) (now (b .entry)) (now (places .exit)) r ⌝ }
 {
-    if head_right(b) {
+    if heads::has_head(b) {
         let n = tables::count(t);
         let mut inside = false;
-        let mut p = 5;
-        let mut kept = 128;
+        let mut p = rules::RECORD_HEAD_SIZE;
+        let mut kept = KEPT;
         let mut i = 0;
         while i < n {
             keep(places, i, p);
-            keep(places, rules::MOST_ENTRIES + i, kept);
+            keep(places, FIRSTS + i, kept);
             inside = crate::inside_next(t, i, inside);
             let step = entry_end(t, b, p, i, inside, places, kept);
             kept = kept_behind(t, b, p, i, kept);

@@ -1,42 +1,45 @@
--- `records::behind::behind_cell` meets its contract: a count and so many values, or one value. Assumes nothing.
-use mathlib.Core.Path.{sym, _∙_, ap}
+-- `records::behind::behind_cell` meets its contract: a count and so many values, or one value.
+use mathlib.Core.Path.{_≡_, sym, _∙_, ap}
+use mathlib.Core.Bool.{true}
+use Prim.Native.Nat.{_+_, _<_}
 use native.Mathlib.Omega.{arith}
-use lib.ListN.{drop}
-use Rattle.rules.specs.Record.{stored-value}
-use Rattle.records.specs.Walk.{rest-of}
+use lib.ListN.{length, drop}
+use Rattle.rules.specs.Limits.{count-size}
+use Rattle.rules.specs.Values.{Format}
+use Rattle.rules.specs.Record.{times, counted, stored-value}
+use Rattle.records.specs.Counts.{count-at}
+use Rattle.records.specs.Walk.{rest-of, Ends}
 use Rattle.records.proofs.Walks.{walked-as}
 use Rattle.records.proofs.Skips.{counted-ends, counted-one}
 use borrow.Author.Needs.{needs}
 use Rattle.records.proofs.behind.behind_cell.Statement.{statement}
 use Rattle.records.proofs.behind.behind_cell.Tie as tie
 
-add-skip : tie.Need-add-skip
-add-skip c = search needs
+-- The count that stands there, and the values after it.
+count-first : (c : tie.Then1) (f : Format) → Ends (rest-of (counted (c .before .before .args .multiple) (stored-value f (c .before .before .args .size)) (drop (c .before .before .args .at) (c .before .before .args .b .now))))
+    → (c .before .before .args .at < length (c .before .before .args .b .now))
+    × (rest-of (counted true (stored-value f (c .before .before .args .size)) (drop (c .before .before .args .at) (c .before .before .args .b .now))) ≡ rest-of (times (count-at (c .before .before .args .b .now) (c .before .before .args .at)) (stored-value f (c .before .before .args .size)) (drop (c .before .before .args .at + count-size) (c .before .before .args .b .now))))
+count-first c f e = let a = c .before .before .args in counted-ends (stored-value f (a .size)) (a .b .now) (a .at) (rw (c .if1 .taken) at e)
 
-shared-slice-read-skip : tie.Need-shared-slice-read-skip
-shared-slice-read-skip c =
-    let s = c .before .before .before in
-    let a = s .args in
-    counted-ends (stored-value (s .pre .1 .0) (a .size)) (a .b .now) (a .at) (rw (c .before .if1 .taken) at (s .pre .1 .1)) .0
+count-at-requires : tie.Need-count-at-requires
+count-at-requires c κs = let p = c .before .before .pre .1 in count-first c (p .0) (p .1) .0
 
-cast-skip : tie.Need-cast-skip
-cast-skip c = omega (arith, c .shared-slice-known2 .given (c .before .before .before .args .at))
+after-count-requires : tie.Need-after-count-requires
+after-count-requires c κs = let p = c .before .before .before .pre .1 in count-first (c .before) (p .0) (p .1) .0
 
 skip-requires : tie.Need-skip-requires
 skip-requires c κs =
-    let s = c .before .before .before in
-    let a = s .args in
-    let e = rw (c .before .if1 .taken) at (s .pre .1 .1) in
-    let k = counted-ends (stored-value (s .pre .1 .0) (a .size)) (a .b .now) (a .at) e in
-    (omega (arith, k .0), (s .pre .1 .0, (e .0, sym (k .1) ∙ e .1)))
+    let p = c .before .before .before .before .pre .1 in
+    let e = rw (c .before .before .if1 .taken) at (p .1) in
+    let k = count-first (c .before .before) (p .0) (p .1) in
+    (omega (arith, k .0, c .after-count .ensures), (p .0, (e .0, rw (c .after-count .ensures, c .before .count-at .ensures .0) (sym (k .1) ∙ e .1))))
 
 returns : tie.Need-returns
 returns c f e =
-    let a = c .before .before .before .before .args in
-    let t = c .before .before .if1 .taken in
+    let t = c .before .before .before .if1 .taken in
     let d = rw t at e in
-    let k = counted-ends (stored-value f (a .size)) (a .b .now) (a .at) d in
-    walked-as (rw t (k .1)) (c .skip .ensures f (d .0, sym (k .1) ∙ d .1))
+    let k = count-first (c .before .before .before) f e in
+    walked-as (rw t (k .1)) (rw (c .before .after-count .ensures, c .before .before .count-at .ensures .0) at (c .skip .ensures) f (d .0, sym (k .1) ∙ d .1))
 
 skip-requires-2 : tie.Need-skip-requires-2
 skip-requires-2 c κs =
@@ -57,9 +60,8 @@ pub behind-cell-spec : {M : Type 1} → statement M
 behind-cell-spec =
     tie.close
     (tie.spec
-    add-skip
-    shared-slice-read-skip
-    cast-skip
+    count-at-requires
+    after-count-requires
     skip-requires
     returns
     skip-requires-2

@@ -5,6 +5,7 @@ use Prim.Native.Nat.{_+_, _-_, _*_, _≤_}
 use native.Mathlib.Omega.{arith}
 use borrow.Author.Needs.{needs}
 use lib.ListN.{length, drop, length-append}
+use Rattle.rules.specs.Limits.{record-head-size, longest-alpha}
 use Rattle.tables.specs.Entries.{entries-of, blank}
 use Rattle.tables.proofs.Tables.{valid-most}
 use Rattle.records.specs.Empty.{empty-from}
@@ -14,8 +15,8 @@ use Rattle.records.proofs.empty.empty_length.Tie as tie
 
 abbrev Inv-loop : tie.InvT-loop
 Inv-loop t n inside₀ total₀ i₀ inside total i =
-    (n ≡ length (entries-of t)) × (i ≤ n) × (total ≤ 5 + 253 * i)
-    × (total + length (empty-from inside (drop i (entries-of t))) ≡ 5 + length (empty-from false (entries-of t)))
+    (n ≡ length (entries-of t)) × (i ≤ n) × (total ≤ record-head-size + longest-alpha * i)
+    × (total + length (empty-from inside (drop i (entries-of t))) ≡ record-head-size + length (empty-from false (entries-of t)))
 
 abbrev μ-loop : tie.MeasureT-loop
 μ-loop t n inside₀ total₀ i₀ inside total i = n - i

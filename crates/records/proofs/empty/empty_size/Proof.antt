@@ -2,6 +2,7 @@
 use mathlib.Core.Path.{_≡_, sym, ap, _∙_}
 use native.Mathlib.Omega.{arith}
 use lib.ListN.{length, getD}
+use Rattle.rules.specs.Record.{count-bytes}
 use Rattle.rules.specs.Values.{null}
 use Rattle.tables.specs.Entries.{entries-of, blank, format-at, format-number}
 use Rattle.tables.proofs.Tables.{valid-sound}
@@ -14,6 +15,7 @@ entry-at-requires : tie.Need-entry-at-requires
 entry-at-requires c κs = search needs
 
 returns : tie.Need-returns
+unfolding count-bytes
 returns c =
     let a = c .before .before .before .before .before .args in
     let w = getD (entries-of (a .t .now)) (a .i) blank .what in
@@ -35,6 +37,7 @@ returns-3 c =
     (sym (ap length (adds-no-more (a .inside) w (λ z. c .before .if1 .left (ap (λ r. r .format) e ∙ z)) (c .if3 .taken))), omega arith)
 
 returns-4 : tie.Need-returns-4
+unfolding count-bytes
 returns-4 c =
     let a = c .before .before .before .before .before .before .args in
     let w = getD (entries-of (a .t .now)) (a .i) blank .what in

@@ -1,4 +1,4 @@
--- `records::empty::write_empty` meets its contract: what the entries to come add, behind what is written, makes up the whole. Assumes nothing.
+-- `records::empty::write_empty` meets its contract: what the entries to come add, behind what is written, makes up the whole.
 use mathlib.Core.Path.{_≡_, refl, sym, ap, _∙_}
 use mathlib.Core.Bool.{false}
 use Prim.Native.Nat.{_-_, _<_}
@@ -22,30 +22,27 @@ abbrev μ-loop : tie.MeasureT-loop
 count-requires : tie.Need-count-requires Inv-loop μ-loop
 count-requires c κs = c .before .before .pre .0
 
-slice-aggregate-put : tie.Need-slice-aggregate-put Inv-loop μ-loop
-slice-aggregate-put c = refl
-
-put-requires : tie.Need-put-requires Inv-loop μ-loop
-put-requires c κs = let s = c .before .before .before .before .before in omega (arith, s .pre .1)
+put-head-requires : tie.Need-put-head-requires Inv-loop μ-loop
+put-head-requires c κs = let s = c .before .before .before .before in omega (arith, s .pre .1)
 
 loop-holds : tie.Need-loop-holds Inv-loop μ-loop
 unfolding record-head
 loop-holds c =
-    let s = c .before .before .before .before .before .before .before .before in
-    let p = c .before .before .put .ensures in
+    let s = c .before .before .before .before .before .before .before in
+    let p = c .before .before .put-head .ensures in
     let l = ap length (p .1) ∙ length-splice 0 record-head (s .args .out .now) (omega (arith, s .pre .1)) in
-    (c .before .before .before .before .before .count .ensures, record { same = refl; room = omega (arith, s .pre .1, p .0); rest = refl })
+    (c .before .before .before .before .count .ensures, record { same = refl; room = omega (arith, s .pre .1, p .0); rest = refl })
 
 inside-next-requires : tie.Need-inside-next-requires Inv-loop μ-loop
 inside-next-requires c κs =
     let l = c .before in
-    (l .before .before .before .before .before .before .before .before .before .pre .0, omega (arith, l .loop .inv .0))
+    (l .before .before .before .before .before .before .before .before .pre .0, omega (arith, l .loop .inv .0))
 
 write-entry-requires : tie.Need-write-entry-requires Inv-loop μ-loop
 write-entry-requires c κs =
     let l = c .before .before .before in
-    let h : l .loop .i < length (entries-of (l .before .before .before .before .before .before .before .before .before .args .t .now)) = omega (arith, l .loop .inv .0) in
-    (l .before .before .before .before .before .before .before .before .before .pre .0, h, writing-room (l .loop .inv .1) h _ (c .before .inside-next .ensures))
+    let h : l .loop .i < length (entries-of (l .before .before .before .before .before .before .before .before .args .t .now)) = omega (arith, l .loop .inv .0) in
+    (l .before .before .before .before .before .before .before .before .pre .0, h, writing-room (l .loop .inv .1) h _ (c .before .inside-next .ensures))
 
 add-i : tie.Need-add-i Inv-loop μ-loop
 add-i c = search needs
@@ -62,15 +59,15 @@ loop-again c =
 same-length : tie.Need-same-length Inv-loop μ-loop
 unfolding record-head
 same-length c =
-    let s = c .before .before .before .before .before .before .before .before .before .before in
-    let p = c .before .before .before .before .put .ensures in
+    let s = c .before .before .before .before .before .before .before .before .before in
+    let p = c .before .before .before .before .put-head .ensures in
     c .before .loop .inv .1 .same ∙ ap length (p .1) ∙ length-splice 0 record-head (s .args .out .now) (omega (arith, s .pre .1))
 
 returns : tie.Need-returns Inv-loop μ-loop
 unfolding record-head
 returns c =
-    let s = c .before .before .before .before .before .before .before .before .before .before in
-    let p = c .before .before .before .before .put .ensures in
+    let s = c .before .before .before .before .before .before .before .before .before in
+    let p = c .before .before .before .before .put-head .ensures in
     splice-chain 0 record-head (empty-from false (entries-of (s .args .t .now))) (s .args .out .now) _ _ _ (p .1)
     (writing-end (c .before .loop .inv .1) (omega (arith, c .before .loop .inv .0))) (p .0) (omega (arith, s .pre .1))
 
@@ -81,8 +78,7 @@ write-empty-spec =
     Inv-loop
     μ-loop
     count-requires
-    slice-aggregate-put
-    put-requires
+    put-head-requires
     loop-holds
     inside-next-requires
     write-entry-requires

@@ -1,16 +1,17 @@
--- `records::empty::write_entry` meets its contract: null is written for a plain field outside periodic groups, and zeros for the rest.
--- Assumes nothing.
+-- `records::empty::write_entry` meets its contract: a plain field outside periodic groups adds null, another entry a count of 0 or nothing.
 use mathlib.Core.Path.{_≡_, refl, sym, ap, _∙_}
 use mathlib.Core.Bool.{true, false}
 use Prim.Native.Nat.{_+_}
 use native.Mathlib.Omega.{arith}
-use lib.ListN.{length, getD, replicate}
+use lib.ListN.{length, getD}
 use Rattle.rules.specs.Values.{null}
+use Rattle.rules.specs.Record.{count-bytes}
 use Rattle.buffer.specs.Splice.{splice}
+use Rattle.buffer.proofs.Laws.{splice-nil}
 use Rattle.tables.specs.Entries.{entries-of, blank, decoded, format-at}
 use Rattle.tables.proofs.Tables.{valid-sound}
-use Rattle.records.specs.Empty.{null-row}
-use Rattle.records.proofs.EmptyRows.{row-small, row-allowed, null-adds, zeros-added}
+use Rattle.records.specs.Empty.{empty-entry, null-row}
+use Rattle.records.proofs.EmptyRows.{row-small, row-allowed, null-adds, nothing-added, count-added}
 use borrow.Author.Needs.{needs}
 use Rattle.records.proofs.empty.write_entry.Statement.{statement}
 use Rattle.records.proofs.empty.write_entry.Tie as tie
@@ -56,24 +57,36 @@ returns c =
     let z = c .before .before .before .before .before .before .before .before .before .empty-size .ensures .0 in
     (ap (λ n. s .args .at + n) z, c .before .before .write-null .ensures ∙ ap (λ bs. splice (s .args .at) bs (s .args .out .now)) (ap (λ r. null (format-at (r .format)) (r .size)) e ∙ sym (y .1)))
 
-fill-requires : tie.Need-fill-requires
-fill-requires c κs = search needs
+-- The entry adds no null.
+no-null : (c : tie.Else1) → null-row (c .before .before .before .before .before .before .args .inside) (decoded (getD (entries-of (c .before .before .before .before .before .before .args .t .now)) (c .before .before .before .before .before .before .args .i) blank)) ≡ false
+no-null c = ap (null-row (c .before .before .before .before .before .before .args .inside)) (sym (c .before .before .entry-at .ensures)) ∙ sym (c .before .adds-null .ensures) ∙ c .if1 .left
 
-add-result-2 : tie.Need-add-result-2
-add-result-2 c = search needs
+returns-2 : tie.Need-returns-2
+returns-2 c =
+    let s = c .before .before .before .before .before .before .before in
+    let z = c .before .before .before .before .empty-size .ensures .0 in
+    let e = nothing-added (s .args .inside) (getD (entries-of (s .args .t .now)) (s .args .i) blank) (sym z ∙ c .if2 .taken) in
+    (omega (arith, z, c .if2 .taken), rw e (sym (splice-nil (s .args .at) (s .args .out .now))))
+
+-- It adds a count, where it adds something.
+count-there : (c : tie.Else2) → empty-entry (c .before .before .before .before .before .before .before .args .inside) (getD (entries-of (c .before .before .before .before .before .before .before .args .t .now)) (c .before .before .before .before .before .before .before .args .i) blank .what) ≡ count-bytes 0
+count-there c =
+    let a = c .before .before .before .before .before .before .before .args in
+    count-added (a .inside) (getD (entries-of (a .t .now)) (a .i) blank) (no-null (c .before)) (λ z. c .if2 .left (c .before .before .before .before .empty-size .ensures .0 ∙ z))
+
+put-count-requires : tie.Need-put-count-requires
+unfolding count-bytes
+put-count-requires c κs = let s = c .before .before .before .before .before .before .before .before in (omega arith, omega (arith, s .pre .2, ap length (count-there (c .before))))
 
 same-length-2 : tie.Need-same-length-2
 same-length-2 c = search needs
 
-returns-2 : tie.Need-returns-2
-returns-2 c =
-    let s = c .before .before .before .before .before .before .before .before .before .before in
-    let x = getD (entries-of (s .args .t .now)) (s .args .i) blank in
-    let e = c .before .before .before .before .before .before .entry-at .ensures in
-    let t : null-row (s .args .inside) (decoded x) ≡ false = ap (null-row (s .args .inside)) (sym e) ∙ sym (c .before .before .before .before .before .adds-null .ensures) ∙ c .before .before .before .before .if1 .left in
-    let y = zeros-added (s .args .inside) x t in
-    let z = c .before .before .before .before .before .before .before .empty-size .ensures .0 in
-    (ap (λ n. s .args .at + n) z, c .before .before .fill .ensures ∙ ap (λ bs. splice (s .args .at) bs (s .args .out .now)) (ap (λ n. replicate n 0) z ∙ sym y))
+returns-3 : tie.Need-returns-3
+unfolding count-bytes
+returns-3 c =
+    let e = count-there (c .before .before .before .before) in
+    let p = c .before .before .put-count .ensures in
+    (rw e (p .0), rw e (p .1))
 
 pub write-entry-spec : {M : Type 1} → statement M
 write-entry-spec =
@@ -88,7 +101,7 @@ write-entry-spec =
     add-result
     same-length
     returns
-    fill-requires
-    add-result-2
+    returns-2
+    put-count-requires
     same-length-2
-    returns-2)
+    returns-3)

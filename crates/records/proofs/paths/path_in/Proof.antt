@@ -11,7 +11,7 @@ use Rattle.records.proofs.Entries.{never}
 use borrow.Author.Needs.{needs}
 use Rattle.records.proofs.paths.path_in.Statement.{statement}
 use Rattle.rules.specs.Limits.{most-entries}
-use Rattle.records.specs.Walk.{greatest-byte}
+use Rattle.records.specs.Counts.{greatest-byte}
 use Rattle.records.proofs.paths.path_in.Tie as tie
 
 add-width-of : tie.Need-add-width-of

@@ -7,7 +7,7 @@ use Rattle.tables.specs.Entries.{entries-of, blank, format-number, size-of}
 use Rattle.records.proofs.Widths.{width-group, width-multiple, width-none, width-plain}
 use borrow.Author.Needs.{needs}
 use Rattle.records.proofs.paths.width_at.Statement.{statement}
-use Rattle.records.specs.Walk.{greatest-byte}
+use Rattle.records.specs.Counts.{greatest-byte}
 use Rattle.records.proofs.paths.width_at.Tie as tie
 
 entry-at-requires : tie.Need-entry-at-requires

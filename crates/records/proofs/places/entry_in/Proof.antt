@@ -17,11 +17,8 @@ group-count-requires c κs =
     let s = c .before .before in
     (s .pre .0, omega (arith, s .pre .1, s .pre .2), s .pre .4 .home (s .pre .5) .periodic, s .pre .6)
 
-cast-if1 : tie.Need-cast-if1
-cast-if1 c = search needs
-
 returns : tie.Need-returns
-returns c r held = omega (arith, c .before .group-count .ensures r held, c .if1 .taken)
+returns c r held = omega (arith, c .before .group-count .ensures .1 r held, c .if1 .taken)
 
 row-at-requires : tie.Need-row-at-requires
 row-at-requires c κs =
@@ -34,13 +31,13 @@ row-at-requires c κs =
       less,
       home .periodic,
       s .pre .3,
-      omega (arith, c .before .group-count .ensures (h .0) (h .1), count-there (h .1) (valid-names (a .t .now) (s .pre .0)) (a .path .group) less (home .periodic) .1, c .if1 .left),
+      omega (arith, c .before .group-count .ensures .1 (h .0) (h .1), count-there (h .1) (valid-names (a .t .now) (s .pre .0)) (a .path .group) less (home .periodic) .1, c .if1 .left),
       h,
     )
 
 many : (c : tie.After-row-at) (r : Record) → Held (entries-of (c .before .before .before .before .before .args .t .now)) (c .before .before .before .before .before .args .b .now) (c .before .before .before .before .before .args .places .now) r
     → c .before .before .before .before .before .args .o ≤ group-count-at (parts (entries-of (c .before .before .before .before .before .args .t .now))) r (getD (entries-of (c .before .before .before .before .before .args .t .now)) (c .before .before .before .before .before .args .path .group) blank .name)
-many c r held = omega (arith, c .before .before .group-count .ensures r held, c .before .if1 .left)
+many c r held = omega (arith, c .before .before .group-count .ensures .1 r held, c .before .if1 .left)
 
 place-in-requires : tie.Need-place-in-requires
 place-in-requires c κs =
@@ -64,4 +61,4 @@ returns-2 : tie.Need-returns-2
 returns-2 c r held = (c .before .row-at .result, record { many = many (c .before) r held; row = c .before .row-at .ensures; before = c .place-in .ensures })
 
 pub entry-in-spec : {M : Type 1} → statement M
-entry-in-spec = tie.close (tie.spec group-count-requires cast-if1 returns row-at-requires place-in-requires returns-2)
+entry-in-spec = tie.close (tie.spec group-count-requires returns row-at-requires place-in-requires returns-2)

@@ -3,6 +3,7 @@ use mathlib.Core.Path.{sym, _∙_}
 use native.Mathlib.Omega.{arith}
 use lib.ListN.{drop}
 use lib.Seq.{drop-length}
+use Rattle.rules.specs.Limits.{record-head-size}
 use Rattle.tables.specs.Entries.{entries-of}
 use Rattle.tables.proofs.Tables.{valid-most}
 use Rattle.records.proofs.Pieces.{start-none}
@@ -26,7 +27,7 @@ returns-2 c =
     let s = c .before .before .before .before in
     let a = s .args in
     let es = entries-of (a .t .now) in
-    (omega arith, drop-length (a .b .now) ∙ sym (start-none _ es (drop 5 (a .b .now)) (a .i) (omega (arith, c .before .count .ensures, c .if1 .left))))
+    (omega arith, drop-length (a .b .now) ∙ sym (start-none _ es (drop record-head-size (a .b .now)) (a .i) (omega (arith, c .before .count .ensures, c .if1 .left))))
 
 pub place-behind-spec : {M : Type 1} → statement M
 place-behind-spec =

@@ -1,11 +1,13 @@
--- `records::places::row_at` meets its contract: an occurrence stands where it is kept, or behind those before it. Assumes nothing.
-use Prim.Native.Nat.{_-_}
+-- `records::places::row_at` meets its contract: an occurrence stands where it is kept, or behind those before it.
+use Prim.Native.Nat.{_+_, _-_, _<_}
 use native.Mathlib.Omega.{arith}
-use lib.ListN.{getD}
+use lib.ListN.{length, getD, drop}
+use Rattle.rules.specs.Limits.{count-size}
+use Rattle.rules.specs.Record.{times}
 use Rattle.tables.specs.Entries.{entries-of}
 use Rattle.tables.proofs.Tables.{valid-most, valid-names}
 use Rattle.tables.proofs.Known.{periodic-level}
-use Rattle.records.specs.Walk.{occurrence}
+use Rattle.records.specs.Walk.{rest-of, Ends, occurrence}
 use Rattle.records.proofs.Ends.{group-within}
 use Rattle.records.proofs.Placed.{count-there, row-kept, row-ends}
 use borrow.Author.Needs.{needs}
@@ -36,46 +38,47 @@ returns c =
     rw (c .place-of2 .ensures .0, c .before .before .place-of .ensures .0)
     (row-kept (s .pre .5 .1) (valid-names (a .t .now) (s .pre .0)) (a .g) (s .pre .1) (s .pre .2) (a .o - 1) (omega (arith, s .pre .3, s .pre .4)) (rw (c .before .before .place-of .ensures .0) at (c .before .if1 .taken)))
 
+place-of-requires-3 : tie.Need-place-of-requires-3
+place-of-requires-3 c κs = let s = c .before .before .before .before in omega (arith, valid-most (s .args .t .now) (s .pre .0), s .pre .1)
+
+-- The group's count stands in the record.
+count-stands : (c : tie.After-place-of3) → c .place-of3 .result < length (c .before .before .before .before .before .args .b .now)
+count-stands c =
+    let s = c .before .before .before .before .before in
+    rw (c .place-of3 .ensures .0) (count-there (s .pre .5 .1) (valid-names (s .args .t .now) (s .pre .0)) (s .args .g) (s .pre .1) (s .pre .2) .0)
+
+after-count-requires : tie.Need-after-count-requires
+after-count-requires c κs = count-stands c
+
 group-end-requires : tie.Need-group-end-requires
 group-end-requires c κs = search needs
-
-place-of-requires-3 : tie.Need-place-of-requires-3
-place-of-requires-3 c κs = let s = c .before .before .before .before .before in omega (arith, valid-most (s .args .t .now) (s .pre .0), s .pre .1)
-
-add-behind-occurrences : tie.Need-add-behind-occurrences
-add-behind-occurrences c = omega (arith, c .place-of3 .ensures .1)
 
 sub-behind-occurrences : tie.Need-sub-behind-occurrences
 sub-behind-occurrences c = search needs
 
-add-behind-occurrences-2 : tie.Need-add-behind-occurrences-2
-add-behind-occurrences-2 c = let s = c .before .before .before .before .before .before in omega (arith, valid-most (s .args .t .now) (s .pre .0), s .pre .1)
+add-behind-occurrences : tie.Need-add-behind-occurrences
+add-behind-occurrences c = let s = c .before .before .before .before .before .before .before in omega (arith, valid-most (s .args .t .now) (s .pre .0), s .pre .1)
+
+-- The occurrences before it come to an end.
+before : (c : tie.After-group-end) → Ends (rest-of (times (c .before .before .before .before .before .before .before .args .o - 1) (occurrence (entries-of (c .before .before .before .before .before .before .before .args .t .now)) (c .before .before .before .before .before .before .before .args .g)) (drop (getD (c .before .before .before .before .before .before .before .args .places .now) (c .before .before .before .before .before .before .before .args .g) 0 + count-size) (c .before .before .before .before .before .before .before .args .b .now))))
+before c =
+    let s = c .before .before .before .before .before .before .before in
+    let a = s .args in
+    row-ends (s .pre .5 .1) (valid-names (a .t .now) (s .pre .0)) (a .g) (s .pre .1) (s .pre .2) (periodic-level (a .t .now) (s .pre .0) (a .g) (s .pre .1) (s .pre .2)) (a .o - 1) (omega (arith, s .pre .3, s .pre .4))
 
 behind-occurrences-requires : tie.Need-behind-occurrences-requires
 unfolding occurrence
 behind-occurrences-requires c κs =
-    let s = c .before .before .before .before .before .before in
-    let a = s .args in
-    let g = c .before .group-end .ensures in
-    let p = c .place-of3 .ensures .0 in
-    let w = group-within (entries-of (a .t .now)) (a .g) (s .pre .1) in
-    let named = valid-names (a .t .now) (s .pre .0) in
-    let level = periodic-level (a .t .now) (s .pre .0) (a .g) (s .pre .1) (s .pre .2) in (
-      s .pre .0,
-      rw g (w .0),
-      rw g (w .1),
-      omega (arith, p, count-there (s .pre .5 .1) named (a .g) (s .pre .1) (s .pre .2) .0),
-      rw (g, p) (row-ends (s .pre .5 .1) named (a .g) (s .pre .1) (s .pre .2) level (a .o - 1) (omega (arith, s .pre .3, s .pre .4))),
-    )
+    let s = c .before .before .before .before .before .before .before in
+    let g = c .group-end .ensures in
+    let from = c .before .after-count .ensures in
+    let p = c .before .before .place-of3 .ensures .0 in
+    let w = group-within (entries-of (s .args .t .now)) (s .args .g) (s .pre .1) in
+    (s .pre .0, rw g (w .0), rw g (w .1), omega (arith, from, count-stands (c .before .before)), rw (g, from, p) (before c))
 
 returns-2 : tie.Need-returns-2
 unfolding occurrence
-returns-2 c =
-    let s = c .before .before .before .before .before .before .before in
-    let a = s .args in
-    let level = periodic-level (a .t .now) (s .pre .0) (a .g) (s .pre .1) (s .pre .2) in
-    let walked = rw (c .before .before .group-end .ensures, c .before .place-of3 .ensures .0) at (c .behind-occurrences .ensures) in
-    walked (row-ends (s .pre .5 .1) (valid-names (a .t .now) (s .pre .0)) (a .g) (s .pre .1) (s .pre .2) level (a .o - 1) (omega (arith, s .pre .3, s .pre .4)))
+returns-2 c = rw (c .before .group-end .ensures, c .before .before .after-count .ensures, c .before .before .before .place-of3 .ensures .0) at (c .behind-occurrences .ensures) (before (c .before))
 
 pub row-at-spec : {M : Type 1} → statement M
 row-at-spec =
@@ -87,10 +90,10 @@ row-at-spec =
     add-number
     place-of-requires-2
     returns
-    group-end-requires
     place-of-requires-3
-    add-behind-occurrences
+    after-count-requires
+    group-end-requires
     sub-behind-occurrences
-    add-behind-occurrences-2
+    add-behind-occurrences
     behind-occurrences-requires
     returns-2)

@@ -1,8 +1,11 @@
--- `records::places::value_count` meets its contract: the count is the byte at the cell's place. Assumes nothing.
-use mathlib.Core.Path.{subst}
+-- `records::places::value_count` meets its contract: the count stands at the cell's place.
+use mathlib.Core.Path.{_∙_, subst}
+use native.Mathlib.Omega.{arith}
 use lib.ListN.{getD}
+use Rattle.rules.specs.Record.{Record}
 use Rattle.tables.specs.Entries.{entries-of, blank}
-use Rattle.records.specs.Places.{Cell-of}
+use Rattle.records.specs.Places.{Held, Cell-of}
+use Rattle.records.specs.declared.places.Cell.the-variants.{At}
 use Rattle.records.proofs.Placed.{multiple-field, values-counted, values-none}
 use borrow.Author.Needs.{needs}
 use Rattle.records.proofs.places.value_count.Statement.{statement}
@@ -16,28 +19,32 @@ cell-at-requires c κs =
 enum-known-cell : tie.Need-enum-known-cell
 enum-known-cell c = search needs
 
-shared-slice-read-result : tie.Need-shared-slice-read-result
-shared-slice-read-result c =
-    let s = c .before .before .before .before .before .before .before in
-    let es = entries-of (s .args .t .now) in
-    let x = subst (Cell-of es (s .args .b .now) (s .args .i) (s .args .o) (s .pre .5 .0)) (c .before .before .cell .given .1) (c .before .before .before .before .cell-at .ensures (s .pre .5 .0) (s .pre .5 .1)) in
-    values-counted es (s .args .b .now) (s .args .i) (s .args .o) (s .pre .5 .0) (s .pre .2) (c .before .before .cell .given .0 .0) x .0
+-- The cell of the field in a record.
+cell : (c : tie.After-known-told) (r : Record) → Held (entries-of (c .before .before .before .before .before .before .args .t .now)) (c .before .before .before .before .before .before .args .b .now) (c .before .before .before .before .before .before .args .places .now) r
+    → Cell-of (entries-of (c .before .before .before .before .before .before .args .t .now)) (c .before .before .before .before .before .before .args .b .now) (c .before .before .before .before .before .before .args .i) (c .before .before .before .before .before .before .args .o) r (At (c .before .cell .given .0 .0))
+cell c r held =
+    let a = c .before .before .before .before .before .before .args in
+    subst (Cell-of (entries-of (a .t .now)) (a .b .now) (a .i) (a .o) r) (c .before .cell .given .1) (c .before .before .before .cell-at .ensures r held)
+
+count-at-requires : tie.Need-count-at-requires
+count-at-requires c κs =
+    let s = c .before .before .before .before .before .before in
+    values-counted (entries-of (s .args .t .now)) (s .args .b .now) (s .args .i) (s .args .o) (s .pre .5 .0) (s .pre .2) _ (cell c (s .pre .5 .0) (s .pre .5 .1)) .0
 
 enum-told : tie.Need-enum-told
 enum-told c = search needs
 
 returns : tie.Need-returns
-returns c r held =
+returns c =
     let s = c .before .before .before .before .before .before .before in
-    let es = entries-of (s .args .t .now) in
-    let x = subst (Cell-of es (s .args .b .now) (s .args .i) (s .args .o) r) (c .before .before .cell .given .1) (c .before .before .before .before .cell-at .ensures r held) in
-    values-counted es (s .args .b .now) (s .args .i) (s .args .o) r (s .pre .2) (c .before .before .cell .given .0 .0) x .1
+    let n = c .count-at .ensures in
+    (n .1, λ r held. n .0 ∙ values-counted (entries-of (s .args .t .now)) (s .args .b .now) (s .args .i) (s .args .o) r (s .pre .2) _ (cell (c .before) r held) .1)
 
 returns-2 : tie.Need-returns-2
-returns-2 c r held =
+returns-2 c =
     let s = c .before .before .before .before .before in
     let es = entries-of (s .args .t .now) in
-    values-none es (s .args .b .now) (s .args .i) (s .args .o) r (subst (Cell-of es (s .args .b .now) (s .args .i) (s .args .o) r) (c .enum-told .given .1) (c .before .before .cell-at .ensures r held))
+    (omega arith, λ r held. values-none es (s .args .b .now) (s .args .i) (s .args .o) r (subst (Cell-of es (s .args .b .now) (s .args .i) (s .args .o) r) (c .enum-told .given .1) (c .before .before .cell-at .ensures r held)))
 
 pub value-count-spec : {M : Type 1} → statement M
-value-count-spec = tie.close (tie.spec cell-at-requires enum-known-cell shared-slice-read-result enum-told returns returns-2)
+value-count-spec = tie.close (tie.spec cell-at-requires enum-known-cell count-at-requires enum-told returns returns-2)

@@ -1,8 +1,12 @@
--- `records::walk::cell_end` meets its contract: a count and so many values, no count, or one value. Assumes nothing.
+-- `records::walk::cell_end` meets its contract: a count and so many values, no count, or one value.
 use mathlib.Core.Path.{sym, _∙_}
+use Prim.Native.Nat.{_≤_, _<_}
 use native.Mathlib.Omega.{arith}
+use lib.ListN.{length}
+use Rattle.rules.specs.Limits.{greatest-count}
 use Rattle.rules.specs.Record.{stored-value}
 use Rattle.tables.specs.Entries.{format-at}
+use Rattle.records.specs.Counts.{count-at}
 use Rattle.records.proofs.Walks.{not-counted, walked-as}
 use Rattle.records.proofs.Ends.{count-none, count-some, count-there}
 use borrow.Author.Needs.{needs}
@@ -12,26 +16,25 @@ use Rattle.records.proofs.walk.cell_end.Tie as tie
 has-count-requires : tie.Need-has-count-requires
 has-count-requires c κs = search needs
 
-add-values-end : tie.Need-add-values-end
-add-values-end c = search needs
+-- A count stands there, and is not over its limit.
+counted : (c : tie.Then2) → (c .before .before .before .before .args .at < length (c .before .before .before .before .args .b .now)) × (count-at (c .before .before .before .before .args .b .now) (c .before .before .before .before .args .at) ≤ greatest-count)
+counted c = count-some (c .before .before .before .before .args .b .now) (c .before .before .before .before .args .at) (sym (c .before .has-count .ensures) ∙ c .if2 .taken)
 
-shared-slice-read-values-end : tie.Need-shared-slice-read-values-end
-shared-slice-read-values-end c = count-some (c .before .before .before .before .before .args .b .now) (c .before .before .before .before .before .args .at) (sym (c .before .before .has-count .ensures) ∙ c .before .if2 .taken) .0
+count-at-requires : tie.Need-count-at-requires
+count-at-requires c κs = counted c .0
 
-cast-values-end : tie.Need-cast-values-end
-cast-values-end c = omega (arith, c .shared-slice-known2 .given (c .before .before .before .before .before .args .at))
+after-count-requires : tie.Need-after-count-requires
+after-count-requires c κs = counted (c .before) .0
 
 values-end-requires : tie.Need-values-end-requires
-values-end-requires c κs =
-    let s = c .before .before .before .before .before in
-    let h = count-some (s .args .b .now) (s .args .at) (sym (c .before .before .has-count .ensures) ∙ c .before .if2 .taken) in
-    (omega arith, s .pre .1, s .pre .2)
+values-end-requires c κs = let s = c .before .before .before .before .before .before in (omega (arith, counted (c .before .before) .0, c .after-count .ensures), s .pre .1, s .pre .2)
 
 returns : tie.Need-returns
 returns c =
-    let a = c .before .before .before .before .before .before .args in
-    let h = sym (c .before .before .before .has-count .ensures) ∙ c .before .before .if2 .taken in
-    walked-as (rw (c .before .before .before .before .if1 .taken) (count-there (stored-value (format-at (a .format)) (a .size)) (a .b .now) (a .at) h)) (c .values-end .ensures)
+    let a = c .before .before .before .before .before .before .before .args in
+    let h = sym (c .before .before .before .before .has-count .ensures) ∙ c .before .before .before .if2 .taken in
+    walked-as (rw (c .before .before .before .before .before .if1 .taken) (count-there (stored-value (format-at (a .format)) (a .size)) (a .b .now) (a .at) h))
+    (rw (c .before .after-count .ensures, c .before .before .count-at .ensures .0) at (c .values-end .ensures))
 
 returns-2 : tie.Need-returns-2
 returns-2 c =
@@ -52,9 +55,8 @@ cell-end-spec =
     tie.close
     (tie.spec
     has-count-requires
-    add-values-end
-    shared-slice-read-values-end
-    cast-values-end
+    count-at-requires
+    after-count-requires
     values-end-requires
     returns
     returns-2

@@ -3,10 +3,12 @@ use mathlib.Core.Path.{_≡_, refl, sym, _∙_}
 use Prim.Native.Nat.{_+_, _-_, _<_}
 use native.Mathlib.Omega.{arith}
 use lib.ListN.{length, length-set}
+use Rattle.rules.specs.Limits.{most-entries}
 use Rattle.tables.specs.Entries.{entries-of, blank}
 use Rattle.tables.proofs.Tables.{valid-most}
+use Rattle.records.specs.Walk.{firsts}
 use Rattle.records.proofs.Checking.{Checking, start}
-use Rattle.records.proofs.Heads.{headed-five, headed-most}
+use Rattle.records.proofs.HeadLaws.{headed-long, headed-most}
 use Rattle.records.proofs.Directories.{Rowing, rowing, long-set, old, new, rowed, no-head, passed, no-part, at-the-end}
 use borrow.Author.Needs.{needs}
 use Rattle.records.proofs.walk.check.Statement.{statement}
@@ -19,8 +21,8 @@ Inv-loop t b places₀ n inside₀ p₀ kept₀ i₀ places inside p kept i =
 abbrev μ-loop : tie.MeasureT-loop
 μ-loop t b places₀ n inside₀ p₀ kept₀ i₀ places inside p kept i = n - i
 
-head-right-requires : tie.Need-head-right-requires Inv-loop μ-loop
-head-right-requires c κs = search needs
+has-head-requires : tie.Need-has-head-requires Inv-loop μ-loop
+has-head-requires c κs = search needs
 
 count-requires : tie.Need-count-requires Inv-loop μ-loop
 count-requires c κs = c .before .before .before .before .pre .0
@@ -30,12 +32,12 @@ loop-holds c =
     let s = c .before .before .before .before .before in
     let a = s .args in
     let es = entries-of (a .t .now) in
-    (c .count .ensures, start es (a .b .now) _ (headed-five (a .b .now) (sym (c .before .before .head-right .ensures) ∙ c .before .if1 .taken)), rowing es (a .b .now) _ (s .pre .1))
+    (c .count .ensures, start es (a .b .now) _ (headed-long (a .b .now) (sym (c .before .before .has-head .ensures) ∙ c .before .if1 .taken)), rowing es (a .b .now) _ (s .pre .1))
 
 keep-requires : tie.Need-keep-requires Inv-loop μ-loop
 keep-requires c κs =
     let l = c .before .before .loop .inv in
-    (l .2 .long, omega (arith, l .1 .inside, headed-most (c .before .before .before .before .before .before .before .before .args .b .now) (sym (c .before .before .before .before .before .head-right .ensures) ∙ c .before .before .before .before .if1 .taken)))
+    (l .2 .long, omega (arith, l .1 .inside, headed-most (c .before .before .before .before .before .before .before .before .args .b .now) (sym (c .before .before .before .before .before .has-head .ensures) ∙ c .before .before .before .before .if1 .taken)))
 
 add-keep : tie.Need-add-keep Inv-loop μ-loop
 add-keep c = let s = c .before .before .before .before .before .before .before .before .before .before in omega (arith, valid-most (s .args .t .now) (s .pre .0), c .before .before .before .before .loop .inv .0, c .before .before .before .loop-test .taken)
@@ -56,8 +58,8 @@ entry-end-requires c κs =
       s .pre .0,
       omega (arith, l .0, c .before .before .before .before .before .before .loop-test .taken),
       l .1 .inside,
-      headed-most (s .args .b .now) (sym (c .before .before .before .before .before .before .before .before .before .before .head-right .ensures) ∙ c .before .before .before .before .before .before .before .before .before .if1 .taken),
-      rw (c .before .before .keep2 .ensures, c .before .before .before .before .keep .ensures) (long-set (c .before .before .before .before .before .before .before .loop .places) (c .before .before .before .before .before .before .before .loop .i) (c .before .before .before .before .before .before .before .loop .p) (64 + c .before .before .before .before .before .before .before .loop .i) (c .before .before .before .before .before .before .before .loop .kept) ∙ l .2 .long),
+      headed-most (s .args .b .now) (sym (c .before .before .before .before .before .before .before .before .before .before .has-head .ensures) ∙ c .before .before .before .before .before .before .before .before .before .if1 .taken),
+      rw (c .before .before .keep2 .ensures, c .before .before .before .before .keep .ensures) (long-set (c .before .before .before .before .before .before .before .loop .places) (c .before .before .before .before .before .before .before .loop .i) (c .before .before .before .before .before .before .before .loop .p) (firsts + c .before .before .before .before .before .before .before .loop .i) (c .before .before .before .before .before .before .before .loop .kept) ∙ l .2 .long),
       omega (arith, l .2 .most, valid-most (s .args .t .now) (s .pre .0), l .0, c .before .before .before .before .before .before .loop-test .taken),
     )
 
@@ -74,7 +76,7 @@ returns : tie.Need-returns Inv-loop μ-loop
 returns c =
     let l = c .before .before .before .before .before .before .before .before .before .before .before .loop .inv in
     no-part (l .1) (omega (arith, l .0, c .before .before .before .before .before .before .before .before .before .before .loop-test .taken)) blank (c .before .before .before .before .before .inside-next .ensures) (c .before .before .before .entry-end .ensures .0) _ _ (c .enum-told .given .1)
-    (sym (c .before .before .before .before .before .before .before .before .before .before .before .before .before .before .head-right .ensures) ∙ c .before .before .before .before .before .before .before .before .before .before .before .before .before .if1 .taken) refl
+    (sym (c .before .before .before .before .before .before .before .before .before .before .before .before .before .before .has-head .ensures) ∙ c .before .before .before .before .before .before .before .before .before .before .before .before .before .if1 .taken) refl
 
 enum-known-step : tie.Need-enum-known-step Inv-loop μ-loop
 enum-known-step c = search needs
@@ -90,7 +92,7 @@ loop-again c =
     let s = c .before .before .before .before .before .before .before .before .before .before .before .before .before .before .before .before .before .before in
     let l = c .before .before .before .before .before .before .before .before .before .before .before .before .loop .inv in
     let less = c .before .before .before .before .before .before .before .before .before .before .before .loop-test .taken in
-    let small : c .before .before .before .before .before .before .before .before .before .before .before .before .loop .i < 64 = omega (arith, valid-most (s .args .t .now) (s .pre .0), l .0, less) in
+    let small : c .before .before .before .before .before .before .before .before .before .before .before .before .loop .i < most-entries = omega (arith, valid-most (s .args .t .now) (s .pre .0), l .0, less) in
     let step = c .before .step .given .1 in
     let kept = rw (c .before .before .before .before .before .before .before .keep2 .ensures, c .before .before .before .before .before .before .before .before .before .keep .ensures) at (c .before .before .before .before .entry-end .ensures .1 _ step) in
     let p = c .before .before .before .before .before .before .before .before .before .before .before .before .loop .p in (
@@ -102,10 +104,10 @@ loop-again c =
 returns-2 : tie.Need-returns-2 Inv-loop μ-loop
 returns-2 c =
     let l = c .before .loop .inv in
-    at-the-end (l .1) (l .2) _ (omega (arith, l .0, c .loop-test .left)) (sym (c .before .before .before .before .head-right .ensures) ∙ c .before .before .before .if1 .taken) refl
+    at-the-end (l .1) (l .2) _ (omega (arith, l .0, c .loop-test .left)) (sym (c .before .before .before .before .has-head .ensures) ∙ c .before .before .before .if1 .taken) refl
 
 returns-3 : tie.Need-returns-3 Inv-loop μ-loop
-returns-3 c = let a = c .before .before .before .before .args in no-head (entries-of (a .t .now)) (a .b .now) _ _ (sym (c .before .head-right .ensures) ∙ c .if1 .left) refl
+returns-3 c = let a = c .before .before .before .before .args in no-head (entries-of (a .t .now)) (a .b .now) _ _ (sym (c .before .has-head .ensures) ∙ c .if1 .left) refl
 
 pub check-spec : {M : Type 1} → statement M
 check-spec =
@@ -113,7 +115,7 @@ check-spec =
     (tie.spec
     Inv-loop
     μ-loop
-    head-right-requires
+    has-head-requires
     count-requires
     loop-holds
     keep-requires

@@ -1,13 +1,15 @@
--- `records::walk::entry_end` meets its contract: each branch is one kind of entry, and only a periodic group has occurrences to keep. Assumes nothing.
+-- `records::walk::entry_end` meets its contract: each branch is one kind of entry, and only a periodic group has occurrences to keep.
 use mathlib.Core.Path.{_≡_, sym, _∙_}
 use mathlib.Core.Bool.{true, false}
-use Prim.Native.Nat.{suc}
+use Prim.Native.Nat.{suc, _≤_, _<_}
 use native.Mathlib.Omega.{arith}
-use lib.ListN.{getD, drop}
+use lib.ListN.{length, getD, drop}
+use Rattle.rules.specs.Limits.{greatest-count}
 use Rattle.tables.specs.Entries.{entries-of, blank, is-periodic}
 use Rattle.tables.proofs.Tables.{valid-most}
 use Rattle.tables.proofs.Nesting.{periodic-what}
 use Rattle.tables.proofs.Known.{periodic-level}
+use Rattle.records.specs.Counts.{count-at}
 use Rattle.records.proofs.Walks.{walked-as, not-at}
 use Rattle.records.proofs.Ends.{count-some, behind-countless, behind-counted, behind-inside, behind-outside, group-within, kept-rows, kept-none}
 use borrow.Author.Needs.{needs}
@@ -20,40 +22,41 @@ periodic-at-requires c κs = search needs
 has-count-requires : tie.Need-has-count-requires
 has-count-requires c κs = search needs
 
+-- A count stands there, and is not over its limit.
+counted : (c : tie.Then2) → (c .before .before .before .before .before .before .args .at < length (c .before .before .before .before .before .before .args .b .now)) × (count-at (c .before .before .before .before .before .before .args .b .now) (c .before .before .before .before .before .before .args .at) ≤ greatest-count)
+counted c = let a = c .before .before .before .before .before .before .args in count-some (a .b .now) (a .at) (sym (c .before .has-count .ensures) ∙ c .if2 .taken)
+
+count-at-requires : tie.Need-count-at-requires
+count-at-requires c κs = counted c .0
+
+after-count-requires : tie.Need-after-count-requires
+after-count-requires c κs = counted (c .before) .0
+
 group-end-requires : tie.Need-group-end-requires
 group-end-requires c κs = search needs
 
 add-occurrences-end : tie.Need-add-occurrences-end
-add-occurrences-end c = search needs
-
-shared-slice-read-occurrences-end : tie.Need-shared-slice-read-occurrences-end
-shared-slice-read-occurrences-end c = let a = c .before .before .before .before .before .before .before .before .args in count-some (a .b .now) (a .at) (sym (c .before .before .before .has-count .ensures) ∙ c .before .before .if2 .taken) .0
-
-cast-occurrences-end : tie.Need-cast-occurrences-end
-cast-occurrences-end c = omega (arith, c .shared-slice-known3 .given (c .before .before .before .before .before .before .before .before .args .at))
-
-add-occurrences-end-2 : tie.Need-add-occurrences-end-2
-add-occurrences-end-2 c = let s = c .before .before .before .before .before .before .before .before in omega (arith, valid-most (s .args .t .now) (s .pre .0), s .pre .1)
+add-occurrences-end c = let s = c .before .before .before .before .before .before .before .before .before in omega (arith, valid-most (s .args .t .now) (s .pre .0), s .pre .1)
 
 occurrences-end-requires : tie.Need-occurrences-end-requires
 occurrences-end-requires c κs =
-    let s = c .before .before .before .before .before .before .before .before .before in
-    let a = s .args in
-    let k = count-some (a .b .now) (a .at) (sym (c .before .before .before .before .has-count .ensures) ∙ c .before .before .before .if2 .taken) in
-    let w = group-within (entries-of (a .t .now)) (a .i) (s .pre .1) in
-    (s .pre .0, rw (c .before .before .group-end .ensures) (w .0), rw (c .before .before .group-end .ensures) (w .1), omega (arith, k .0), s .pre .3, s .pre .4, omega (arith, k .1, s .pre .5))
+    let s = c .before .before .before .before .before .before .before .before .before .before in
+    let k = counted (c .before .before .before .before) in
+    let w = group-within (entries-of (s .args .t .now)) (s .args .i) (s .pre .1) in
+    let g = c .before .group-end .ensures in
+    (s .pre .0, rw g (w .0), rw g (w .1), omega (arith, k .0, c .before .before .after-count .ensures), s .pre .3, s .pre .4, omega (arith, c .before .before .before .count-at .ensures .1, s .pre .5))
 
 returns : tie.Need-returns
 returns c =
-    let s = c .before .before .before .before .before .before .before .before .before .before in
+    let s = c .before .before .before .before .before .before .before .before .before .before .before in
     let a = s .args in
     let es = entries-of (a .t .now) in
     let e = getD es (a .i) blank in
-    let p : is-periodic (e .what) ≡ true = sym (c .before .before .before .before .before .before .before .periodic-at .ensures) ∙ c .before .before .before .before .before .before .if1 .taken in
+    let p : is-periodic (e .what) ≡ true = sym (c .before .before .before .before .before .before .before .before .periodic-at .ensures) ∙ c .before .before .before .before .before .before .before .if1 .taken in
     let l = periodic-level (a .t .now) (s .pre .0) (a .i) (s .pre .1) (periodic-what (e .what) p) in
-    let o = c .occurrences-end .ensures in
-    let g = c .before .before .before .group-end .ensures in (
-      walked-as (behind-counted (a .inside) es (a .i) (a .b .now) (a .at) p (sym (c .before .before .before .before .before .has-count .ensures) ∙ c .before .before .before .before .if2 .taken) l _ g) (o .0),
+    let o = rw (c .before .before .before .after-count .ensures, c .before .before .before .before .count-at .ensures .0) at (c .occurrences-end .ensures) in
+    let g = c .before .before .group-end .ensures in (
+      walked-as (behind-counted (a .inside) es (a .i) (a .b .now) (a .at) p (sym (c .before .before .before .before .before .before .has-count .ensures) ∙ c .before .before .before .before .before .if2 .taken) l _ g) (o .0),
       λ x q. kept-rows es (a .i) p g (o .1 x q),
     )
 
@@ -92,11 +95,10 @@ entry-end-spec =
     (tie.spec
     periodic-at-requires
     has-count-requires
+    count-at-requires
+    after-count-requires
     group-end-requires
     add-occurrences-end
-    shared-slice-read-occurrences-end
-    cast-occurrences-end
-    add-occurrences-end-2
     occurrences-end-requires
     returns
     returns-2

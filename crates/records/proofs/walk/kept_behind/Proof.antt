@@ -1,4 +1,4 @@
--- `records::walk::kept_behind` meets its contract: a periodic group has as many occurrences as its count says. Assumes nothing.
+-- `records::walk::kept_behind` meets its contract: a periodic group has as many occurrences as its count says.
 use mathlib.Core.Path.{_≡_, refl, sym, _∙_}
 use mathlib.Core.Bool.{true, false}
 use native.Mathlib.Omega.{arith}
@@ -17,21 +17,19 @@ returns c =
 periodic-at-requires : tie.Need-periodic-at-requires
 periodic-at-requires c κs = search needs
 
-shared-slice-read-result : tie.Need-shared-slice-read-result
-shared-slice-read-result c = search needs
-
-cast-result : tie.Need-cast-result
-cast-result c = omega (arith, c .shared-slice-known3 .given (c .before .before .before .before .before .before .args .at))
+count-at-requires : tie.Need-count-at-requires
+count-at-requires c κs = search needs
 
 add-result : tie.Need-add-result
-add-result c = omega (arith, c .shared-slice-known3 .given (c .before .before .before .before .before .before .args .at), c .before .before .before .before .before .before .pre .2)
+add-result c = omega (arith, c .count-at .ensures .1, c .before .before .before .before .before .before .pre .2)
 
 returns-2 : tie.Need-returns-2
 returns-2 c =
     let a = c .before .before .before .before .before .before .args in
     let w = getD (entries-of (a .t .now)) (a .i) blank .what in
     let p : is-periodic w ≡ true = sym (c .before .before .periodic-at .ensures) ∙ c .before .if2 .taken in
-    rw (rows-some w (getD (a .b .now) (a .at) 0) p) (refl, omega (arith, c .shared-slice-known3 .given (a .at)))
+    let n = c .count-at .ensures in
+    rw (rows-some w (getD (a .b .now) (a .at) 0) p) (omega (arith, n .0), omega (arith, n .1))
 
 returns-3 : tie.Need-returns-3
 returns-3 c =
@@ -46,8 +44,7 @@ kept-behind-spec =
     (tie.spec
     returns
     periodic-at-requires
-    shared-slice-read-result
-    cast-result
+    count-at-requires
     add-result
     returns-2
     returns-3)

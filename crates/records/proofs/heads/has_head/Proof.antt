@@ -1,11 +1,11 @@
--- `records::walk::head_right` meets its contract: too long, too short, or the head compared. Assumes nothing.
+-- `records::heads::has_head` meets its contract: too long, too short, or the head compared. Assumes nothing.
 use mathlib.Core.Path.{sym, _∙_}
 use native.Mathlib.Omega.{arith}
 use Rattle.rules.specs.Record.{record-head}
-use Rattle.records.proofs.Heads.{head-long, head-by, head-short}
+use Rattle.records.proofs.HeadLaws.{head-long, head-by, head-short}
 use borrow.Author.Needs.{needs}
-use Rattle.records.proofs.walk.head_right.Statement.{statement}
-use Rattle.records.proofs.walk.head_right.Tie as tie
+use Rattle.records.proofs.heads.has_head.Statement.{statement}
+use Rattle.records.proofs.heads.has_head.Tie as tie
 
 returns : tie.Need-returns
 returns c = sym (head-long (c .before .before .args .b .now) (omega arith))
@@ -25,6 +25,6 @@ returns-3 c =
     let a = c .before .before .before .before .before .args in
     c .stands-at .ensures ∙ sym (head-by (a .b .now) (omega arith))
 
-pub head-right-spec : {M : Type 1} → statement M
-head-right-spec =
+pub has-head-spec : {M : Type 1} → statement M
+has-head-spec =
     tie.close (tie.spec returns returns-2 slice-aggregate-stands-at stands-at-requires returns-3)

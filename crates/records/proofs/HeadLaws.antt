@@ -9,7 +9,7 @@ use lib.Dec.{leb, eqb}
 use lib.ListN.{length, take, drop, length-take, drop-of-length-le}
 use lib.Seq.{drop-cons}
 use Rattle.rules.specs.Outcome.{Outcome, done, refused, _>>=_, need, is-done}
-use Rattle.rules.specs.Limits.{longest-record}
+use Rattle.rules.specs.Limits.{longest-record, record-head-size}
 use Rattle.rules.specs.Lists.{Bytes, same, nothing}
 use Rattle.rules.specs.Table.{Part}
 use Rattle.rules.specs.Record.{Record, record-head, each, stored-part, stored}
@@ -24,14 +24,14 @@ module _ (b : Bytes) where
   unfolding is-headed
   head-long h = rw (lt-leb (length b) longest-record h) refl
 
-  pub head-by : length b ≤ longest-record → is-headed b ≡ same (take 5 b) record-head
+  pub head-by : length b ≤ longest-record → is-headed b ≡ same (take record-head-size b) record-head
   unfolding is-headed
   head-by h = rw (le-leb (length b) longest-record h) refl
 
-  pub head-short : length b < 5 → same (take 5 b) record-head ≡ false
+  pub head-short : length b < record-head-size → same (take record-head-size b) record-head ≡ false
   unfolding record-head
-  head-short h = by-test (same (take 5 b) record-head)
-      (λ t. absurd (omega (arith, ap length (same-eq (take 5 b) record-head (true-T t)), length-take 5 b)))
+  head-short h = by-test (same (take record-head-size b) record-head)
+      (λ t. absurd (omega (arith, ap length (same-eq (take record-head-size b) record-head (true-T t)), length-take record-head-size b)))
       (λ t. t)
 
   pub headed-most : is-headed b ≡ true → length b ≤ longest-record
@@ -41,10 +41,10 @@ module _ (b : Bytes) where
   and-second true y h = h
   and-second false y h = absurd (never refl h)
 
-  pub headed-five : is-headed b ≡ true → 5 ≤ length b
+  pub headed-long : is-headed b ≡ true → record-head-size ≤ length b
   unfolding is-headed
-  headed-five h = by-order (length b) 5
-      (λ l. absurd (never (head-short l) (and-second (leb (length b) longest-record) (same (take 5 b) record-head) h)))
+  headed-long h = by-order (length b) record-head-size
+      (λ l. absurd (never (head-short l) (and-second (leb (length b) longest-record) (same (take record-head-size b) record-head) h)))
       (λ l. l)
 
 -- The answer, by the head and by what the body's parts leave.
@@ -77,18 +77,18 @@ ends-off (refused n) k h = refl
 module _ (ps : List Part) (b : Bytes) where
   pub stored-headless : is-headed b ≡ false → is-done (stored ps b) ≡ false
   unfolding stored is-headed
-  stored-headless h = two-needs-off (each stored-part ps (drop 5 b) >>= to-the-end) (leb (length b) longest-record) (same (take 5 b) record-head) h
+  stored-headless h = two-needs-off (each stored-part ps (drop record-head-size b) >>= to-the-end) (leb (length b) longest-record) (same (take record-head-size b) record-head) h
 
-  by-body : is-headed b ≡ true → is-done (stored ps b) ≡ is-done (each stored-part ps (drop 5 b) >>= to-the-end)
+  by-body : is-headed b ≡ true → is-done (stored ps b) ≡ is-done (each stored-part ps (drop record-head-size b) >>= to-the-end)
   unfolding stored is-headed
-  by-body h = two-needs-on (each stored-part ps (drop 5 b) >>= to-the-end) (leb (length b) longest-record) (same (take 5 b) record-head) h
+  by-body h = two-needs-on (each stored-part ps (drop record-head-size b) >>= to-the-end) (leb (length b) longest-record) (same (take record-head-size b) record-head) h
 
-  pub stored-bad : is-headed b ≡ true → {k : ℕ} → rest-of (each stored-part ps (drop 5 b)) ≡ refused k → is-done (stored ps b) ≡ false
-  stored-bad h {k} q = by-body h ∙ ends-off (each stored-part ps (drop 5 b)) k q
+  pub stored-bad : is-headed b ≡ true → {k : ℕ} → rest-of (each stored-part ps (drop record-head-size b)) ≡ refused k → is-done (stored ps b) ≡ false
+  stored-bad h {k} q = by-body h ∙ ends-off (each stored-part ps (drop record-head-size b)) k q
 
-  pub stored-over : is-headed b ≡ true → (p : ℕ) → p ≤ length b → rest-of (each stored-part ps (drop 5 b)) ≡ done (drop p b) → is-done (stored ps b) ≡ eqb p (length b)
+  pub stored-over : is-headed b ≡ true → (p : ℕ) → p ≤ length b → rest-of (each stored-part ps (drop record-head-size b)) ≡ done (drop p b) → is-done (stored ps b) ≡ eqb p (length b)
   unfolding nothing
-  stored-over h p l q = by-body h ∙ ends-on (each stored-part ps (drop 5 b)) (drop p b) q ∙ by-order p (length b)
+  stored-over h p l q = by-body h ∙ ends-on (each stored-part ps (drop record-head-size b)) (drop p b) q ∙ by-order p (length b)
       (λ o. rw (drop-cons b p 0 o) (sym (ne-eqb p (length b) (λ e. below e o))))
       (λ o. let e : p ≡ length b = omega arith in rw (drop-of-length-le b o, e) (sym (eqb-same (length b))))
     where

@@ -1,10 +1,10 @@
--- `records::walk::has_count` meets its contract: no byte there, or the byte is compared. Assumes nothing.
+-- `records::counts::has_count` meets its contract: no byte there, or the byte is compared. Assumes nothing.
 use native.Mathlib.Omega.{arith}
 use borrow.Author.Tests.{le-ltb, lt-ltb}
-use Rattle.records.specs.Walk.{has-count}
+use Rattle.records.specs.Counts.{has-count}
 use borrow.Author.Needs.{needs}
-use Rattle.records.proofs.walk.has_count.Statement.{statement}
-use Rattle.records.proofs.walk.has_count.Tie as tie
+use Rattle.records.proofs.counts.has_count.Statement.{statement}
+use Rattle.records.proofs.counts.has_count.Tie as tie
 
 returns : tie.Need-returns
 unfolding has-count
