@@ -66,8 +66,8 @@ module _ (f : Bytes) (n : Named) (s : n .sized ≡ false) where
   pub name-at-format : (b : Option ℕ) → named-of n (optional (n .sized) (n .length)) b ≡ named-of n none b
   name-at-format b = ap (λ l. named-of n l b) (optional-none (n .sized) (n .length) s)
 
-  pub name-alone : n .lettered ≡ false → element-of f (code.Named n) ≡ named-of n none none
-  name-alone l = name-at-format (optional (n .lettered) (n .letter)) ∙ ap (λ b. named-of n none b) (optional-none (n .lettered) (n .letter) l)
+  pub name-given-neither : n .lettered ≡ false → named-of n none none ≡ element-of f (code.Named n)
+  name-given-neither l = sym (name-at-format (optional (n .lettered) (n .letter)) ∙ ap (λ b. named-of n none b) (optional-none (n .lettered) (n .letter) l))
 
 pub name-at-length : (n : Named) (size : Option ℕ) → n .lettered ≡ false → named-of n size (optional (n .lettered) (n .letter)) ≡ named-of n size none
 name-at-length n size l = ap (λ b. named-of n size b) (optional-none (n .lettered) (n .letter) l)
@@ -109,8 +109,8 @@ module _ (f : Bytes) (end : ℕ) where
 abbrev at-length : Named → ℕ → Pending → Outcome (List rules.Element)
 at-length n size p = need (absent (p .size)) 3 >>= λ _. done (named-of n (some size) (p .format) ∷ p .elements)
 
-abbrev byte-alone : Named → Option ℕ → Option ℕ → Pending → Outcome (List rules.Element)
-byte-alone n l b p = completed (named-of n l b) p >>= λ x. done (x ∷ p .elements)
+abbrev name-alone : Named → Option ℕ → Option ℕ → Pending → Outcome (List rules.Element)
+name-alone n l b p = completed (named-of n l b) p >>= λ x. done (x ∷ p .elements)
 
 module _ (f : Bytes) (end : ℕ) (n : Named) where
   pub format-first : (size : ℕ) → elements-first (rest f end) → then-format f end n size ≡ element-before (named-of n (some size) none) (elements-behind f end)
@@ -119,7 +119,7 @@ module _ (f : Bytes) (end : ℕ) (n : Named) where
 
   pub name-first : (l b : Option ℕ) → elements-first (rest f end) → then-completed f end (named-of n l b) ≡ element-before (named-of n none none) (elements-behind f end)
   unfolding then-completed completed
-  name-first l b s = at-first f end (byte-alone n l b) (named-of n none none) (λ es. refl) s
+  name-first l b s = at-first f end (name-alone n l b) (named-of n none none) (λ es. refl) s
 
   -- Behind a comma the next piece has been read, and its own comma or period stands at end′.
   module _ (e : getD f end 0 ≡ period → ⊥) where
@@ -132,7 +132,7 @@ module _ (f : Bytes) (end : ℕ) (n : Named) where
 
     pub name-bad : (l b : Option ℕ) → pending (drop (end + 1) f) ≡ refused 3 → then-completed f end (named-of n l b) ≡ refused 3
     unfolding then-completed
-    name-bad l b w = followed w (byte-alone n l b)
+    name-bad l b w = followed w (name-alone n l b)
 
     module _ (end′ : ℕ) where
       pub format-format : (size b : ℕ) → pending (drop (end + 1) f) ≡ (rest f end′ >>= put-before (rules.format-piece b))
@@ -151,14 +151,14 @@ module _ (f : Bytes) (end : ℕ) (n : Named) where
             → then-completed f end (named-of n l b) ≡ then-format f end′ n size
         unfolding then-completed then-format completed
         name-length size w =
-            followed w (byte-alone n l b) ∙ put-length (byte-alone n l b) size (λ p. named-of n (some size) (p .format)) (λ p. refl) (rest f end′)
+            followed w (name-alone n l b) ∙ put-length (name-alone n l b) size (λ p. named-of n (some size) (p .format)) (λ p. refl) (rest f end′)
 
         pub name-format : (c : ℕ) → pending (drop (end + 1) f) ≡ (rest f end′ >>= put-before (rules.format-piece c))
             → then-completed f end (named-of n l b) ≡ element-before (named-of n none (some c)) (elements-behind f end′)
         unfolding then-completed completed
         name-format c w =
             let x = named-of n none (some c) in
-            followed w (byte-alone n l b) ∙ put-format (byte-alone n l b) c x (λ es. refl) (rest f end′) ∙ at-settled f end′ x
+            followed w (name-alone n l b) ∙ put-format (name-alone n l b) c x (λ es. refl) (rest f end′) ∙ at-settled f end′ x
 
 -- An element other than a name.
 abbrev pub nameless : Element → Type 0

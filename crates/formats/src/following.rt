@@ -4,7 +4,6 @@ use super::Element;
 use super::Named;
 use super::numbers::Number;
 use super::numbers::number_first;
-use super::pieces::GREATEST_LENGTH;
 use super::syntax::Step;
 use super::texts::bounds_at;
 use characters::PERIOD;
@@ -69,7 +68,7 @@ fn trailer_at(f: &[u8], first: usize, last: usize) -> Trailer
         if p != last {
             return Trailer::Neither;
         }
-        if n > GREATEST_LENGTH {
+        if n > rules::GREATEST_LENGTH {
             return Trailer::Bad;
         }
         return Trailer::Length(n);

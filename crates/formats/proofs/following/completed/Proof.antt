@@ -1,4 +1,4 @@
--- `completed` meets its contract: a name may have a length and a format, any other element neither.
+-- `formats::following::completed` meets its contract: a name may have a length and a format, any other element neither.
 use mathlib.Core.Path.{refl}
 use native.Mathlib.Omega.{arith}
 use Rattle.formats.proofs.StepLaws.{stepped-at, only-settled}

@@ -1,4 +1,4 @@
--- `format_behind` meets its contract, by what follows: nothing, a format, neither, or what may not.
+-- `formats::following::format_behind` meets its contract, by what follows: nothing, a format, neither, or what may not.
 use native.Mathlib.Omega.{arith}
 use Rattle.formats.proofs.Answers.{small-length, small-format}
 use Rattle.formats.proofs.Joins.{bounded-as, bounded-end}

@@ -1,10 +1,10 @@
--- `length_behind` meets its contract, by what follows the name: nothing, a length, a format, neither, or what may not.
+-- `formats::following::length_behind` meets its contract, by what follows the name: nothing, a length, a format, neither, or what may not.
 use mathlib.Core.Path.{sym}
 use native.Mathlib.Omega.{arith}
 use Rattle.formats.proofs.Answers.{small-format}
 use Rattle.formats.proofs.Joins.{bounded-as, bounded-end}
 use Rattle.formats.proofs.Trailers.{trailed-as, bounded-first}
-use Rattle.formats.proofs.StepLaws.{stepped-at, stepped-later, stepped-bad, first-period, first-comma, name-first, name-length, name-format, name-bad, name-alone, name-given-format}
+use Rattle.formats.proofs.StepLaws.{stepped-at, stepped-later, stepped-bad, first-period, first-comma, name-first, name-length, name-format, name-bad, name-given-neither, name-given-format}
 use borrow.Author.Needs.{needs}
 use Rattle.formats.proofs.following.length_behind.Statement.{statement}
 use Rattle.formats.proofs.following.length_behind.Tie as tie
@@ -16,7 +16,7 @@ returns : tie.Need-returns
 returns c =
     let s = c .before .before .before in
     let a = s .args in
-    stepped-at (name-first (a .f .now) (a .end) (a .n) _ _ (first-period (a .f .now) (a .end) (c .if1 .taken))) (sym (name-alone (a .f .now) (a .n) (s .pre .2) (s .pre .3)))
+    stepped-at (name-first (a .f .now) (a .end) (a .n) _ _ (first-period (a .f .now) (a .end) (c .if1 .taken))) (name-given-neither (a .f .now) (a .n) (s .pre .2) (s .pre .3))
     (omega arith) (s .pre .0) (s .pre .1)
 
 add-begins-longer : tie.Need-add-begins-longer
@@ -30,7 +30,7 @@ returns-2 c =
     let s = c .before .before .before .before .before in
     let a = s .args in
     let h = first-comma (a .f .now) (a .end) (c .before .before .if1 .left) (c .before .begins-longer .ensures (c .if2 .taken)) in
-    stepped-at (name-first (a .f .now) (a .end) (a .n) _ _ h) (sym (name-alone (a .f .now) (a .n) (s .pre .2) (s .pre .3)))
+    stepped-at (name-first (a .f .now) (a .end) (a .n) _ _ h) (name-given-neither (a .f .now) (a .n) (s .pre .2) (s .pre .3))
     (omega arith) (s .pre .0) (s .pre .1)
 
 add-bounds-at : tie.Need-add-bounds-at
@@ -86,7 +86,7 @@ returns-5 c =
     let a = s .args in
     let t = trailed-as (c .before .before .trailer-at .ensures) (c .enum-told .given .1) in
     let h = first-comma (a .f .now) (a .end) (c .before .before .before .before .before .before .if1 .left) (bounded-first (c .before .before .before .bounds-at .ensures) t) in
-    stepped-at (name-first (a .f .now) (a .end) (a .n) _ _ h) (sym (name-alone (a .f .now) (a .n) (s .pre .2) (s .pre .3)))
+    stepped-at (name-first (a .f .now) (a .end) (a .n) _ _ h) (name-given-neither (a .f .now) (a .n) (s .pre .2) (s .pre .3))
     (omega arith) (s .pre .0) (s .pre .1)
 
 returns-6 : tie.Need-returns-6

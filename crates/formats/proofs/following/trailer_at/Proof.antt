@@ -1,4 +1,4 @@
--- `trailer_at` meets its contract: the first byte and what stands behind it choose the rule.
+-- `formats::following::trailer_at` meets its contract: the first byte and what stands behind it choose the rule.
 use mathlib.Core.Path.{refl, sym, ap, _∙_}
 use native.Mathlib.Omega.{arith}
 use Rattle.rules.specs.Outcome.{_>>=_}

@@ -1,4 +1,4 @@
--- `next` meets its contract: the piece at the place begins an element, or the syntax is bad.
+-- `formats::syntax::next` meets its contract: the piece at the place begins an element, or the syntax is bad.
 use Rattle.formats.proofs.StepLaws.{looked-as, stepped-later, stepped-bad, first-element, first-length, first-format, first-bad}
 use borrow.Author.Needs.{needs}
 use Rattle.formats.proofs.syntax.next.Statement.{statement}
