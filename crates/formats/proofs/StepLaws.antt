@@ -17,10 +17,10 @@ use Rattle.rules.specs.Format.{texts, Pending, settled, completed, put-before}
 use Rattle.rules.proofs.Steps.{by-test, done-inj}
 use Rattle.rules.proofs.Only.{Only, Is, only-bind, only-pick}
 use Rattle.rules.proofs.Refusals.{texts-only, assembled-only}
-use Rattle.formats.specs.Elements.{optional, element-of, named-of, sound, with-length, with-format}
+use Rattle.formats.specs.Elements.{optional, element-of, named-of, sound, shortest-element, with-length, with-format}
 use Rattle.formats.specs.Pieces.{piece-of}
 use Rattle.formats.specs.Texts.{pending, elements-first, rest, Looked}
-use Rattle.formats.specs.Syntax.{parsed, element-before, by-step, elements-behind, step-place, Stepped, then-format, then-completed}
+use Rattle.formats.specs.Syntax.{parsed, element-before, by-step, elements-behind, Stepped, then-format, then-completed}
 use Rattle.formats.specs.declared.Named.{Named}
 use Rattle.formats.specs.declared.Element.{Element}
 use Rattle.formats.specs.declared.Element.the-variants as code
@@ -40,12 +40,8 @@ looked-as {f} {at} {r} w e = record {
   sound = rw e at (w .sound);
 }
 
-step-later : (f : Bytes) (at at′ : ℕ) (r : Step) → at ≤ at′ → step-place f at′ r → step-place f at r
-step-later f at at′ (At e stop) h (a, b, c) = (omega arith, b, c)
-step-later f at at′ Bad h w = tt
-
-pub stepped-later : {f : Bytes} {at at′ : ℕ} {o o′ : Outcome (List rules.Element)} {r : Step} → o ≡ o′ → at ≤ at′ → Stepped f at′ o′ r → Stepped f at o r
-stepped-later {f} {at} {at′} {r = r} e h w = record { answer = e ∙ w .answer; place = step-later f at at′ r h (w .place) }
+pub stepped-from : {f : Bytes} {at : ℕ} {o o′ : Outcome (List rules.Element)} {r : Step} → o ≡ o′ → Stepped f at o′ r → Stepped f at o r
+stepped-from e w = record { answer = e ∙ w .answer; place = w .place }
 
 pub stepped-bad : {f : Bytes} {at : ℕ} {o : Outcome (List rules.Element)} → o ≡ refused 3 → Stepped f at o Bad
 stepped-bad e = record { answer = e; place = tt }
@@ -216,7 +212,7 @@ is-done-before x (done es) = refl
 is-done-before x (refused n) = refl
 
 pub stepped-at : {f : Bytes} {at stop : ℕ} {o : Outcome (List rules.Element)} {y : rules.Element} {e : Element} → o ≡ element-before y (elements-behind f stop)
-    → y ≡ element-of f e → at ≤ stop → stop < length f → sound f e → Stepped f at o (At e stop)
+    → y ≡ element-of f e → at + shortest-element ≤ stop → stop < length f → sound f e → Stepped f at o (At e stop)
 stepped-at {f} {at} {stop} h q a b s = record { answer = h ∙ ap (λ x. element-before x (elements-behind f stop)) q; place = (a, b, s) }
 
 -- A name to which a length or a format was given.
@@ -234,7 +230,7 @@ name-given-both f n {m} {o} {size} {b} e h = sym (ap (λ x. element-of f (code.N
 
 -- Whether the elements from a place on are good, once the step from there is known.
 module _ {f : Bytes} {at : ℕ} {r : Step} (w : Stepped f at (parsed (drop at f)) r) where
-  pub step-known : (e : Element) (stop : ℕ) → r ≡ At e stop → (at ≤ stop) × (stop < length f) × sound f e
+  pub step-known : (e : Element) (stop : ℕ) → r ≡ At e stop → (at + shortest-element ≤ stop) × (stop < length f) × sound f e
   step-known e stop q = rw q at (w .place)
 
   good-at : (e : Element) (stop : ℕ) → r ≡ At e stop → is-done (elements-behind f stop) ≡ is-done (parsed (drop at f))
