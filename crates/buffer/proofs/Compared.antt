@@ -1,4 +1,4 @@
--- Comparing two lists a byte at a time: what is left to compare answers as the whole. Assumes nothing.
+-- Comparing two lists a byte at a time: what is left to compare answers as the whole.
 use mathlib.Core.Path.{_≡_, refl, ap, _∙_, sym}
 use mathlib.Core.Bool.{Bool, true, false, _&&_}
 use mathlib.Core.List.{List, [], _∷_}

@@ -1,5 +1,4 @@
 -- The laws of `splice`. A place stands as a number of its own with an equation, so that a caller closes it by `omega arith`.
--- Assumes nothing.
 use mathlib.Core.Path.{_≡_, refl, sym, ap, _∙_}
 use Prim.Native.Nat.{ℕ, zero, suc, _+_, _-_, _≤_, _<_}
 use native.Mathlib.Nat.{le-of-suc-le-suc, not-suc-le-zero, suc-add, zero-add, add-zero}

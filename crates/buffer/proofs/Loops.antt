@@ -1,5 +1,5 @@
 -- A loop that writes the n bytes of t to out from at on, one a turn: the invariant as a record, its start, its turn and its end.
--- `Up` goes from the left, `Down` from the right; the byte that a turn stores is t's at that place. Assumes nothing.
+-- `Up` goes from the left, `Down` from the right; the byte that a turn stores is t's at that place.
 use mathlib.Core.Path.{_≡_, refl, sym, ap, _∙_}
 use Prim.Native.Nat.{ℕ, _+_, _-_, _≤_, _<_}
 use native.Mathlib.Omega.{arith}

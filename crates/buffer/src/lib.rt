@@ -1,11 +1,12 @@
-// Bytes in a lent slice: put, filled and compared. A write's contract is one equation, `splice`, which settles every byte.
+// Bytes in a lent slice: put, filled, compared and found. A write's contract is one equation, `splice`, which settles every byte.
 ghost use mathlib.Core.Path.{_≡_};
 ghost use Prim.Native.Nat.{_+_, _≤_};
 ghost use lib.ListN.{length, replicate, take, drop};
 ghost use Rattle.rules.specs.Lists.{same};
 ghost use Rattle.buffer.specs.Splice.{splice};
+ghost use Rattle.buffer.specs.Search.{upto-first};
 
-// All of src, to out from at on; the place behind it.
+// All of src, to out from at on; the place after it.
 pub fn put(src: &[u8], out: &mut [u8], at: usize) -> usize
     requires { ⌜ at + length (now src) ≤ length (now out) ⌝ }
     ensures { λ r. ⌜ (r ≡ at + length (now (src .entry))) × (now (out .exit) ≡ splice at (now (src .entry)) (now (out .entry))) ⌝ }
@@ -43,4 +44,19 @@ pub fn stands_at(s: &[u8], at: usize, t: &[u8]) -> bool
         i += 1;
     }
     true
+}
+
+// The first place from at on that has the byte b, or the end.
+pub fn find(s: &[u8], at: usize, b: u8) -> usize
+    requires { ⌜ at ≤ length (now s) ⌝ }
+    ensures { λ r. ⌜ (r ≡ at + upto-first b (drop at (now (s .entry)))) × (at ≤ r) × (r ≤ length (now (s .entry))) ⌝ }
+{
+    let mut i = at;
+    while i < s.len() {
+        if s[i] == b {
+            return i;
+        }
+        i += 1;
+    }
+    i
 }

@@ -1,27 +1,13 @@
 // Answers calls on the services, given as lines on standard input, by lines on standard output; tests/vectors/README.md has their form.
 // A line that is no call is answered `? 0 -`.
-use hexadecimal::Call;
 use lines::Line;
+use protocol::Call;
 ghost use mathlib.Core.Path.{_≡_};
 ghost use Prim.Native.Nat.{_*_, _≤_, _<_};
 ghost use lib.ListN.{length};
 ghost use Rattle.lines.specs.Placed.{Placed};
-ghost use Rattle.hexadecimal.specs.Answers.{Called};
+ghost use Rattle.protocol.specs.Calls.{Called};
 ghost use Rattle.calls.specs.Areas.{Areas};
-
-// A line of 160,000 bytes, the longest that can be a call, and its newline.
-fn input_area() -> [u8; 160001]
-    ensures { λ r. ⌜ 160001 ≡ length r ⌝ }
-{
-    [0; 160001]
-}
-
-// What the words of such a line spell: a byte takes two digits.
-fn bytes_area() -> [u8; 80000]
-    ensures { λ r. ⌜ 80000 ≡ length r ⌝ }
-{
-    [0; 80000]
-}
 
 // The buffer or room that a call is lent. A read writes no more than 32,767 bytes and a record has no more than 4,096,
 // so a call that asks for more than 40,000 bytes is answered as with 40,000.
@@ -145,7 +131,7 @@ fn answer_call(line: &[u8], bytes: &mut [u8], room: &mut [u8]) -> Answered
     requires { ⌜ length (now line) ≤ 2 * length (now bytes) ⌝ }
     ensures { λ r. ⌜ r .length ≤ length (now (room .entry)) ⌝ }
 {
-    let c = hexadecimal::take_call(line, bytes);
+    let c = protocol::take_call(line, bytes);
     let letter = c.letter;
     match letter {
         b'R' => ask_read(bytes, c, room),
@@ -155,16 +141,16 @@ fn answer_call(line: &[u8], bytes: &mut [u8], room: &mut [u8]) -> Answered
     }
 }
 
-// The line of an answer whose bytes stand in front of room, to the front of out; the place behind it.
+// The line of an answer whose bytes stand in front of room, to the front of out; the place after it.
 fn put(a: Answered, room: &[u8], out: &mut [u8]) -> usize
     requires { ⌜ (a .length ≤ length (now room)) × (length (now room) ≤ 40000) × (80016 ≤ length (now out)) ⌝ }
     ensures { λ r. ⌜ r ≤ 80016 ⌝ }
 {
     let used = a.length;
     if a.known {
-        hexadecimal::put_answer(a.number, &room[..used], out, 0)
+        protocol::put_answer(a.number, &room[..used], out, 0)
     } else {
-        hexadecimal::put_no_call(out, 0)
+        protocol::put_no_call(out, 0)
     }
 }
 
@@ -200,8 +186,8 @@ fn answer_lines(input: &mut [u8], bytes: &mut [u8], room: &mut [u8], out: &mut [
 }
 
 fn main() {
-    let mut input = input_area();
-    let mut bytes = bytes_area();
+    let mut input = lines::input_area();
+    let mut bytes = lines::bytes_area();
     let mut room = room_area();
     let mut out = output_area();
     answer_lines(&mut input, &mut bytes, &mut room, &mut out);

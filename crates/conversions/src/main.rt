@@ -182,9 +182,9 @@ fn put(a: Reply, room: &[u8], out: &mut [u8]) -> usize
     ensures { λ r. ⌜ r ≤ length (now (out .entry)) ⌝ }
 {
     match a {
-        Reply::Done(n) => hexadecimal::put_answer(0, &room[..n], out, 0),
-        Reply::Refused(k) => hexadecimal::put_answer(k, &room[..0], out, 0),
-        Reply::NoCase => hexadecimal::put_no_call(out, 0),
+        Reply::Done(n) => protocol::put_answer(0, &room[..n], out, 0),
+        Reply::Refused(k) => protocol::put_answer(k, &room[..0], out, 0),
+        Reply::NoCase => protocol::put_no_call(out, 0),
     }
 }
 

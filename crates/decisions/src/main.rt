@@ -1,30 +1,16 @@
 // Decides the format of each call of standard input, by its table alone: tests/vectors/README.md has the calls.
 // The answer to a read or an update is the number of its first refusal among 1, 3, 4, 5 and, for an update, 6; 0 where none of these
 // refuses it. To what is no such call it is `?`.
-use hexadecimal::Call;
 use lines::Line;
+use protocol::Call;
 ghost use mathlib.Core.Path.{_≡_};
 ghost use Prim.Native.Nat.{_*_, _≤_, _<_};
 ghost use lib.ListN.{length};
 ghost use Rattle.uses.specs.Meant.{Tested};
-ghost use Rattle.hexadecimal.specs.Answers.{Called};
+ghost use Rattle.protocol.specs.Calls.{Called};
 ghost use Rattle.lines.specs.Placed.{Placed};
 ghost use Rattle.decisions.specs.Decided.{decided};
 ghost use Rattle.decisions.specs.Areas.{Decision-areas};
-
-// A line of 160,000 bytes, the longest that can be a call, and its newline.
-fn input_area() -> [u8; 160001]
-    ensures { λ r. ⌜ 160001 ≡ length r ⌝ }
-{
-    [0; 160001]
-}
-
-// What the words of such a line spell: a byte takes two digits.
-fn bytes_area() -> [u8; 80000]
-    ensures { λ r. ⌜ 80000 ≡ length r ⌝ }
-{
-    [0; 80000]
-}
 
 fn output_area() -> [u8; 8]
     ensures { λ r. ⌜ 8 ≡ length r ⌝ }
@@ -69,7 +55,7 @@ fn answer_line(line: &[u8], bytes: &mut [u8], out: &mut [u8]) -> usize
     requires { ⌜ (length (now line) ≤ 2 * length (now bytes)) × (8 ≤ length (now out)) ⌝ }
     ensures { λ r. ⌜ r ≤ length (now (out .entry)) ⌝ }
 {
-    let c = hexadecimal::take_call(line, bytes);
+    let c = protocol::take_call(line, bytes);
     let letter = c.letter;
     match letter {
         b'R' => hexadecimal::put_field(decide_call(bytes, c, false) as usize, b'\n', out, 0),
@@ -103,8 +89,8 @@ fn answer_lines(input: &mut [u8], bytes: &mut [u8], out: &mut [u8])
 }
 
 fn main() {
-    let mut input = input_area();
-    let mut bytes = bytes_area();
+    let mut input = lines::input_area();
+    let mut bytes = lines::bytes_area();
     let mut out = output_area();
     answer_lines(&mut input, &mut bytes, &mut out);
 }

@@ -2,10 +2,10 @@
 use mathlib.Core.Path.{_≡_, refl, sym, _∙_}
 use mathlib.Core.Bool.{true, false, _&&_}
 use mathlib.Core.List.{List, [], _∷_}
-use Prim.Native.Nat.{ℕ, zero, suc, _+_, _-_, _*_, _^_, _≤_, _<_}
-use native.Mathlib.Nat.{add-zero, zero-add}
+use Prim.Native.Nat.{ℕ, suc, _+_, _-_, _*_, _^_, _≤_, _<_}
+use native.Mathlib.Nat.{add-zero, zero-add, lt-of-lt-of-le, pow-le-pow-right}
 use native.Mathlib.Omega.{arith}
-use lib.Dec.{eqb, leb}
+use lib.Dec.{eqb, leb, lit<}
 use lib.ListN.{length, getD}
 use borrow.Author.Tests.{le-leb, lt-leb, leb-true, ne-eqb}
 use Rattle.rules.specs.Outcome.{Outcome, done, refused, _>>=_, need}
@@ -66,14 +66,6 @@ pub record Read (f : Bytes) (at upto n i : ℕ) : Type 0 where
   pub small : n < 10 ^ (i - at)
   pub left : number-first (part f at upto) ≡ spelling (i - at) n (leading-digits (part f i upto))
 
--- Three digits spell less than a thousand.
-few-small : (k : ℕ) → k ≤ most-digits → 10 ^ k ≤ number-bound
-few-small zero h = omega arith
-few-small (suc zero) h = omega arith
-few-small (suc (suc zero)) h = omega arith
-few-small (suc (suc (suc zero))) h = omega arith
-few-small (suc (suc (suc (suc k)))) h = omega arith
-
 pub read-first : {f : Bytes} {at upto n : ℕ} → at < upto → upto ≤ length f → digit (getD f at 0) ≡ true → n ≡ getD f at 0 - digit-0
     → n < 10 → Read f at upto n (at + 1)
 read-first {f} {at} {upto} {n} h k d e s =
@@ -88,7 +80,7 @@ read-first {f} {at} {upto} {n} h k d e s =
     }
 
 pub read-value : {f : Bytes} {at upto n i : ℕ} → Read f at upto n i → n < number-bound
-read-value {f} {at} {upto} {n} {i} w = omega (arith, few-small (i - at) (omega arith))
+read-value {f} {at} {upto} {n} {i} w = lt-of-lt-of-le (w .small) (pow-le-pow-right {n = 10} (lit< tt) {i = i - at} {j = most-digits} (omega (arith, w .few)))
 
 module _ {f : Bytes} {at upto n i : ℕ} (w : Read f at upto n i) (h : i < upto) where
   first : part f i upto ≡ getD f i 0 ∷ part f (i + 1) upto

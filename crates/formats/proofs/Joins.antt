@@ -9,21 +9,23 @@ use lib.Dec.{eqb}
 use lib.ListN.{length, take, drop, getD, drop-of-length-le}
 use lib.Seq.{drop-cons, drop-drop}
 use Rattle.rules.specs.Outcome.{Outcome, done, refused, _>>=_}
-use Rattle.rules.specs.Characters.{period}
+use Rattle.rules.specs.Characters.{period, digit}
 use Rattle.rules.specs.Lists.{Bytes}
 use Rattle.rules.specs.Values.{strip}
 use Rattle.rules.specs.Format as rules
-use Rattle.rules.specs.Format.{turned, ends, onto, texts, skip-spaces, trim, Pending, assembled, put-before}
+use Rattle.rules.specs.Format.{turned, ends, onto, texts, skip-spaces, trim, Pending, assembled, put-before, is-override}
 use Rattle.rules.proofs.Steps.{by-test, not-done}
 use Rattle.rules.proofs.Only.{Only, Is}
 use Rattle.rules.proofs.Refusals.{texts-only, piece-only}
 use Rattle.formats.specs.Part.{part}
+use Rattle.formats.specs.Elements.{element-of, shortest-element}
 use Rattle.formats.specs.Pieces.{piece-of}
 use Rattle.formats.specs.Texts.{extent, pending, rest, none-pending, Bounded, reached}
 use Rattle.formats.specs.declared.texts.Bounds.{Bounds}
 use Rattle.formats.specs.declared.pieces.Piece.{Piece}
 use Rattle.formats.specs.declared.pieces.Piece.the-variants as piece
 use Rattle.formats.proofs.Parts.{part-nil}
+use Rattle.formats.proofs.PieceLaws.{single-digit, single-format, single-bad, piece-one}
 use Rattle.buffer.proofs.Cases.{by-order}
 
 -- A text, and the texts behind the comma or the period that ends it.
@@ -123,6 +125,24 @@ pub piece-some : (f : Bytes) (a b : ℕ) (q : rules.Piece) → rules.piece (part
 unfolding rules.piece
 piece-some f a b q e = by-order a b (λ h. h) (λ h. absurd (not-done (rw (part-nil f a b h) at e)))
 
+-- One byte is a length, a format or nothing good, and so an element has more.
+one-no-element : (b : ℕ) (e : rules.Element) → rules.piece (b ∷ []) ≡ done (rules.element e) → ⊥
+one-no-element b e h =
+    by-test (digit b)
+    (λ d. no-length (sym (single-digit b d) ∙ h))
+    (λ d. by-test (is-override b) (λ o. no-format (sym (single-format b d o) ∙ h)) (λ o. not-done (sym (single-bad b d o) ∙ h)))
+  where
+    no-length : {n : ℕ} → done (rules.length-piece n) ≡ done (rules.element e) → ⊥
+    no-length q = let z : _≡_ {A = ℕ} 0 1 = cc in omega arith
+
+    no-format : {n : ℕ} → done (rules.format-piece n) ≡ done (rules.element e) → ⊥
+    no-format q = let z : _≡_ {A = ℕ} 0 1 = cc in omega arith
+
+piece-long : (f : Bytes) (a b : ℕ) (e : rules.Element) → b ≤ length f → rules.piece (part f a b) ≡ done (rules.element e) → a + shortest-element ≤ b
+piece-long f a b e k h =
+    let s = piece-some f a b (rules.element e) h in
+    by-order (a + 1) b (λ l. omega arith) (λ l. absurd (one-no-element (getD f a 0) e (sym (piece-one f a b k (omega arith)) ∙ h)))
+
 -- The text from a place on, once what it is is known.
 module _ {f : Bytes} {at : ℕ} {r : Bounds} (w : Bounded f at r) where
   abbrev found : Outcome rules.Piece
@@ -135,7 +155,8 @@ module _ {f : Bytes} {at : ℕ} {r : Bounds} (w : Bounded f at r) where
   bounded-end {q} e = w .ended (piece-some f (r .first) (r .last) q e)
 
   pub reached-if : (q : Piece) → found ≡ piece-of f q → reached f at (r .end) q
-  reached-if (piece.Element e) h = (omega (arith, w .from, w .order, w .upto), bounded-end h)
+  reached-if (piece.Element e) h =
+      (omega (arith, w .from, w .upto, piece-long f (r .first) (r .last) (element-of f e) (omega (arith, w .upto, w .inside)) h), bounded-end h)
   reached-if (piece.Length n) h = (omega (arith, w .from, w .order, w .upto), bounded-end h)
   reached-if (piece.Format b) h = (omega (arith, w .from, w .order, w .upto), bounded-end h)
   reached-if piece.Bad h = tt

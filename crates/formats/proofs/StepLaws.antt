@@ -17,10 +17,10 @@ use Rattle.rules.specs.Format.{texts, Pending, settled, completed, put-before}
 use Rattle.rules.proofs.Steps.{by-test, done-inj}
 use Rattle.rules.proofs.Only.{Only, Is, only-bind, only-pick}
 use Rattle.rules.proofs.Refusals.{texts-only, assembled-only}
-use Rattle.formats.specs.Elements.{optional, element-of, named-of, sound, with-length, with-format}
+use Rattle.formats.specs.Elements.{optional, element-of, named-of, sound, shortest-element, with-length, with-format}
 use Rattle.formats.specs.Pieces.{piece-of}
 use Rattle.formats.specs.Texts.{pending, elements-first, rest, Looked}
-use Rattle.formats.specs.Syntax.{parsed, element-before, by-step, elements-behind, step-place, Stepped, then-format, then-completed}
+use Rattle.formats.specs.Syntax.{parsed, element-before, by-step, elements-behind, Stepped, then-format, then-completed}
 use Rattle.formats.specs.declared.Named.{Named}
 use Rattle.formats.specs.declared.Element.{Element}
 use Rattle.formats.specs.declared.Element.the-variants as code
@@ -40,12 +40,8 @@ looked-as {f} {at} {r} w e = record {
   sound = rw e at (w .sound);
 }
 
-step-later : (f : Bytes) (at at′ : ℕ) (r : Step) → at ≤ at′ → step-place f at′ r → step-place f at r
-step-later f at at′ (At e stop) h (a, b, c) = (omega arith, b, c)
-step-later f at at′ Bad h w = tt
-
-pub stepped-later : {f : Bytes} {at at′ : ℕ} {o o′ : Outcome (List rules.Element)} {r : Step} → o ≡ o′ → at ≤ at′ → Stepped f at′ o′ r → Stepped f at o r
-stepped-later {f} {at} {at′} {r = r} e h w = record { answer = e ∙ w .answer; place = step-later f at at′ r h (w .place) }
+pub stepped-from : {f : Bytes} {at : ℕ} {o o′ : Outcome (List rules.Element)} {r : Step} → o ≡ o′ → Stepped f at o′ r → Stepped f at o r
+stepped-from e w = record { answer = e ∙ w .answer; place = w .place }
 
 pub stepped-bad : {f : Bytes} {at : ℕ} {o : Outcome (List rules.Element)} → o ≡ refused 3 → Stepped f at o Bad
 stepped-bad e = record { answer = e; place = tt }
@@ -66,8 +62,8 @@ module _ (f : Bytes) (n : Named) (s : n .sized ≡ false) where
   pub name-at-format : (b : Option ℕ) → named-of n (optional (n .sized) (n .length)) b ≡ named-of n none b
   name-at-format b = ap (λ l. named-of n l b) (optional-none (n .sized) (n .length) s)
 
-  pub name-alone : n .lettered ≡ false → element-of f (code.Named n) ≡ named-of n none none
-  name-alone l = name-at-format (optional (n .lettered) (n .letter)) ∙ ap (λ b. named-of n none b) (optional-none (n .lettered) (n .letter) l)
+  pub name-given-neither : n .lettered ≡ false → named-of n none none ≡ element-of f (code.Named n)
+  name-given-neither l = sym (name-at-format (optional (n .lettered) (n .letter)) ∙ ap (λ b. named-of n none b) (optional-none (n .lettered) (n .letter) l))
 
 pub name-at-length : (n : Named) (size : Option ℕ) → n .lettered ≡ false → named-of n size (optional (n .lettered) (n .letter)) ≡ named-of n size none
 name-at-length n size l = ap (λ b. named-of n size b) (optional-none (n .lettered) (n .letter) l)
@@ -109,8 +105,8 @@ module _ (f : Bytes) (end : ℕ) where
 abbrev at-length : Named → ℕ → Pending → Outcome (List rules.Element)
 at-length n size p = need (absent (p .size)) 3 >>= λ _. done (named-of n (some size) (p .format) ∷ p .elements)
 
-abbrev byte-alone : Named → Option ℕ → Option ℕ → Pending → Outcome (List rules.Element)
-byte-alone n l b p = completed (named-of n l b) p >>= λ x. done (x ∷ p .elements)
+abbrev name-alone : Named → Option ℕ → Option ℕ → Pending → Outcome (List rules.Element)
+name-alone n l b p = completed (named-of n l b) p >>= λ x. done (x ∷ p .elements)
 
 module _ (f : Bytes) (end : ℕ) (n : Named) where
   pub format-first : (size : ℕ) → elements-first (rest f end) → then-format f end n size ≡ element-before (named-of n (some size) none) (elements-behind f end)
@@ -119,7 +115,7 @@ module _ (f : Bytes) (end : ℕ) (n : Named) where
 
   pub name-first : (l b : Option ℕ) → elements-first (rest f end) → then-completed f end (named-of n l b) ≡ element-before (named-of n none none) (elements-behind f end)
   unfolding then-completed completed
-  name-first l b s = at-first f end (byte-alone n l b) (named-of n none none) (λ es. refl) s
+  name-first l b s = at-first f end (name-alone n l b) (named-of n none none) (λ es. refl) s
 
   -- Behind a comma the next piece has been read, and its own comma or period stands at end′.
   module _ (e : getD f end 0 ≡ period → ⊥) where
@@ -132,7 +128,7 @@ module _ (f : Bytes) (end : ℕ) (n : Named) where
 
     pub name-bad : (l b : Option ℕ) → pending (drop (end + 1) f) ≡ refused 3 → then-completed f end (named-of n l b) ≡ refused 3
     unfolding then-completed
-    name-bad l b w = followed w (byte-alone n l b)
+    name-bad l b w = followed w (name-alone n l b)
 
     module _ (end′ : ℕ) where
       pub format-format : (size b : ℕ) → pending (drop (end + 1) f) ≡ (rest f end′ >>= put-before (rules.format-piece b))
@@ -151,14 +147,14 @@ module _ (f : Bytes) (end : ℕ) (n : Named) where
             → then-completed f end (named-of n l b) ≡ then-format f end′ n size
         unfolding then-completed then-format completed
         name-length size w =
-            followed w (byte-alone n l b) ∙ put-length (byte-alone n l b) size (λ p. named-of n (some size) (p .format)) (λ p. refl) (rest f end′)
+            followed w (name-alone n l b) ∙ put-length (name-alone n l b) size (λ p. named-of n (some size) (p .format)) (λ p. refl) (rest f end′)
 
         pub name-format : (c : ℕ) → pending (drop (end + 1) f) ≡ (rest f end′ >>= put-before (rules.format-piece c))
             → then-completed f end (named-of n l b) ≡ element-before (named-of n none (some c)) (elements-behind f end′)
         unfolding then-completed completed
         name-format c w =
             let x = named-of n none (some c) in
-            followed w (byte-alone n l b) ∙ put-format (byte-alone n l b) c x (λ es. refl) (rest f end′) ∙ at-settled f end′ x
+            followed w (name-alone n l b) ∙ put-format (name-alone n l b) c x (λ es. refl) (rest f end′) ∙ at-settled f end′ x
 
 -- An element other than a name.
 abbrev pub nameless : Element → Type 0
@@ -216,7 +212,7 @@ is-done-before x (done es) = refl
 is-done-before x (refused n) = refl
 
 pub stepped-at : {f : Bytes} {at stop : ℕ} {o : Outcome (List rules.Element)} {y : rules.Element} {e : Element} → o ≡ element-before y (elements-behind f stop)
-    → y ≡ element-of f e → at ≤ stop → stop < length f → sound f e → Stepped f at o (At e stop)
+    → y ≡ element-of f e → at + shortest-element ≤ stop → stop < length f → sound f e → Stepped f at o (At e stop)
 stepped-at {f} {at} {stop} h q a b s = record { answer = h ∙ ap (λ x. element-before x (elements-behind f stop)) q; place = (a, b, s) }
 
 -- A name to which a length or a format was given.
@@ -234,7 +230,7 @@ name-given-both f n {m} {o} {size} {b} e h = sym (ap (λ x. element-of f (code.N
 
 -- Whether the elements from a place on are good, once the step from there is known.
 module _ {f : Bytes} {at : ℕ} {r : Step} (w : Stepped f at (parsed (drop at f)) r) where
-  pub step-known : (e : Element) (stop : ℕ) → r ≡ At e stop → (at ≤ stop) × (stop < length f) × sound f e
+  pub step-known : (e : Element) (stop : ℕ) → r ≡ At e stop → (at + shortest-element ≤ stop) × (stop < length f) × sound f e
   step-known e stop q = rw q at (w .place)
 
   good-at : (e : Element) (stop : ℕ) → r ≡ At e stop → is-done (elements-behind f stop) ≡ is-done (parsed (drop at f))

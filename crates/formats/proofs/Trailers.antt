@@ -15,18 +15,13 @@ use Rattle.rules.specs.Format as rules
 use Rattle.rules.specs.Format.{after-number, after-name, text-piece, piece, put-before}
 use Rattle.rules.proofs.Steps.{from-bind, from-need, done-inj, by-test}
 use Rattle.formats.specs.Part.{part}
-use Rattle.formats.specs.Pieces.{no-apostrophe, number-piece, as-piece, only-element, trails, Trailed}
+use Rattle.formats.specs.Pieces.{no-apostrophe, number-piece, as-piece, only-element}
 use Rattle.formats.specs.Texts.{pending, elements-first, rest, Bounded}
-use Rattle.formats.specs.declared.following.Trailer.{Trailer}
 use Rattle.formats.specs.declared.texts.Bounds.{Bounds}
 use Rattle.buffer.proofs.Cases.{by-order}
 use Rattle.formats.proofs.Digits.{digit-bounds, read-first, read-end}
 use Rattle.formats.proofs.PieceLaws.{number-length, single-digit, piece-one, piece-text, piece-number, piece-name}
 use Rattle.formats.proofs.Puts.{put-first}
-
--- An answer that is matched is one of its variants.
-pub trailed-as : {o : Outcome rules.Piece} {r s : Trailer} → Trailed o r → r ≡ s → trails o s
-trailed-as {o} w e = subst (trails o) e (w .answer)
 
 pub only-from : {o o′ : Outcome rules.Piece} → o ≡ o′ → only-element o′ → only-element o
 only-from e h q p = h q (sym e ∙ p)

@@ -1,9 +1,9 @@
 -- What the code's elements mean in the words of `rules`, and how large their numbers are.
 use mathlib.Core.Bool.{Bool, true, false}
 use mathlib.Core.Option.{Option, none, some}
-use Prim.Native.Nat.{ℕ, _≤_, _<_, _+_}
+use Prim.Native.Nat.{ℕ, _≤_, _<_, _+_, _^_}
 use lib.ListN.{length}
-use Rattle.rules.specs.Limits.{longest-blanks, longest-text, greatest-length}
+use Rattle.rules.specs.Limits.{longest-blanks, longest-text, greatest-length, most-digits}
 use Rattle.rules.specs.Lists.{Bytes}
 use Rattle.rules.specs.Format as rules
 use Rattle.rules.specs.Format.{Range}
@@ -36,9 +36,13 @@ element-of f (code.Named n) = named-of n (optional (n .sized) (n .length)) (opti
 element-of f (code.Count c) = rules.count (c .name) (optional (c .indexed) (c .index))
 element-of f (code.Series first last) = rules.series first last
 
--- Numbers of three digits.
+-- An element has two characters or more.
+abbrev pub shortest-element : ℕ
+shortest-element = 2
+
+-- The numbers of a format are below this: as many digits as they have at most.
 abbrev pub number-bound : ℕ
-number-bound = 1000
+number-bound = 10 ^ most-digits
 
 pub record Small (n : Named) : Type 0 where
   pub from : n .from < number-bound

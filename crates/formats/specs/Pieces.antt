@@ -63,15 +63,12 @@ pub record Pieced (f : Bytes) (o : Outcome rules.Piece) (r : Piece) : Type 0 whe
 abbrev pub only-element : Outcome rules.Piece → Type 0
 only-element o = (q : rules.Piece) → o ≡ done q → (e : rules.Element) × (q ≡ rules.element e)
 
--- What a piece is behind a name.
+-- What a piece is after a name.
 abbrev pub trails : Outcome rules.Piece → Trailer → Type 0
 trails o (trailer.Length n) = (o ≡ done (rules.length-piece n)) × (n ≤ greatest-length)
 trails o (trailer.Format b) = o ≡ done (rules.format-piece b)
 trails o trailer.Neither = only-element o
 trails o trailer.Bad = o ≡ refused 3
-
-pub record Trailed (o : Outcome rules.Piece) (r : Trailer) : Type 0 where
-  pub answer : trails o r
 
 -- An element as a piece.
 abbrev pub as-piece : Outcome rules.Element → Outcome rules.Piece

@@ -11,7 +11,7 @@ use Rattle.rules.specs.Characters.{period}
 use Rattle.rules.specs.Lists.{Bytes, absent}
 use Rattle.rules.specs.Format as rules
 use Rattle.rules.specs.Format.{texts, settled, completed, assembled}
-use Rattle.formats.specs.Elements.{element-of, named-of, sound}
+use Rattle.formats.specs.Elements.{element-of, named-of, sound, shortest-element}
 use Rattle.formats.specs.Texts.{rest}
 use Rattle.formats.specs.declared.Named.{Named}
 use Rattle.formats.specs.declared.Element.{Element}
@@ -39,15 +39,20 @@ abbrev pub by-step : Bytes → Step → Outcome (List rules.Element)
 by-step f (At e stop) = element-before (element-of f e) (elements-behind f stop)
 by-step f Bad = refused 3
 
--- The comma or period behind an element stands in the format, and the numbers of the element are as large as they may be.
+-- The comma or period after an element stands in the format, after the characters of the element, and the element's numbers are as
+-- large as they may be.
 abbrev pub step-place : Bytes → ℕ → Step → Type 0
-step-place f at (At e stop) = (at ≤ stop) × (stop < length f) × sound f e
+step-place f at (At e stop) = (at + shortest-element ≤ stop) × (stop < length f) × sound f e
 step-place f at Bad = Unit {0}
 
 -- A step was made: the elements from a place on, o, are those of the step.
 pub record Stepped (f : Bytes) (at : ℕ) (o : Outcome (List rules.Element)) (r : Step) : Type 0 where
   pub answer : o ≡ by-step f r
   pub place : step-place f at r
+
+-- A step from wherever the element that ends at a place begins.
+abbrev pub Stepped-upto : Bytes → ℕ → Outcome (List rules.Element) → Step → Type 0
+Stepped-upto f end o r = (at : ℕ) → at + shortest-element ≤ end → Stepped f at o r
 
 -- A name at a length, behind which a format may stand.
 unfoldable pub then-format : Bytes → ℕ → Named → ℕ → Outcome (List rules.Element)

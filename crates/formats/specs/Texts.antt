@@ -12,6 +12,7 @@ use Rattle.rules.specs.Lists.{Bytes}
 use Rattle.rules.specs.Format as rules
 use Rattle.rules.specs.Format.{turned, ends, texts, Pending, settled, assembled, put-before}
 use Rattle.formats.specs.Part.{part}
+use Rattle.formats.specs.Elements.{shortest-element}
 use Rattle.formats.specs.Pieces.{piece-of, piece-sound}
 use Rattle.formats.specs.declared.pieces.Piece.{Piece}
 use Rattle.formats.specs.declared.pieces.Piece.the-variants as piece
@@ -54,9 +55,9 @@ pub record Bounded (f : Bytes) (at : ℕ) (r : Bounds) : Type 0 where
   pub inside : r .end ≤ length f
   pub ended : r .first < r .last → r .end < length f
 
--- Where a text ends, if it does.
+-- Where a text ends, if it does: an element has its characters before that.
 abbrev pub reached : Bytes → ℕ → ℕ → Piece → Type 0
-reached f at end (piece.Element e) = (at ≤ end) × (end < length f)
+reached f at end (piece.Element e) = (at + shortest-element ≤ end) × (end < length f)
 reached f at end (piece.Length n) = (at ≤ end) × (end < length f)
 reached f at end (piece.Format b) = (at ≤ end) × (end < length f)
 reached f at end piece.Bad = Unit {0}

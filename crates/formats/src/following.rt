@@ -4,7 +4,6 @@ use super::Element;
 use super::Named;
 use super::numbers::Number;
 use super::numbers::number_first;
-use super::pieces::GREATEST_LENGTH;
 use super::syntax::Step;
 use super::texts::bounds_at;
 use characters::PERIOD;
@@ -18,9 +17,9 @@ ghost use Rattle.rules.specs.Limits.{greatest-length};
 ghost use Rattle.rules.specs.Format.{piece};
 ghost use Rattle.formats.specs.Elements.{element-of, sound, Small};
 ghost use Rattle.formats.specs.Part.{part};
-ghost use Rattle.formats.specs.Pieces.{unfinished, Trailed};
+ghost use Rattle.formats.specs.Pieces.{unfinished, trails};
 ghost use Rattle.formats.specs.Texts.{pending, elements-first};
-ghost use Rattle.formats.specs.Syntax.{Stepped, then-format, then-completed};
+ghost use Rattle.formats.specs.Syntax.{Stepped-upto, then-format, then-completed};
 
 // The letters lie from C1 to E9, and the digits behind them.
 const FIRST_LETTER: u8 = 0xC1;
@@ -56,7 +55,7 @@ fn begins_longer(f: &[u8], at: usize) -> bool
 // What the bytes from one place up to another are behind a name. Whether what is neither is good is for the next step to find.
 fn trailer_at(f: &[u8], first: usize, last: usize) -> Trailer
     requires { ⌜ (first ≤ last) × (last ≤ length (now f)) ⌝ }
-    ensures { λ r. ⌜ Trailed (piece (part (now (f .entry)) first last)) r ⌝ }
+    ensures { λ r. ⌜ trails (piece (part (now (f .entry)) first last)) r ⌝ }
 {
     if first == last {
         return Trailer::Bad;
@@ -69,7 +68,7 @@ fn trailer_at(f: &[u8], first: usize, last: usize) -> Trailer
         if p != last {
             return Trailer::Neither;
         }
-        if n > GREATEST_LENGTH {
+        if n > rules::GREATEST_LENGTH {
             return Trailer::Bad;
         }
         return Trailer::Length(n);
@@ -86,7 +85,7 @@ fn trailer_at(f: &[u8], first: usize, last: usize) -> Trailer
 // A format may follow the name, which has a length.
 fn format_behind(f: &[u8], end: usize, n: Named, size: u16) -> Step
     requires { ⌜ (end < length (now f)) × Small n × (n .lettered ≡ false) × (size ≤ greatest-length) ⌝ }
-    ensures { λ r. ⌜ Stepped (now (f .entry)) end (then-format (now (f .entry)) end n size) r ⌝ }
+    ensures { λ r. ⌜ Stepped-upto (now (f .entry)) end (then-format (now (f .entry)) end n size) r ⌝ }
 {
     let named = n.with_length(size);
     if f[end] == PERIOD {
@@ -108,7 +107,7 @@ fn format_behind(f: &[u8], end: usize, n: Named, size: u16) -> Step
 // A length or a format may follow the name.
 fn length_behind(f: &[u8], end: usize, n: Named) -> Step
     requires { ⌜ (end < length (now f)) × Small n × (n .sized ≡ false) × (n .lettered ≡ false) ⌝ }
-    ensures { λ r. ⌜ Stepped (now (f .entry)) end (then-completed (now (f .entry)) end (element-of (now (f .entry)) (Element.Named n))) r ⌝ }
+    ensures { λ r. ⌜ Stepped-upto (now (f .entry)) end (then-completed (now (f .entry)) end (element-of (now (f .entry)) (Element.Named n))) r ⌝ }
 {
     if f[end] == PERIOD {
         return Step::At(Element::Named(n), end);
@@ -129,7 +128,7 @@ fn length_behind(f: &[u8], end: usize, n: Named) -> Step
 // What follows the element is what may.
 pub fn completed(f: &[u8], end: usize, e: Element) -> Step
     requires { ⌜ (end < length (now f)) × sound (now f) e × unfinished e ⌝ }
-    ensures { λ r. ⌜ Stepped (now (f .entry)) end (then-completed (now (f .entry)) end (element-of (now (f .entry)) e)) r ⌝ }
+    ensures { λ r. ⌜ Stepped-upto (now (f .entry)) end (then-completed (now (f .entry)) end (element-of (now (f .entry)) e)) r ⌝ }
 {
     match e {
         Element::Named(n) => length_behind(f, end, n),

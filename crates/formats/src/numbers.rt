@@ -12,8 +12,6 @@ ghost use Rattle.formats.specs.Part.{part};
 ghost use Rattle.formats.specs.Elements.{number-bound};
 ghost use Rattle.formats.specs.Numbers.{Numbered, range-end, byte-alone};
 
-const MOST_DIGITS: usize = 3;
-
 // A number, and the place behind it.
 pub enum Number {
     Value(u16, usize),
@@ -45,7 +43,7 @@ pub fn number_first(f: &[u8], at: usize, upto: usize) -> Number
         if !is_digit(b) {
             return Number::Value(n, i);
         }
-        if i - at == MOST_DIGITS {
+        if i - at == rules::MOST_DIGITS {
             return Number::Bad;
         }
         n = n * 10 + digit_of(b);

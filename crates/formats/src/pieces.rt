@@ -28,13 +28,6 @@ ghost use Rattle.formats.specs.Part.{part};
 ghost use Rattle.formats.specs.Elements.{range, number-bound};
 ghost use Rattle.formats.specs.Pieces.{Bracketed, Pieced, as-piece, no-apostrophe, number-piece};
 
-// A length, blanks and a text go so far.
-pub const GREATEST_LENGTH: u16 = 255;
-
-const LONGEST_BLANKS: u16 = 255;
-
-const LONGEST_TEXT: usize = 255;
-
 // The values in parentheses behind a name.
 pub enum Bracket {
     Values(u16, u16),
@@ -149,7 +142,7 @@ fn after_number(f: &[u8], at: usize, upto: usize, n: u16) -> Piece
     ensures { λ r. ⌜ Pieced (now (f .entry)) (after-number n (part (now (f .entry)) at upto)) r ⌝ }
 {
     if at == upto {
-        if n > GREATEST_LENGTH {
+        if n > rules::GREATEST_LENGTH {
             return Piece::Bad;
         }
         return Piece::Length(n);
@@ -157,7 +150,7 @@ fn after_number(f: &[u8], at: usize, upto: usize, n: u16) -> Piece
     if n == 0 {
         return Piece::Bad;
     }
-    if n > LONGEST_BLANKS {
+    if n > rules::LONGEST_BLANKS {
         return Piece::Bad;
     }
     if alone(f, at, upto, LETTER_X) {
@@ -192,7 +185,7 @@ fn text_piece(f: &[u8], at: usize, upto: usize) -> Piece
     if last == at {
         return Piece::Bad;
     }
-    if last - at > LONGEST_TEXT {
+    if last - at > rules::LONGEST_TEXT {
         return Piece::Bad;
     }
     if no_apostrophe(f, at, last) {

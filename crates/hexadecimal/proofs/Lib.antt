@@ -3,5 +3,3 @@ pub mod Pairs
 pub mod Numbers
 pub mod Ways
 pub mod Taking
-pub mod AnswerLine
-pub mod Back

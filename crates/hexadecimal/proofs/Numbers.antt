@@ -1,4 +1,4 @@
--- Numbers and their decimal digits: what a loop over them keeps. Assumes nothing.
+-- Numbers and their decimal digits: what a loop over them keeps.
 use mathlib.Core.Path.{_≡_, refl, sym, _∙_, ap}
 use mathlib.Core.Bool.{true, false}
 use mathlib.Core.List.{List, [], _∷_, _++_, map}

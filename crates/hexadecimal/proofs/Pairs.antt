@@ -1,5 +1,4 @@
--- Byte strings as pairs of digits: what stands at each place, the cases of a word, and that the word for some bytes spells those bytes.
--- Assumes nothing.
+-- Byte strings as pairs of digits: what stands at each place and the cases of a word.
 use mathlib.Core.Path.{_≡_, refl}
 use mathlib.Core.Bool.{Bool, true, false, _&&_}
 use mathlib.Core.List.{[], _∷_}
@@ -76,17 +75,17 @@ twice-next i = omega arith
 
 -- ---- the cases of a word
 
-pub decoded-hyphen : (w : Bytes) → same w empty-word ≡ true → spelled-bytes w ≡ some []
+pub spelled-bytes-hyphen : (w : Bytes) → same w empty-word ≡ true → spelled-bytes w ≡ some []
 unfolding spelled-bytes
-decoded-hyphen w e = rw e
+spelled-bytes-hyphen w e = rw e
 
-pub decoded-pairs : (w : Bytes) → same w empty-word ≡ false → is-paired w ≡ true → spelled-bytes w ≡ some (paired w)
+pub spelled-bytes-pairs : (w : Bytes) → same w empty-word ≡ false → is-paired w ≡ true → spelled-bytes w ≡ some (paired w)
 unfolding spelled-bytes
-decoded-pairs w e p = rw (e, p)
+spelled-bytes-pairs w e p = rw (e, p)
 
-pub decoded-none : (w : Bytes) → same w empty-word ≡ false → is-paired w ≡ false → spelled-bytes w ≡ none
+pub spelled-bytes-none : (w : Bytes) → same w empty-word ≡ false → is-paired w ≡ false → spelled-bytes w ≡ none
 unfolding spelled-bytes
-decoded-none w e p = rw (e, p)
+spelled-bytes-none w e p = rw (e, p)
 
 pub hyphen-one : (w : Bytes) → length w ≡ 1 → eqb (getD w 0 0) 45 ≡ same w empty-word
 unfolding same

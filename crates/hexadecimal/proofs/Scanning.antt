@@ -1,32 +1,19 @@
--- A loop over the bytes of a text: what is left of it answers as the whole. Assumes nothing.
+-- A loop over the bytes of a text: what is left of it answers as the whole.
 use mathlib.Core.Path.{_≡_}
 use mathlib.Core.Bool.{true, false}
 use mathlib.Core.List.{List, [], _∷_}
 use Prim.Native.Nat.{ℕ, zero, suc, _+_, _≤_, _<_}
 use native.Mathlib.Nat.{le-of-suc-le-suc, not-suc-le-zero}
 use native.Mathlib.Numerals.{add-one}
-use borrow.Author.Tests.{eq-eqb, ne-eqb, lt-ltb, le-ltb}
+use borrow.Author.Tests.{lt-ltb, le-ltb}
 use lib.Dec.{T, leb, ltb, leb→le, ltb→lt}
 use lib.ListN.{length, drop, getD, drop-of-length-le}
 use lib.Seq.{drop-cons}
 use Rattle.rules.proofs.Steps.{and-left, and-right, true-T}
-use Rattle.hexadecimal.specs.Text.{between, value, all-of-base, upto-first}
+use Rattle.hexadecimal.specs.Text.{between, value, all-of-base}
 
 pub between-low : (low high c : ℕ) → between low high c ≡ true → low ≤ c
 between-low low high c e = leb→le low c (and-left (leb low c) (leb c high) (true-T e))
-
-module _ (b i : ℕ) (s : List ℕ) where
-  pub before-end : length s ≤ i → upto-first b (drop i s) ≡ 0
-  unfolding upto-first
-  before-end h = rw (drop-of-length-le s h)
-
-  pub before-here : i < length s → getD s i 0 ≡ b → upto-first b (drop i s) ≡ 0
-  unfolding upto-first
-  before-here h e = rw (drop-cons s i 0, eq-eqb (getD s i 0) b e)
-
-  pub before-later : i < length s → (getD s i 0 ≡ b → ⊥) → upto-first b (drop i s) ≡ suc (upto-first b (drop (i + 1) s))
-  unfolding upto-first
-  before-later h e = rw (drop-cons s i 0, ne-eqb (getD s i 0) b e, add-one)
 
 module _ (base i : ℕ) (w : List ℕ) where
   pub digits-end : length w ≤ i → all-of-base base (drop i w) ≡ true

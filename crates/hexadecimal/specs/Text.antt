@@ -1,8 +1,8 @@
--- Text of one line: digits, byte strings as pairs of hexadecimal digits, numbers in decimal, and where a word ends. The characters are ASCII.
+-- Text of one line: digits, byte strings as pairs of hexadecimal digits and numbers in decimal. The characters are ASCII.
 use mathlib.Core.Bool.{Bool, true, cond, _&&_}
 use mathlib.Core.List.{[], _∷_, map}
 use mathlib.Core.Option.{Option, none, some}
-use Prim.Native.Nat.{ℕ, suc, _+_, _*_, _-_, _/_, _%_}
+use Prim.Native.Nat.{ℕ, _+_, _*_, _-_, _/_, _%_}
 use lib.Dec.{eqb, leb, ltb}
 use lib.ListN.{length}
 use Rattle.rules.specs.Lists.{Bytes, same, spelled, digits}
@@ -66,8 +66,3 @@ decimal-places n = cond (ltb n 10) 1 (cond (ltb n 100) 2 (cond (ltb n 1000) 3 (c
 
 unfoldable pub decimal-word : ℕ → Bytes
 decimal-word n = map glyph (digits 10 (decimal-places n) n)
-
--- How many bytes stand before the first b, or before the end where there is none.
-unfoldable pub upto-first : ℕ → Bytes → ℕ
-upto-first b [] = 0
-upto-first b (c ∷ s) = cond (eqb c b) 0 (suc (upto-first b s))

@@ -1,17 +1,17 @@
-// Text of one line: byte strings in hexadecimal, numbers in decimal, and where a word or a line ends.
+// Words of a line: byte strings in hexadecimal, and numbers in decimal.
 ghost use mathlib.Core.Path.{_≡_};
 ghost use mathlib.Core.Bool.{true};
 ghost use mathlib.Core.List.{[], _∷_, _++_};
 ghost use Prim.Native.Nat.{_+_, _*_, _≤_, _<_};
-ghost use lib.ListN.{length, drop};
+ghost use lib.ListN.{length};
 ghost use Rattle.buffer.specs.Splice.{splice};
 ghost use Rattle.rules.specs.Lists.{same};
 ghost use Rattle.hexadecimal.specs.Text as Text;
 ghost use Rattle.hexadecimal.specs.Lines as Lines;
-ghost use Rattle.hexadecimal.specs.Answers.{number-read, Decodes, Takes, TakesThree, Called, Answers};
+ghost use Rattle.hexadecimal.specs.Answers.{number-read, Decodes, Takes};
 
-// The place behind the bytes that were written; or the word spells no bytes.
-pub enum Decoded {
+// The place after the bytes that were written; or the word spells no bytes.
+enum Decoded {
     Upto(usize),
     NoBytes,
 }
@@ -21,25 +21,10 @@ pub enum NumberWord {
     NoNumber,
 }
 
-// The place behind the bytes that a word gave, and where the next word of the line begins.
+// The place after the bytes that a word gave, and where the next word of the line begins.
 pub struct Taken {
     pub end: usize,
     pub next: usize,
-}
-
-// The first place from at on that has the byte b, or the end.
-pub fn find(s: &[u8], at: usize, b: u8) -> usize
-    requires { ⌜ at ≤ length (now s) ⌝ }
-    ensures { λ r. ⌜ (r ≡ at + Text.upto-first b (drop at (now (s .entry)))) × (at ≤ r) × (r ≤ length (now (s .entry))) ⌝ }
-{
-    let mut i = at;
-    while i < s.len() {
-        if s[i] == b {
-            return i;
-        }
-        i += 1;
-    }
-    i
 }
 
 fn is_between(low: u8, high: u8, c: u8) -> bool
@@ -111,7 +96,7 @@ fn pair(high: u8, low: u8) -> u8
     16 * value_of(high) + value_of(low)
 }
 
-// The byte of each pair of digits, to out from at on; the place behind them.
+// The byte of each pair of digits, to out from at on; the place after them.
 fn put_pairs(w: &[u8], out: &mut [u8], at: usize) -> usize
     requires { ⌜ (Text.is-paired (now w) ≡ true) × (2 * at + length (now w) ≤ 2 * length (now out)) ⌝ }
     ensures { λ r. ⌜ (r ≡ at + length (Text.paired (now (w .entry)))) × (now (out .exit) ≡ splice at (Text.paired (now (w .entry))) (now (out .entry))) ⌝ }
@@ -126,7 +111,7 @@ fn put_pairs(w: &[u8], out: &mut [u8], at: usize) -> usize
 }
 
 // The bytes that a word spells, to out from at on; a word takes no more than half its own length.
-pub fn decode(word: &[u8], out: &mut [u8], at: usize) -> Decoded
+fn decode(word: &[u8], out: &mut [u8], at: usize) -> Decoded
     requires { ⌜ 2 * at + length (now word) ≤ 2 * length (now out) ⌝ }
     ensures { λ r. ⌜ Decodes (now (word .entry)) at (now (out .entry)) (now (out .exit)) r ⌝ }
 {
@@ -140,7 +125,7 @@ pub fn decode(word: &[u8], out: &mut [u8], at: usize) -> Decoded
     Decoded::NoBytes
 }
 
-// Two digits for each byte, to out from at on; the place behind them.
+// Two digits for each byte, to out from at on; the place after them.
 fn put_digits(src: &[u8], out: &mut [u8], at: usize) -> usize
     requires { ⌜ at + 2 * length (now src) ≤ length (now out) ⌝ }
     ensures { λ r. ⌜ (r ≡ at + 2 * length (now (src .entry))) × (now (out .exit) ≡ splice at (Text.parted (now (src .entry))) (now (out .entry))) ⌝ }
@@ -155,7 +140,7 @@ fn put_digits(src: &[u8], out: &mut [u8], at: usize) -> usize
     at + 2 * i
 }
 
-// The word that spells the bytes, to out from at on; the place behind it.
+// The word that spells the bytes, to out from at on; the place after it.
 pub fn encode(src: &[u8], out: &mut [u8], at: usize) -> usize
     requires { ⌜ at + (2 * length (now src) + 1) ≤ length (now out) ⌝ }
     ensures { λ r. ⌜ (r ≡ at + length (Text.spelling (now (src .entry)))) × (now (out .exit) ≡ splice at (Text.spelling (now (src .entry))) (now (out .entry))) ⌝ }
@@ -187,7 +172,7 @@ fn spell(w: &[u8]) -> usize
 }
 
 // The number that a word of one to six decimal digits spells.
-pub fn read_number(word: &[u8]) -> NumberWord
+fn read_number(word: &[u8]) -> NumberWord
     ensures { λ r. ⌜ r ≡ number-read (Text.number (now (word .entry))) ⌝ }
 {
     if word.len() < 1 {
@@ -224,8 +209,8 @@ fn places(n: usize) -> usize
     6
 }
 
-// The decimal digits of n, to out from at on; the place behind them.
-pub fn put_number(n: usize, out: &mut [u8], at: usize) -> usize
+// The decimal digits of n, to out from at on; the place after them.
+fn put_number(n: usize, out: &mut [u8], at: usize) -> usize
     requires { ⌜ (n < 1000000) × (at + 6 ≤ length (now out)) ⌝ }
     ensures { λ r. ⌜ (r ≡ at + length (Text.decimal-word n)) × (now (out .exit) ≡ splice at (Text.decimal-word n) (now (out .entry))) ⌝ }
 {
@@ -251,7 +236,7 @@ pub fn take_bytes(line: &[u8], at: usize, out: &mut [u8], start: usize) -> Taken
             next: line.len() + 1,
         };
     }
-    let stop = find(line, at, b' ');
+    let stop = buffer::find(line, at, b' ');
     let d = decode(&line[at..stop], out, start);
     match d {
         Decoded::Upto(end) => Taken {
@@ -265,30 +250,6 @@ pub fn take_bytes(line: &[u8], at: usize, out: &mut [u8], start: usize) -> Taken
     }
 }
 
-// Where the bytes of a call's table, record and format end, and where its next word begins.
-pub struct Three {
-    pub table: usize,
-    pub record: usize,
-    pub format: usize,
-    pub next: usize,
-}
-
-// The bytes of the three words behind a line's first word, which is one letter, to out one behind the other.
-pub fn take_three(line: &[u8], out: &mut [u8]) -> Three
-    requires { ⌜ (2 ≤ length (now line)) × (length (now line) ≤ 2 * length (now out)) ⌝ }
-    ensures { λ r. ⌜ TakesThree (now (line .entry)) (now (out .entry)) (now (out .exit)) r ⌝ }
-{
-    let first = take_bytes(line, 2, out, 0);
-    let second = take_bytes(line, first.next, out, first.end);
-    let third = take_bytes(line, second.next, out, second.end);
-    Three {
-        table: first.end,
-        record: second.end,
-        format: third.end,
-        next: third.next,
-    }
-}
-
 // The number that the line spells from at on.
 pub fn take_number(line: &[u8], at: usize) -> NumberWord
     ensures { λ r. ⌜ r ≡ number-read (Lines.number-at at (now (line .entry))) ⌝ }
@@ -299,133 +260,12 @@ pub fn take_number(line: &[u8], at: usize) -> NumberWord
     read_number(&line[at..])
 }
 
-// A call that a line makes: its letter, where the bytes of its table, record, format and record buffer end, and the length that it
-// asks for. A word that the call does not have is empty, and what is no call has the letter 0.
-pub struct Call {
-    pub letter: u8,
-    pub table: usize,
-    pub record: usize,
-    pub format: usize,
-    pub buffer: usize,
-    pub asked: usize,
-}
-
-fn no_call() -> Call
-    ensures { λ r. ⌜ Called 0 r ⌝ }
-{
-    Call {
-        letter: 0,
-        table: 0,
-        record: 0,
-        format: 0,
-        buffer: 0,
-        asked: 0,
-    }
-}
-
-fn take_read(line: &[u8], out: &mut [u8]) -> Call
-    requires { ⌜ (2 ≤ length (now line)) × (length (now line) ≤ 2 * length (now out)) ⌝ }
-    ensures { λ r. ⌜ Called (length (now (out .entry))) r ⌝ }
-{
-    let s = take_three(line, out);
-    let n = take_number(line, s.next);
-    match n {
-        NumberWord::Is(asked) => Call {
-            letter: b'R',
-            table: s.table,
-            record: s.record,
-            format: s.format,
-            buffer: s.format,
-            asked,
-        },
-        NumberWord::NoNumber => no_call(),
-    }
-}
-
-fn take_update(line: &[u8], out: &mut [u8]) -> Call
-    requires { ⌜ (2 ≤ length (now line)) × (length (now line) ≤ 2 * length (now out)) ⌝ }
-    ensures { λ r. ⌜ Called (length (now (out .entry))) r ⌝ }
-{
-    let s = take_three(line, out);
-    let buffer = take_bytes(line, s.next, out, s.format);
-    let n = take_number(line, buffer.next);
-    match n {
-        NumberWord::Is(asked) => Call {
-            letter: b'U',
-            table: s.table,
-            record: s.record,
-            format: s.format,
-            buffer: buffer.end,
-            asked,
-        },
-        NumberWord::NoNumber => no_call(),
-    }
-}
-
-fn take_empty(line: &[u8], out: &mut [u8]) -> Call
-    requires { ⌜ (2 ≤ length (now line)) × (length (now line) ≤ 2 * length (now out)) ⌝ }
-    ensures { λ r. ⌜ Called (length (now (out .entry))) r ⌝ }
-{
-    let table = take_bytes(line, 2, out, 0);
-    let n = take_number(line, table.next);
-    match n {
-        NumberWord::Is(asked) => Call {
-            letter: b'E',
-            table: table.end,
-            record: table.end,
-            format: table.end,
-            buffer: table.end,
-            asked,
-        },
-        NumberWord::NoNumber => no_call(),
-    }
-}
-
-// The call that a line makes, by its first word, which is one letter; the bytes of its words, to out one behind the other.
-pub fn take_call(line: &[u8], out: &mut [u8]) -> Call
-    requires { ⌜ length (now line) ≤ 2 * length (now out) ⌝ }
-    ensures { λ r. ⌜ Called (length (now (out .entry))) r ⌝ }
-{
-    if line.len() < 2 {
-        return no_call();
-    }
-    if line[1] != b' ' {
-        return no_call();
-    }
-    match line[0] {
-        b'R' => take_read(line, out),
-        b'U' => take_update(line, out),
-        b'E' => take_empty(line, out),
-        _ => no_call(),
-    }
-}
-
-// A number and the character behind it, to out from at on; the place behind both.
-pub fn put_field(n: usize, behind: u8, out: &mut [u8], at: usize) -> usize
+// A number and a last character, to out from at on; the place after both.
+pub fn put_field(n: usize, last: u8, out: &mut [u8], at: usize) -> usize
     requires { ⌜ (n < 1000000) × (at + 7 ≤ length (now out)) ⌝ }
-    ensures { λ r. ⌜ (r ≡ at + length (Text.decimal-word n ++ (behind ∷ []))) × (now (out .exit) ≡ splice at (Text.decimal-word n ++ (behind ∷ [])) (now (out .entry))) × (r ≤ at + 7) ⌝ }
+    ensures { λ r. ⌜ (r ≡ at + length (Text.decimal-word n ++ (last ∷ []))) × (now (out .exit) ≡ splice at (Text.decimal-word n ++ (last ∷ [])) (now (out .entry))) × (r ≤ at + 7) ⌝ }
 {
     let end = put_number(n, out, at);
-    out[end] = behind;
+    out[end] = last;
     end + 1
-}
-
-// The line of an answer, to out from at on; the place behind it.
-pub fn put_answer(number: u8, bytes: &[u8], out: &mut [u8], at: usize) -> usize
-    requires { ⌜ (length (now bytes) < 1000000) × (at + (2 * length (now bytes) + 16) ≤ length (now out)) ⌝ }
-    ensures { λ r. ⌜ Answers number (now (bytes .entry)) at (now (out .entry)) (now (out .exit)) r ⌝ }
-{
-    let behind_number = put_field(wide(number), b' ', out, at);
-    let behind_length = put_field(bytes.len(), b' ', out, behind_number);
-    let end = encode(bytes, out, behind_length);
-    out[end] = 10;
-    end + 1
-}
-
-// The line that answers what is no call.
-pub fn put_no_call(out: &mut [u8], at: usize) -> usize
-    requires { ⌜ at + 6 ≤ length (now out) ⌝ }
-    ensures { λ r. ⌜ (r ≡ at + 6) × (now (out .exit) ≡ splice at Lines.no-call-line (now (out .entry))) ⌝ }
-{
-    buffer::put(b"? 0 -\n", out, at)
 }

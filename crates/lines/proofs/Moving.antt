@@ -1,4 +1,4 @@
--- Bytes moved to the front of the list that they stand in: a turn reads ahead of what was written. Assumes nothing.
+-- Bytes moved to the front of the list that they stand in: a turn reads ahead of what was written.
 use mathlib.Core.Path.{_≡_, sym, _∙_, ap}
 use mathlib.Core.List.{List, _++_}
 use Prim.Native.Nat.{ℕ, _+_, _-_, _≤_, _<_}

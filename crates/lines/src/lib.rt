@@ -5,11 +5,11 @@ ghost use lib.ListN.{length, take, drop};
 ghost use Rattle.buffer.specs.Splice.{splice};
 ghost use Rattle.lines.specs.Placed.{Placed, Begun};
 
-// A line, where one was found, from start up to end in the input area.
-// More is how often the next line may be asked for, and 0 where the input has ended: a proved loop has to end, and nothing says that
-// the input does, so more counts down from a number that no run uses up.
-// The bytes from next up to filled are still to be looked at, and those before seen have no newline. They are skipped up to one
-// where they are the rest of a line that was too long.
+// A line, if one was found, from start up to end in the input area.
+// `more` is how often the next line may be asked for, 0 once the input has ended: a proved loop has to end, and nothing says that
+// the input does, so it counts down from a number that no run uses up.
+// The bytes from next up to filled are still to be looked at, and those before seen have no newline. If `skips`, those up to the
+// next newline belong to a line that was too long.
 pub struct Line {
     pub start: usize,
     pub end: usize,
@@ -19,6 +19,20 @@ pub struct Line {
     seen: usize,
     filled: usize,
     skips: bool,
+}
+
+// A line of 160,000 bytes, the longest that can be a call, and its newline.
+pub fn input_area() -> [u8; 160001]
+    ensures { λ r. ⌜ 160001 ≡ length r ⌝ }
+{
+    [0; 160001]
+}
+
+// What the words of such a line spell: a byte takes two digits.
+pub fn bytes_area() -> [u8; 80000]
+    ensures { λ r. ⌜ 80000 ≡ length r ⌝ }
+{
+    [0; 80000]
 }
 
 // No line, before the first read.
@@ -54,7 +68,7 @@ fn move_front(s: &mut [u8], from: usize, to: usize) -> usize
     n
 }
 
-// One read, to the input from held on; the place behind what came, which is held where nothing more comes.
+// One read, to the input from held on; the place after what came, which is held itself if nothing more comes.
 fn read_more(input: &mut [u8], held: usize) -> usize
     requires { ⌜ held ≤ length (now input) ⌝ }
     ensures { λ r. ⌜ (held ≤ r) × (r ≤ length (now (input .entry))) ⌝ }
@@ -63,7 +77,7 @@ fn read_more(input: &mut [u8], held: usize) -> usize
     held + io::count(got, &input[held..])
 }
 
-// One read behind the bytes that have no newline. Where nothing comes, these are the last line, unless there are none.
+// One read after the bytes that have no newline. If nothing comes, these are the last line, unless there are none.
 fn fill(input: &mut [u8], l: Line) -> Line
     requires { ⌜ Placed (length (now input)) l × (0 < l .more) × (l .filled - l .next < length (now input)) ⌝ }
     ensures { λ r. ⌜ Placed (length (now (input .entry))) r × (r .more < l .more) ⌝ }
@@ -100,7 +114,7 @@ fn find_end(input: &[u8], l: Line) -> usize
     ensures { λ r. ⌜ (l .seen ≤ r) × (r ≤ l .filled) ⌝ }
 {
     let filled = l.filled;
-    hexadecimal::find(&input[..filled], l.seen, b'\n')
+    buffer::find(&input[..filled], l.seen, b'\n')
 }
 
 // The next line, if it stands in the input area already; else one read. A line that fills the area is too long: it is found as an
@@ -137,7 +151,7 @@ pub fn next(input: &mut [u8], l: Line) -> Line
     }
 }
 
-// The used bytes of out are written: none that lies beyond it.
+// Writes the first `used` bytes of out. No contract can say what is written, so this one repeats what it asks for.
 pub fn write(out: &[u8], used: usize)
     requires { ⌜ used ≤ length (now out) ⌝ }
     ensures { λ _. ⌜ used ≤ length (now (out .entry)) ⌝ }

@@ -5,7 +5,7 @@ ghost use lib.ListN.{length};
 ghost use mathlib.Core.Path.{_≡_};
 ghost use Rattle.lyrecanyon.specs.Answers.{answer-length};
 
-// Reads the specimen by a format into a buffer of so many bytes.
+// Reads the specimen by a format into a buffer.
 fn read(format: &[u8], buffer: &mut [u8]) -> lyrecanyon::Answer
     ensures { λ r. ⌜ answer-length r ≤ length (now (buffer .entry)) ⌝ }
 {
@@ -25,7 +25,7 @@ fn show(name: &[u8], format: &[u8], buffer: &mut [u8])
     let used = answer.length();
     let mut out = [0u8; 64];
     let at = buffer::put(name, &mut out, 0);
-    let end = hexadecimal::put_answer(answer.number(), &buffer[..used], &mut out, at);
+    let end = protocol::put_answer(answer.number(), &buffer[..used], &mut out, at);
     lines::write(&out, end);
 }
 

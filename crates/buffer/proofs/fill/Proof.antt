@@ -1,4 +1,4 @@
--- `buffer::fill` meets its contract: the list that it writes is `replicate n b`. Assumes nothing.
+-- `buffer::fill` meets its contract: the list that it writes is `replicate n b`.
 use Prim.Native.Nat.{_-_}
 use mathlib.Core.Path.{refl, sym}
 use borrow.Author.Needs.{needs}

@@ -1,4 +1,4 @@
--- `kit::put` meets its contract: the list that it writes is src itself. Assumes nothing.
+-- `buffer::put` meets its contract: the list that it writes is src itself.
 use Prim.Native.Nat.{_-_}
 use native.Mathlib.Omega.{arith}
 use mathlib.Core.Path.{refl, sym}

@@ -1,4 +1,4 @@
--- `buffer::stands_at` meets its contract: what is left to compare answers as the whole does. Assumes nothing.
+-- `buffer::stands_at` meets its contract: what is left to compare answers as the whole does.
 use Prim.Native.Nat.{_+_, _-_, _≤_}
 use native.Mathlib.Omega.{arith}
 use native.Mathlib.Nat.{add-zero, sub-zero}

@@ -1,4 +1,4 @@
--- `calls::answer_read` meets its contract: what the service writes lies in the room. Assumes nothing.
+-- `calls::answer_read` meets its contract: what the service writes lies in the room.
 use native.Mathlib.Omega.{arith}
 use lib.ListN.{length}
 use Rattle.lyrecanyon.proofs.Readings.{read-within}

@@ -1,4 +1,4 @@
--- `calls::put` is safe: an answer's line is no longer than the digits of room's bytes and what stands before them. Assumes nothing.
+-- `calls::put` is safe: an answer's line is no longer than the digits of room's bytes and what stands before them.
 use native.Mathlib.Omega.{arith}
 use lib.ListN.{length-take}
 use borrow.Author.Needs.{needs}

@@ -1,4 +1,4 @@
--- `between` meets its contract: the tests that led to a return settle both bounds.
+-- `characters::between` meets its contract: the tests that led to a return settle both bounds.
 use mathlib.Core.Path.{refl}
 use borrow.Author.Tests.{le-leb, lt-leb}
 use Rattle.characters.proofs.between.Statement.{statement}

@@ -1,4 +1,4 @@
--- `is_digit` meets its contract: a digit is a byte between two bounds.
+-- `characters::is_digit` meets its contract: a digit is a byte between two bounds.
 use Rattle.rules.specs.Characters.{digit}
 use borrow.Author.Needs.{needs}
 use Rattle.characters.proofs.is_digit.Statement.{statement}

@@ -1,4 +1,4 @@
--- `is_letter` meets its contract: a letter lies between the bounds of one of three rows.
+-- `characters::is_letter` meets its contract: a letter lies between the bounds of one of three rows.
 use mathlib.Core.Path.{refl}
 use Rattle.rules.specs.Characters.{letter}
 use borrow.Author.Needs.{needs}

@@ -1,4 +1,4 @@
--- `is_name` meets its contract, by the first byte being a letter or not and the second a digit or not.
+-- `characters::is_name` meets its contract, by the first byte being a letter or not and the second a digit or not.
 use mathlib.Core.Path.{_∙_}
 use Rattle.characters.proofs.Tests.{name-none, name-digit, name-letter}
 use borrow.Author.Needs.{needs}

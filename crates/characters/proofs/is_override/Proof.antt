@@ -1,4 +1,4 @@
--- `is_override` meets its contract: the letters of the list, one an arm.
+-- `characters::is_override` meets its contract: the letters of the list, one an arm.
 use mathlib.Core.Path.{refl}
 use borrow.Author.Tests.{ne-eqb}
 use Rattle.rules.specs.Lists.{any}

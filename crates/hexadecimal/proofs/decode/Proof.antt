@@ -1,4 +1,4 @@
--- `hexadecimal::decode` meets its contract: the hyphen, pairs of digits, or neither. Assumes nothing.
+-- `hexadecimal::decode` meets its contract: the hyphen, pairs of digits, or neither.
 use mathlib.Core.Path.{sym, _∙_}
 use Rattle.hexadecimal.proofs.Ways.{way-hyphen, way-pairs, way-none}
 use borrow.Author.Needs.{needs}

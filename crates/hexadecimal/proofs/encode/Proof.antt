@@ -1,9 +1,9 @@
--- `hexadecimal::encode` meets its contract: one hyphen, or what `put_digits` writes. Assumes nothing.
+-- `hexadecimal::encode` meets its contract: one hyphen, or what `put_digits` writes.
 use mathlib.Core.Path.{refl}
 use native.Mathlib.Omega.{arith}
 use Rattle.buffer.proofs.Laws.{set-splice}
 use Rattle.hexadecimal.proofs.Pairs.{length-parted}
-use Rattle.hexadecimal.proofs.Ways.{encoded-none, encoded-some}
+use Rattle.hexadecimal.proofs.Ways.{spelling-none, spelling-some}
 use borrow.Author.Needs.{needs}
 use Rattle.hexadecimal.proofs.encode.Statement.{statement}
 use Rattle.hexadecimal.proofs.encode.Tie as tie
@@ -20,7 +20,7 @@ same-length c = search needs
 returns : tie.Need-returns
 returns c =
     let s = c .before .before .before in
-    rw (encoded-none (s .args .src .now) (c .if1 .taken)) (refl, set-splice (s .args .out .now) (s .args .at) 45 (omega arith))
+    rw (spelling-none (s .args .src .now) (c .if1 .taken)) (refl, set-splice (s .args .out .now) (s .args .at) 45 (omega arith))
 
 put-digits-requires : tie.Need-put-digits-requires
 put-digits-requires c κs = search needs
@@ -33,7 +33,7 @@ returns-2 c =
     let p = c .before .before in
     let s = p .before .before .before .before .before in
     let l = length-parted (s .args .src .now) in
-    rw (encoded-some (s .args .src .now) (p .before .before .if1 .left)) (omega (arith, p .put-digits .ensures .0), p .put-digits .ensures .1)
+    rw (spelling-some (s .args .src .now) (p .before .before .if1 .left)) (omega (arith, p .put-digits .ensures .0), p .put-digits .ensures .1)
 
 pub encode-spec : {M : Type 1} → statement M
 encode-spec =

@@ -1,4 +1,4 @@
--- `hexadecimal::glyph_of` meets its contract: one test, as the definition has it. Assumes nothing.
+-- `hexadecimal::glyph_of` meets its contract: one test, as the definition has it.
 use borrow.Author.Tests.{lt-ltb, le-ltb}
 use Rattle.hexadecimal.specs.Text.{glyph}
 use borrow.Author.Needs.{needs}

@@ -1,4 +1,4 @@
--- `hexadecimal::has_digits` meets its contract: what is left of the word answers as the whole. Assumes nothing.
+-- `hexadecimal::has_digits` meets its contract: what is left of the word answers as the whole.
 use Prim.Native.Nat.{_-_, _≤_}
 use mathlib.Core.Path.{_≡_, refl, sym, _∙_}
 use native.Mathlib.Omega.{arith}

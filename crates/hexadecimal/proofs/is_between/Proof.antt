@@ -1,4 +1,4 @@
--- `hexadecimal::is_between` meets its contract: two tests, as the definition has them. Assumes nothing.
+-- `hexadecimal::is_between` meets its contract: two tests, as the definition has them.
 use borrow.Author.Tests.{le-leb, lt-leb}
 use Rattle.hexadecimal.proofs.is_between.Statement.{statement}
 use Rattle.hexadecimal.proofs.is_between.Tie as tie

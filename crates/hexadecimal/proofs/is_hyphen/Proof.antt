@@ -1,4 +1,4 @@
--- `hexadecimal::is_hyphen` meets its contract: a word of one byte that is the hyphen, and no other, is it. Assumes nothing.
+-- `hexadecimal::is_hyphen` meets its contract: a word of one byte that is the hyphen, and no other, is it.
 use Rattle.hexadecimal.proofs.Pairs.{hyphen-one, hyphen-long}
 use borrow.Author.Needs.{needs}
 use Rattle.hexadecimal.proofs.is_hyphen.Statement.{statement}

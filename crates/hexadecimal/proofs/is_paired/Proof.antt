@@ -1,4 +1,4 @@
--- `hexadecimal::is_paired` meets its contract: the tests are the definition's. Assumes nothing.
+-- `hexadecimal::is_paired` meets its contract: the tests are the definition's.
 use mathlib.Core.Path.{_∙_}
 use Rattle.hexadecimal.proofs.Pairs.{paired-short, paired-odd, paired-even}
 use borrow.Author.Needs.{needs}

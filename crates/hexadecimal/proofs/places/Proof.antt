@@ -1,4 +1,4 @@
--- `hexadecimal::places` meets its contract: the tests are the definition's. Assumes nothing.
+-- `hexadecimal::places` meets its contract: the tests are the definition's.
 use borrow.Author.Tests.{lt-ltb, le-ltb}
 use Rattle.hexadecimal.specs.Text as Text
 use Rattle.hexadecimal.proofs.places.Statement.{statement}

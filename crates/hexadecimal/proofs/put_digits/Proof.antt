@@ -1,4 +1,4 @@
--- `hexadecimal::put_digits` meets its contract: each turn stores two of the digits. Assumes nothing.
+-- `hexadecimal::put_digits` meets its contract: each turn stores two of the digits.
 use lib.ListN.{length, length-set}
 use Prim.Native.Nat.{_-_, _*_}
 use mathlib.Core.Path.{refl, sym, _∙_}

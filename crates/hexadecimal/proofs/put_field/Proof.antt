@@ -1,4 +1,4 @@
--- `hexadecimal::put_field` meets its contract: a number has at most six digits, and the character stands behind them. Assumes nothing.
+-- `hexadecimal::put_field` meets its contract: a number has at most six digits, and the character stands after them.
 use mathlib.Core.List.{[], _∷_}
 use native.Mathlib.Omega.{arith}
 use lib.ListN.{length-append}
@@ -32,7 +32,7 @@ returns c =
     let n = decimal-word (s .args .n) in
     let d = decimal-short (s .args .n) (s .pre .0) in
     let e = p .put-number .ensures in
-    (omega (arith, e .0, length-append n (s .args .behind ∷ [])), push (s .args .at) n (s .args .out .now) _ _ (s .args .behind) (e .1) (e .0) (omega (arith, e .0)), omega (arith, e .0))
+    (omega (arith, e .0, length-append n (s .args .last ∷ [])), push (s .args .at) n (s .args .out .now) _ _ (s .args .last) (e .1) (e .0) (omega (arith, e .0)), omega (arith, e .0))
 
 pub put-field-spec : {M : Type 1} → statement M
 put-field-spec =

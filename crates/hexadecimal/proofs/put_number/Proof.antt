@@ -1,4 +1,4 @@
--- `hexadecimal::put_number` meets its contract: it writes the digits from the last to the first. Assumes nothing.
+-- `hexadecimal::put_number` meets its contract: it writes the digits from the last to the first.
 use Prim.Native.Nat.{_≤_}
 use mathlib.Core.Path.{_≡_, refl, sym, _∙_}
 use native.Mathlib.Omega.{arith}

@@ -1,4 +1,4 @@
--- `hexadecimal::put_pairs` meets its contract: the list that it writes is the byte of each pair. Assumes nothing.
+-- `hexadecimal::put_pairs` meets its contract: the list that it writes is the byte of each pair.
 use Prim.Native.Nat.{_+_, _-_, _*_, _/_}
 use mathlib.Core.Path.{_≡_, refl, sym, _∙_}
 use native.Mathlib.Omega.{arith}

@@ -1,4 +1,4 @@
--- `hexadecimal::read_number` meets its contract: too few, too many, not all digits, or the number. Assumes nothing.
+-- `hexadecimal::read_number` meets its contract: too few, too many, not all digits, or the number.
 use mathlib.Core.Path.{sym, ap, _∙_}
 use Rattle.hexadecimal.specs.Answers.{number-read}
 use Rattle.hexadecimal.specs.declared.NumberWord.the-variants.{Is}

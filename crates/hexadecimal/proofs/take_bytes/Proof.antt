@@ -1,4 +1,4 @@
--- `hexadecimal::take_bytes` meets its contract: no word, a word that spells no bytes, or its bytes. Assumes nothing.
+-- `hexadecimal::take_bytes` meets its contract: no word, a word that spells no bytes, or its bytes.
 use Rattle.hexadecimal.proofs.Taking.{takes-beyond, takes-none, takes-some}
 use borrow.Author.Needs.{needs}
 use Rattle.hexadecimal.proofs.take_bytes.Statement.{statement}

@@ -1,4 +1,4 @@
--- `hexadecimal::value_of` meets its contract: the ranges of digits are tested in the definition's order. Assumes nothing.
+-- `hexadecimal::value_of` meets its contract: the ranges of digits are tested in the definition's order.
 use mathlib.Core.Path.{sym, _∙_}
 use native.Mathlib.Omega.{arith}
 use Rattle.hexadecimal.proofs.Scanning.{between-low}

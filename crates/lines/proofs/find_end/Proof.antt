@@ -1,4 +1,4 @@
--- `lines::find_end` is safe and meets its contract: the search is over what was read. Assumes nothing.
+-- `lines::find_end` is safe and meets its contract: the search is over what was read.
 use native.Mathlib.Omega.{arith}
 use lib.ListN.{length-take}
 use Rattle.lines.proofs.find_end.Statement.{statement}

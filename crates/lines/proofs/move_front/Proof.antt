@@ -1,4 +1,4 @@
--- `lines::move_front` meets its contract: the list that it writes is the part that is moved. Assumes nothing.
+-- `lines::move_front` meets its contract: the list that it writes is the part that is moved.
 use native.Mathlib.Nat.{zero-add}
 use Prim.Native.Nat.{_-_}
 use mathlib.Core.Path.{_≡_, refl, sym}

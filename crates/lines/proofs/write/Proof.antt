@@ -1,4 +1,4 @@
--- `lines::write` is safe: what is used of the output lies within it. Assumes nothing.
+-- `lines::write` is safe: what is used of the output lies within it.
 use native.Mathlib.Omega.{arith}
 use lib.ListN.{length-take}
 use borrow.Author.Needs.{needs}

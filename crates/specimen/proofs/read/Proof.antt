@@ -1,4 +1,4 @@
--- `specimen::read` meets its contract: what the service writes lies in the buffer. Assumes nothing.
+-- `specimen::read` meets its contract: what the service writes lies in the buffer.
 use lib.ListN.{length}
 use Rattle.lyrecanyon.proofs.Readings.{read-within}
 use borrow.Author.Needs.{needs}

@@ -1,4 +1,4 @@
--- `specimen::show` is safe: a call's name and its answer are no longer than the line that is kept for them. Assumes nothing.
+-- `specimen::show` is safe: a call's name and its answer are no longer than the line that is kept for them.
 use native.Mathlib.Omega.{arith}
 use lib.ListN.{length-take}
 use borrow.Author.Needs.{needs}

@@ -1,4 +1,4 @@
--- `begins_longer` meets its contract, by its tests of the two bytes.
+-- `formats::following::begins_longer` meets its contract, by its tests of the two bytes.
 use mathlib.Core.Bool.{false≢true}
 use native.Mathlib.Omega.{arith}
 use borrow.Author.Tests.{leb-true}

@@ -1,4 +1,4 @@
--- `completed` meets its contract: a name may have a length and a format, any other element neither.
+-- `formats::following::completed` meets its contract: a name may have a length and a format, any other element neither.
 use mathlib.Core.Path.{refl}
 use native.Mathlib.Omega.{arith}
 use Rattle.formats.proofs.StepLaws.{stepped-at, only-settled}
@@ -32,25 +32,25 @@ returns : tie.Need-returns
 returns c = rw (c .before .before .e .given .1) (c .length-behind .ensures)
 
 returns-2 : tie.Need-returns-2
-returns-2 c =
+returns-2 c from h =
     let s = c .before .before .before in
     let a = s .args in
     stepped-at (only-settled (a .f .now) (a .end) (a .e) (rw (c .enum-told .given .1) tt)) refl (omega arith) (s .pre .0) (s .pre .1)
 
 returns-3 : tie.Need-returns-3
-returns-3 c =
+returns-3 c from h =
     let s = c .before .before .before in
     let a = s .args in
     stepped-at (only-settled (a .f .now) (a .end) (a .e) (rw (c .enum-told2 .given .1) tt)) refl (omega arith) (s .pre .0) (s .pre .1)
 
 returns-4 : tie.Need-returns-4
-returns-4 c =
+returns-4 c from h =
     let s = c .before .before .before in
     let a = s .args in
     stepped-at (only-settled (a .f .now) (a .end) (a .e) (rw (c .enum-told3 .given .1) tt)) refl (omega arith) (s .pre .0) (s .pre .1)
 
 returns-5 : tie.Need-returns-5
-returns-5 c =
+returns-5 c from h =
     let s = c .before .before .before in
     let a = s .args in
     stepped-at (only-settled (a .f .now) (a .end) (a .e) (rw (c .enum-told4 .given .1) tt)) refl (omega arith) (s .pre .0) (s .pre .1)

@@ -1,8 +1,8 @@
--- `format_behind` meets its contract, by what follows: nothing, a format, neither, or what may not.
+-- `formats::following::format_behind` meets its contract, by what follows: nothing, a format, neither, or what may not.
 use native.Mathlib.Omega.{arith}
 use Rattle.formats.proofs.Answers.{small-length, small-format}
 use Rattle.formats.proofs.Joins.{bounded-as, bounded-end}
-use Rattle.formats.proofs.Trailers.{trailed-as, bounded-first}
+use Rattle.formats.proofs.Trailers.{bounded-first}
 use Rattle.formats.proofs.StepLaws.{stepped-at, stepped-bad, first-period, first-comma, format-first, format-format, format-length, format-bad, name-given-length, name-given-both}
 use borrow.Author.Needs.{needs}
 use Rattle.formats.proofs.following.format_behind.Statement.{statement}
@@ -15,7 +15,7 @@ shared-slice-read-if1 : tie.Need-shared-slice-read-if1
 shared-slice-read-if1 c = search needs
 
 returns : tie.Need-returns
-returns c =
+returns c from h =
     let s = c .before .before .before .before in
     let a = s .args in
     let e = c .before .before .with-length .ensures in
@@ -29,12 +29,12 @@ begins-longer-requires : tie.Need-begins-longer-requires
 begins-longer-requires c κs = search needs
 
 returns-2 : tie.Need-returns-2
-returns-2 c =
+returns-2 c from h =
     let s = c .before .before .before .before .before .before in
     let a = s .args in
     let e = c .before .before .before .before .with-length .ensures in
-    let h = first-comma (a .f .now) (a .end) (c .before .before .if1 .left) (c .before .begins-longer .ensures (c .if2 .taken)) in
-    stepped-at (format-first (a .f .now) (a .end) (a .n) (a .size) h) (name-given-length (a .f .now) (a .n) e (s .pre .2))
+    let first = first-comma (a .f .now) (a .end) (c .before .before .if1 .left) (c .before .begins-longer .ensures (c .if2 .taken)) in
+    stepped-at (format-first (a .f .now) (a .end) (a .n) (a .size) first) (name-given-length (a .f .now) (a .n) e (s .pre .2))
     (omega arith) (s .pre .0) (rw e (small-length (s .pre .1) (s .pre .3)))
 
 add-bounds-at : tie.Need-add-bounds-at
@@ -62,36 +62,36 @@ enum-told-3 : tie.Need-enum-told-3
 enum-told-3 c = search needs
 
 returns-3 : tie.Need-returns-3
-returns-3 c =
+returns-3 c from h =
     let s = c .before .before .before .before .before .before .before .before .before .before .before .before in
     let a = s .args in
     let w = c .before .before .before .before .before .bounds-at .ensures in
-    let t = trailed-as (c .before .before .before .before .trailer-at .ensures) (c .before .before .next .given .1) in
+    let t = rw (c .before .before .next .given .1) at (c .before .before .before .before .trailer-at .ensures) in
     let e = c .before .before .before .before .before .before .before .before .before .before .with-length .ensures in
     stepped-at (format-format (a .f .now) (a .end) (a .n) (c .before .before .before .before .before .before .before .before .if1 .left) _ (a .size) _ (bounded-as w t))
     (name-given-both (a .f .now) (a .n) e (c .with-format .ensures))
     (omega (arith, w .from, w .order, w .upto)) (bounded-end w t) (rw (c .with-format .ensures, e) (small-format (small-length (s .pre .1) (s .pre .3)) _))
 
 returns-4 : tie.Need-returns-4
-returns-4 c =
+returns-4 c from h =
     let s = c .before .before .before .before .before .before .before .before .before .before in
     let a = s .args in
     let e = c .before .before .before .before .before .before .before .before .with-length .ensures in
-    let t = trailed-as (c .before .before .trailer-at .ensures) (c .enum-told .given .1) in
-    let h = first-comma (a .f .now) (a .end) (c .before .before .before .before .before .before .if1 .left) (bounded-first (c .before .before .before .bounds-at .ensures) t) in
-    stepped-at (format-first (a .f .now) (a .end) (a .n) (a .size) h) (name-given-length (a .f .now) (a .n) e (s .pre .2))
+    let t = rw (c .enum-told .given .1) at (c .before .before .trailer-at .ensures) in
+    let first = first-comma (a .f .now) (a .end) (c .before .before .before .before .before .before .if1 .left) (bounded-first (c .before .before .before .bounds-at .ensures) t) in
+    stepped-at (format-first (a .f .now) (a .end) (a .n) (a .size) first) (name-given-length (a .f .now) (a .n) e (s .pre .2))
     (omega arith) (s .pre .0) (rw e (small-length (s .pre .1) (s .pre .3)))
 
 returns-5 : tie.Need-returns-5
-returns-5 c =
+returns-5 c from h =
     let a = c .before .before .before .before .before .before .before .before .before .before .args in
-    let t = trailed-as (c .before .before .trailer-at .ensures) (c .enum-told2 .given .1) in
+    let t = rw (c .enum-told2 .given .1) at (c .before .before .trailer-at .ensures) in
     stepped-bad (format-length (a .f .now) (a .end) (a .n) (c .before .before .before .before .before .before .if1 .left) _ (a .size) _ (bounded-as (c .before .before .before .bounds-at .ensures) (t .0)))
 
 returns-6 : tie.Need-returns-6
-returns-6 c =
+returns-6 c from h =
     let a = c .before .before .before .before .before .before .before .before .before .before .args in
-    let t = trailed-as (c .before .before .trailer-at .ensures) (c .enum-told3 .given .1) in
+    let t = rw (c .enum-told3 .given .1) at (c .before .before .trailer-at .ensures) in
     stepped-bad (format-bad (a .f .now) (a .end) (a .n) (c .before .before .before .before .before .before .if1 .left) (a .size) (bounded-as (c .before .before .before .bounds-at .ensures) t))
 
 pub format-behind-spec : {M : Type 1} → statement M

@@ -1,10 +1,10 @@
--- `length_behind` meets its contract, by what follows the name: nothing, a length, a format, neither, or what may not.
+-- `formats::following::length_behind` meets its contract, by what follows the name: nothing, a length, a format, neither, or what may not.
 use mathlib.Core.Path.{sym}
 use native.Mathlib.Omega.{arith}
 use Rattle.formats.proofs.Answers.{small-format}
 use Rattle.formats.proofs.Joins.{bounded-as, bounded-end}
-use Rattle.formats.proofs.Trailers.{trailed-as, bounded-first}
-use Rattle.formats.proofs.StepLaws.{stepped-at, stepped-later, stepped-bad, first-period, first-comma, name-first, name-length, name-format, name-bad, name-alone, name-given-format}
+use Rattle.formats.proofs.Trailers.{bounded-first}
+use Rattle.formats.proofs.StepLaws.{stepped-at, stepped-from, stepped-bad, first-period, first-comma, name-first, name-length, name-format, name-bad, name-given-neither, name-given-format}
 use borrow.Author.Needs.{needs}
 use Rattle.formats.proofs.following.length_behind.Statement.{statement}
 use Rattle.formats.proofs.following.length_behind.Tie as tie
@@ -13,10 +13,10 @@ shared-slice-read-if1 : tie.Need-shared-slice-read-if1
 shared-slice-read-if1 c = search needs
 
 returns : tie.Need-returns
-returns c =
+returns c from h =
     let s = c .before .before .before in
     let a = s .args in
-    stepped-at (name-first (a .f .now) (a .end) (a .n) _ _ (first-period (a .f .now) (a .end) (c .if1 .taken))) (sym (name-alone (a .f .now) (a .n) (s .pre .2) (s .pre .3)))
+    stepped-at (name-first (a .f .now) (a .end) (a .n) _ _ (first-period (a .f .now) (a .end) (c .if1 .taken))) (name-given-neither (a .f .now) (a .n) (s .pre .2) (s .pre .3))
     (omega arith) (s .pre .0) (s .pre .1)
 
 add-begins-longer : tie.Need-add-begins-longer
@@ -26,11 +26,11 @@ begins-longer-requires : tie.Need-begins-longer-requires
 begins-longer-requires c κs = search needs
 
 returns-2 : tie.Need-returns-2
-returns-2 c =
+returns-2 c from h =
     let s = c .before .before .before .before .before in
     let a = s .args in
-    let h = first-comma (a .f .now) (a .end) (c .before .before .if1 .left) (c .before .begins-longer .ensures (c .if2 .taken)) in
-    stepped-at (name-first (a .f .now) (a .end) (a .n) _ _ h) (sym (name-alone (a .f .now) (a .n) (s .pre .2) (s .pre .3)))
+    let first = first-comma (a .f .now) (a .end) (c .before .before .if1 .left) (c .before .begins-longer .ensures (c .if2 .taken)) in
+    stepped-at (name-first (a .f .now) (a .end) (a .n) _ _ first) (name-given-neither (a .f .now) (a .n) (s .pre .2) (s .pre .3))
     (omega arith) (s .pre .0) (s .pre .1)
 
 add-bounds-at : tie.Need-add-bounds-at
@@ -48,7 +48,7 @@ enum-known-next c = search needs
 format-behind-requires : tie.Need-format-behind-requires
 format-behind-requires c κs =
     let s = c .before .before .before .before .before .before .before .before .before .before in
-    let t = trailed-as (c .before .before .before .trailer-at .ensures) (c .before .next .given .1) in
+    let t = rw (c .before .next .given .1) at (c .before .before .before .trailer-at .ensures) in
     (bounded-end (c .before .before .before .before .bounds-at .ensures) (t .0), s .pre .1, s .pre .3, t .1)
 
 enum-known-next-2 : tie.Need-enum-known-next-2
@@ -64,35 +64,35 @@ enum-told-2 : tie.Need-enum-told-2
 enum-told-2 c = search needs
 
 returns-3 : tie.Need-returns-3
-returns-3 c =
+returns-3 c from h =
     let a = c .before .before .before .before .before .before .before .before .before .before .before .args in
     let w = c .before .before .before .before .before .bounds-at .ensures in
-    let t = trailed-as (c .before .before .before .before .trailer-at .ensures) (c .before .before .next .given .1) in
-    stepped-later (name-length (a .f .now) (a .end) (a .n) (c .before .before .before .before .before .before .before .before .if1 .left) _ _ _ _ (bounded-as w (t .0))) (omega (arith, w .from, w .order, w .upto)) (c .format-behind .ensures)
+    let t = rw (c .before .before .next .given .1) at (c .before .before .before .before .trailer-at .ensures) in
+    stepped-from (name-length (a .f .now) (a .end) (a .n) (c .before .before .before .before .before .before .before .before .if1 .left) _ _ _ _ (bounded-as w (t .0))) (c .format-behind .ensures from (omega (arith, w .from, w .order, w .upto)))
 
 returns-4 : tie.Need-returns-4
-returns-4 c =
+returns-4 c from h =
     let s = c .before .before .before .before .before .before .before .before .before .before .before in
     let a = s .args in
     let w = c .before .before .before .before .before .bounds-at .ensures in
-    let t = trailed-as (c .before .before .before .before .trailer-at .ensures) (c .before .before .next2 .given .1) in
+    let t = rw (c .before .before .next2 .given .1) at (c .before .before .before .before .trailer-at .ensures) in
     stepped-at (name-format (a .f .now) (a .end) (a .n) (c .before .before .before .before .before .before .before .before .if1 .left) _ _ _ _ (bounded-as w t))
     (name-given-format (a .f .now) (a .n) (c .with-format .ensures) (s .pre .2))
     (omega (arith, w .from, w .order, w .upto)) (bounded-end w t) (rw (c .with-format .ensures) (small-format (s .pre .1) _))
 
 returns-5 : tie.Need-returns-5
-returns-5 c =
+returns-5 c from h =
     let s = c .before .before .before .before .before .before .before .before .before in
     let a = s .args in
-    let t = trailed-as (c .before .before .trailer-at .ensures) (c .enum-told .given .1) in
-    let h = first-comma (a .f .now) (a .end) (c .before .before .before .before .before .before .if1 .left) (bounded-first (c .before .before .before .bounds-at .ensures) t) in
-    stepped-at (name-first (a .f .now) (a .end) (a .n) _ _ h) (sym (name-alone (a .f .now) (a .n) (s .pre .2) (s .pre .3)))
+    let t = rw (c .enum-told .given .1) at (c .before .before .trailer-at .ensures) in
+    let first = first-comma (a .f .now) (a .end) (c .before .before .before .before .before .before .if1 .left) (bounded-first (c .before .before .before .bounds-at .ensures) t) in
+    stepped-at (name-first (a .f .now) (a .end) (a .n) _ _ first) (name-given-neither (a .f .now) (a .n) (s .pre .2) (s .pre .3))
     (omega arith) (s .pre .0) (s .pre .1)
 
 returns-6 : tie.Need-returns-6
-returns-6 c =
+returns-6 c from h =
     let a = c .before .before .before .before .before .before .before .before .before .args in
-    let t = trailed-as (c .before .before .trailer-at .ensures) (c .enum-told2 .given .1) in
+    let t = rw (c .enum-told2 .given .1) at (c .before .before .trailer-at .ensures) in
     stepped-bad (name-bad (a .f .now) (a .end) (a .n) (c .before .before .before .before .before .before .if1 .left) _ _ (bounded-as (c .before .before .before .bounds-at .ensures) t))
 
 pub length-behind-spec : {M : Type 1} → statement M

@@ -1,4 +1,4 @@
--- `trailer_at` meets its contract: the first byte and what stands behind it choose the rule.
+-- `formats::following::trailer_at` meets its contract: the first byte and what stands behind it choose the rule.
 use mathlib.Core.Path.{refl, sym, ap, _∙_}
 use native.Mathlib.Omega.{arith}
 use Rattle.rules.specs.Outcome.{_>>=_}
@@ -13,7 +13,7 @@ use Rattle.formats.proofs.following.trailer_at.Tie as tie
 returns : tie.Need-returns
 returns c =
     let a = c .before .before .args in
-    record { answer = piece-nothing (a .f .now) (a .first) (a .last) (omega arith) (c .if1 .taken) }
+    piece-nothing (a .f .now) (a .first) (a .last) (omega arith) (c .if1 .taken)
 
 shared-slice-read-a : tie.Need-shared-slice-read-a
 shared-slice-read-a c = search needs
@@ -33,28 +33,28 @@ enum-told c = search needs
 returns-2 : tie.Need-returns-2
 returns-2 c =
     let a = c .before .before .before .before .before .before .before .before .args in
-    record { answer = digit-piece (a .f .now) (a .first) (a .last) (omega arith) (omega arith) (sym (c .before .before .before .before .is-digit .ensures) ∙ c .before .before .before .if2 .taken) ∙ rw (numbered-bad (c .before .before .number-first .ensures) (c .enum-told .given .1)) refl }
+    digit-piece (a .f .now) (a .first) (a .last) (omega arith) (omega arith) (sym (c .before .before .before .before .is-digit .ensures) ∙ c .before .before .before .if2 .taken) ∙ rw (numbered-bad (c .before .before .number-first .ensures) (c .enum-told .given .1)) refl
 
 returns-3 : tie.Need-returns-3
 returns-3 c =
     let a = c .before .before .before .before .before .before .before .before .before .before .args in
     let v = numbered-value (c .before .before .before .before .number-first .ensures) (c .before .before .n .given .1) in
     let b = ap (λ o. o >>= λ i. after-number (i .0) (i .1)) (v .0) in
-    record { answer = only-from (digit-piece (a .f .now) (a .first) (a .last) (omega arith) (omega arith) (sym (c .before .before .before .before .before .before .is-digit .ensures) ∙ c .before .before .before .before .before .if2 .taken) ∙ b) (number-only _ (a .f .now) _ (a .last) (omega (arith, v .1)) (omega arith)) }
+    only-from (digit-piece (a .f .now) (a .first) (a .last) (omega arith) (omega arith) (sym (c .before .before .before .before .before .before .is-digit .ensures) ∙ c .before .before .before .before .before .if2 .taken) ∙ b) (number-only _ (a .f .now) _ (a .last) (omega (arith, v .1)) (omega arith))
 
 returns-4 : tie.Need-returns-4
 returns-4 c =
     let a = c .before .before .before .before .before .before .before .before .before .before .before .args in
     let v = numbered-value (c .before .before .before .before .before .number-first .ensures) (c .before .before .before .n .given .1) in
     let b = ap (λ o. o >>= λ i. after-number (i .0) (i .1)) (v .0) in
-    record { answer = digit-piece (a .f .now) (a .first) (a .last) (omega arith) (omega arith) (sym (c .before .before .before .before .before .before .before .is-digit .ensures) ∙ c .before .before .before .before .before .before .if2 .taken) ∙ b ∙ number-large _ (a .f .now) _ (a .last) (c .before .if3 .left) (omega arith) }
+    digit-piece (a .f .now) (a .first) (a .last) (omega arith) (omega arith) (sym (c .before .before .before .before .before .before .before .is-digit .ensures) ∙ c .before .before .before .before .before .before .if2 .taken) ∙ b ∙ number-large _ (a .f .now) _ (a .last) (c .before .if3 .left) (omega arith)
 
 returns-5 : tie.Need-returns-5
 returns-5 c =
     let a = c .before .before .before .before .before .before .before .before .before .before .before .args in
     let v = numbered-value (c .before .before .before .before .before .number-first .ensures) (c .before .before .before .n .given .1) in
     let b = ap (λ o. o >>= λ i. after-number (i .0) (i .1)) (v .0) in
-    record { answer = (digit-piece (a .f .now) (a .first) (a .last) (omega arith) (omega arith) (sym (c .before .before .before .before .before .before .before .is-digit .ensures) ∙ c .before .before .before .before .before .before .if2 .taken) ∙ b ∙ number-length _ (a .f .now) _ (a .last) (c .before .if3 .left) (omega arith), omega arith) }
+    (digit-piece (a .f .now) (a .first) (a .last) (omega arith) (omega arith) (sym (c .before .before .before .before .before .before .before .is-digit .ensures) ∙ c .before .before .before .before .before .before .if2 .taken) ∙ b ∙ number-length _ (a .f .now) _ (a .last) (c .before .if3 .left) (omega arith), omega arith)
 
 sub-if5 : tie.Need-sub-if5
 sub-if5 c = search needs
@@ -65,17 +65,17 @@ is-override-requires c κs = search needs
 returns-6 : tie.Need-returns-6
 returns-6 c =
     let a = c .before .before .before .before .before .before .before .before .args in
-    record { answer = piece-one (a .f .now) (a .first) (a .last) (omega arith) (c .before .before .if5 .taken) ∙ single-format _ (sym (c .before .before .before .before .is-digit .ensures) ∙ c .before .before .before .if2 .left) (sym (c .before .is-override .ensures) ∙ c .if6 .taken) }
+    piece-one (a .f .now) (a .first) (a .last) (omega arith) (c .before .before .if5 .taken) ∙ single-format _ (sym (c .before .before .before .before .is-digit .ensures) ∙ c .before .before .before .if2 .left) (sym (c .before .is-override .ensures) ∙ c .if6 .taken)
 
 returns-7 : tie.Need-returns-7
 returns-7 c =
     let a = c .before .before .before .before .before .before .before .before .args in
-    record { answer = piece-one (a .f .now) (a .first) (a .last) (omega arith) (c .before .before .if5 .taken) ∙ single-bad _ (sym (c .before .before .before .before .is-digit .ensures) ∙ c .before .before .before .if2 .left) (sym (c .before .is-override .ensures) ∙ c .if6 .left) }
+    piece-one (a .f .now) (a .first) (a .last) (omega arith) (c .before .before .if5 .taken) ∙ single-bad _ (sym (c .before .before .before .before .is-digit .ensures) ∙ c .before .before .before .if2 .left) (sym (c .before .is-override .ensures) ∙ c .if6 .left)
 
 returns-8 : tie.Need-returns-8
 returns-8 c =
     let a = c .before .before .before .before .before .before .args in
-    record { answer = longer-only (a .f .now) (a .first) (a .last) (omega arith) (omega arith) (sym (c .before .before .is-digit .ensures) ∙ c .before .if2 .left) }
+    longer-only (a .f .now) (a .first) (a .last) (omega arith) (omega arith) (sym (c .before .before .is-digit .ensures) ∙ c .before .if2 .left)
 
 pub trailer-at-spec : {M : Type 1} → statement M
 trailer-at-spec =

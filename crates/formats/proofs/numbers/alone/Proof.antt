@@ -1,4 +1,4 @@
--- `alone` meets its contract, by one byte being there or not.
+-- `formats::numbers::alone` meets its contract, by one byte being there or not.
 use native.Mathlib.Omega.{arith}
 use Rattle.formats.proofs.Digits.{alone-one, alone-other}
 use borrow.Author.Needs.{needs}

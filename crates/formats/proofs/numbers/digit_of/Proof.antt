@@ -1,4 +1,4 @@
--- `digit_of` meets its contract: a digit lies between F0 and F9.
+-- `formats::numbers::digit_of` meets its contract: a digit lies between F0 and F9.
 use mathlib.Core.Path.{refl}
 use native.Mathlib.Omega.{arith}
 use Rattle.formats.proofs.Digits.{digit-bounds}

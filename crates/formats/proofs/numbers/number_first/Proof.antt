@@ -1,4 +1,4 @@
--- `number_first` meets its contract: at each turn what is left to read spells the number as the whole does.
+-- `formats::numbers::number_first` meets its contract: at each turn what is left to read spells the number as the whole does.
 use mathlib.Core.Path.{sym, _∙_}
 use Prim.Native.Nat.{_-_}
 use native.Mathlib.Omega.{arith}

@@ -1,4 +1,4 @@
--- `range_end` meets its contract, by a hyphen being there or not.
+-- `formats::numbers::range_end` meets its contract, by a hyphen being there or not.
 use native.Mathlib.Omega.{arith}
 use Rattle.formats.proofs.Digits.{range-end-nothing, range-end-none, range-end-hyphen, numbered-later}
 use Rattle.formats.proofs.Digits.{range-end-nothing, range-end-none, range-end-hyphen}

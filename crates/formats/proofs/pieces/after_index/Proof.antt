@@ -1,4 +1,4 @@
--- `after_index` meets its contract: a count, or the range that the index begins.
+-- `formats::pieces::after_index` meets its contract: a count, or the range that the index begins.
 use mathlib.Core.Path.{refl, sym, _∙_}
 use native.Mathlib.Omega.{arith}
 use Rattle.formats.proofs.Names.{numbered-value, numbered-bad, after-index-count, after-index-range}

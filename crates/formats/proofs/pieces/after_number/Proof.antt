@@ -1,4 +1,4 @@
--- `after_number` meets its contract: a length, blanks, or neither.
+-- `formats::pieces::after_number` meets its contract: a length, blanks, or neither.
 use mathlib.Core.Path.{sym, _∙_}
 use native.Mathlib.Omega.{arith}
 use Rattle.formats.proofs.PieceLaws.{number-length, number-large, number-zero, number-long, number-blanks, number-other}

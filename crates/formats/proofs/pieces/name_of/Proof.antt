@@ -1,4 +1,4 @@
--- `name_of` meets its contract: it computes as the definition does.
+-- `formats::pieces::name_of` meets its contract: it computes as the definition does.
 use mathlib.Core.Path.{refl}
 use Rattle.rules.specs.Table.{name-of}
 use borrow.Author.Needs.{needs}

@@ -1,4 +1,4 @@
--- `no_apostrophe` meets its contract: what is left to test answers as the whole does.
+-- `formats::pieces::no_apostrophe` meets its contract: what is left to test answers as the whole does.
 use mathlib.Core.Path.{_≡_, refl, sym, _∙_}
 use Prim.Native.Nat.{_≤_, _-_}
 use native.Mathlib.Omega.{arith}

@@ -1,4 +1,4 @@
--- `parenthesis` meets its contract: the first number, the end of the range and what closes it, one after the other.
+-- `formats::pieces::parenthesis` meets its contract: the first number, the end of the range and what closes it, one after the other.
 use mathlib.Core.Path.{sym, _∙_}
 use native.Mathlib.Omega.{arith}
 use Rattle.formats.proofs.Names.{numbered-value, numbered-bad, parenthesis-none, parenthesis-bad, parenthesis-shut, parenthesis-open}

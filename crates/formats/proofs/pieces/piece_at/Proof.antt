@@ -1,4 +1,4 @@
--- `piece_at` meets its contract: the first bytes choose the rule, and its function answers.
+-- `formats::pieces::piece_at` meets its contract: the first bytes choose the rule, and its function answers.
 use mathlib.Core.Path.{refl, sym, _∙_}
 use native.Mathlib.Omega.{arith}
 use Rattle.formats.proofs.PieceLaws.{piece-nothing, piece-one, piece-text, piece-number, piece-name}

@@ -1,4 +1,4 @@
--- `series_to` meets its contract: two bytes that are a name, or not.
+-- `formats::pieces::series_to` meets its contract: two bytes that are a name, or not.
 use mathlib.Core.Path.{refl, ap, _∙_}
 use native.Mathlib.Omega.{arith}
 use Rattle.formats.specs.declared.Element.the-variants as code

@@ -1,4 +1,4 @@
--- `single` meets its contract: a digit, a letter of a format, or neither.
+-- `formats::pieces::single` meets its contract: a digit, a letter of a format, or neither.
 use mathlib.Core.Path.{sym, ap, _∙_}
 use native.Mathlib.Omega.{arith}
 use Rattle.rules.specs.Outcome.{done}

@@ -1,4 +1,4 @@
--- `text_piece` meets its contract: the last byte, the length and the bytes between are tested as the rule says.
+-- `formats::pieces::text_piece` meets its contract: the last byte, the length and the bytes between are tested as the rule says.
 use mathlib.Core.Path.{sym, _∙_}
 use native.Mathlib.Omega.{arith}
 use Rattle.formats.proofs.PieceLaws.{text-unclosed, text-empty, text-long, text-broken, text-is}

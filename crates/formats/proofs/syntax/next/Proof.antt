@@ -1,5 +1,5 @@
--- `next` meets its contract: the piece at the place begins an element, or the syntax is bad.
-use Rattle.formats.proofs.StepLaws.{looked-as, stepped-later, stepped-bad, first-element, first-length, first-format, first-bad}
+-- `formats::syntax::next` meets its contract: the piece at the place begins an element, or the syntax is bad.
+use Rattle.formats.proofs.StepLaws.{looked-as, stepped-from, stepped-bad, first-element, first-length, first-format, first-bad}
 use borrow.Author.Needs.{needs}
 use Rattle.formats.proofs.syntax.next.Statement.{statement}
 use Rattle.formats.proofs.syntax.next.Tie as tie
@@ -28,7 +28,7 @@ returns : tie.Need-returns
 returns c =
     let a = c .before .before .before .before .before .before .args in
     let w = looked-as (c .before .before .before .before .text-at .ensures) (c .before .before .piece .given .1) in
-    stepped-later (first-element (a .f .now) (a .at) _ _ w) (w .place .0) (c .completed .ensures)
+    stepped-from (first-element (a .f .now) (a .at) _ _ w) (c .completed .ensures (a .at) (w .place .0))
 
 returns-2 : tie.Need-returns-2
 returns-2 c =

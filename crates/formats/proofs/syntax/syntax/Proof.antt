@@ -1,4 +1,4 @@
--- `syntax` meets its contract: the elements from each place on are good just where the whole format is.
+-- `formats::syntax::syntax` meets its contract: the elements from each place on are good just where the whole format is.
 use mathlib.Core.Path.{_≡_, sym, ap, _∙_}
 use Prim.Native.Nat.{_≤_, _-_}
 use native.Mathlib.Omega.{arith}

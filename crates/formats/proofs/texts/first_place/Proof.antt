@@ -1,4 +1,4 @@
--- `first_place` meets its contract: what is left begins, behind its spaces, where the whole does.
+-- `formats::texts::first_place` meets its contract: what is left begins, behind its spaces, where the whole does.
 use mathlib.Core.Path.{_≡_, refl, sym, _∙_}
 use Prim.Native.Nat.{_≤_, _-_}
 use native.Mathlib.Omega.{arith}

@@ -1,4 +1,4 @@
--- `is_end` meets its contract, case by case.
+-- `formats::texts::is_end` meets its contract, case by case.
 use Rattle.formats.proofs.Scans.{ends-comma, ends-other}
 use borrow.Author.Needs.{needs}
 use Rattle.formats.proofs.texts.is_end.Statement.{statement}

@@ -1,4 +1,4 @@
--- `last_place` meets its contract: what is left is stripped to the same bytes as the whole.
+-- `formats::texts::last_place` meets its contract: what is left is stripped to the same bytes as the whole.
 use mathlib.Core.Path.{_≡_, refl, sym, _∙_}
 use Prim.Native.Nat.{_≤_}
 use native.Mathlib.Omega.{arith}

@@ -1,4 +1,4 @@
--- `text_at` meets its contract: its piece is that of the bytes between the bounds of the text.
+-- `formats::texts::text_at` meets its contract: its piece is that of the bytes between the bounds of the text.
 use Rattle.formats.proofs.Joins.{bounded-as, reached-if}
 use borrow.Author.Needs.{needs}
 use Rattle.formats.proofs.texts.text_at.Statement.{statement}

@@ -1,4 +1,4 @@
--- `text_end` meets its contract: at each turn the place and the extent of what is left add up to the same end.
+-- `formats::texts::text_end` meets its contract: at each turn the place and the extent of what is left add up to the same end.
 use mathlib.Core.Path.{_≡_, refl, sym, ap, _∙_}
 use mathlib.Core.Bool.{false}
 use Prim.Native.Nat.{_≤_, _+_, _-_}

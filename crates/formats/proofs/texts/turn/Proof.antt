@@ -1,4 +1,4 @@
--- `turn` meets its contract, by the byte being an apostrophe or not.
+-- `formats::texts::turn` meets its contract, by the byte being an apostrophe or not.
 use Rattle.formats.proofs.Scans.{turned-yes, turned-no}
 use Rattle.formats.proofs.texts.turn.Statement.{statement}
 use Rattle.formats.proofs.texts.turn.Tie as tie

@@ -1,4 +1,4 @@
--- The line of an answer, written in its three parts and the newline. Assumes nothing.
+-- The line of an answer, written in its three parts and the newline.
 use mathlib.Core.Path.{_≡_}
 use mathlib.Core.List.{[], _∷_, _++_, append-assoc}
 use Prim.Native.Nat.{ℕ, _+_, _*_, _≤_}
@@ -7,18 +7,11 @@ use lib.ListN.{length, set, length-append}
 use Rattle.rules.specs.Lists.{Bytes}
 use Rattle.buffer.specs.Splice.{splice}
 use Rattle.buffer.proofs.Laws.{splice-chain}
 use Rattle.hexadecimal.specs.Text.{decimal-word, spelling}
-use Rattle.hexadecimal.specs.Lines.{answer-line}
-use Rattle.hexadecimal.specs.Answers.{Answers}
-use Rattle.hexadecimal.proofs.Pairs.{length-parted}
-use Rattle.hexadecimal.proofs.Ways.{push}
+use Rattle.hexadecimal.proofs.Ways.{spelling-short, push}
+use Rattle.protocol.specs.Answers.{answer-line, Answers}
 
-pub encoded-short : (bs : Bytes) → length (spelling bs) ≤ 2 * length bs + 1
-unfolding spelling
-encoded-short [] = omega arith
-encoded-short (b ∷ bs) = omega (arith, length-parted (b ∷ bs))
-
--- a number and a space
+-- A number and a space.
 abbrev pub field : ℕ → Bytes
 field n = decimal-word n ++ (32 ∷ [])
 
@@ -31,7 +24,7 @@ module _ (number at a b e : ℕ) (bytes out out₁ out₂ out₃ : Bytes) (h : a
   answers f g k =
       let n = field number in
       let l = field (length bytes) in
-      let s = encoded-short bytes in
+      let s = spelling-short bytes in
       let nl = length-append n l in
       let nls = length-append (n ++ l) (spelling bytes) in
       let all = length-append ((n ++ l) ++ spelling bytes) (10 ∷ []) in

@@ -1,13 +1,11 @@
--- `hexadecimal::put_answer` meets its contract: the number, the length and the bytes are written one behind the other. Assumes nothing.
+-- `protocol::put_answer` meets its contract: the number, the length and the bytes are written one after the other.
 use native.Mathlib.Omega.{arith}
 use lib.ListN.{length-set}
-use Rattle.hexadecimal.proofs.AnswerLine.{encoded-short, answers}
+use Rattle.hexadecimal.proofs.Ways.{spelling-short}
+use Rattle.protocol.proofs.AnswerLine.{answers}
 use borrow.Author.Needs.{needs}
-use Rattle.hexadecimal.proofs.put_answer.Statement.{statement}
-use Rattle.hexadecimal.proofs.put_answer.Tie as tie
-
-wide-requires : tie.Need-wide-requires
-wide-requires c κs = search needs
+use Rattle.protocol.proofs.put_answer.Statement.{statement}
+use Rattle.protocol.proofs.put_answer.Tie as tie
 
 put-field-requires : tie.Need-put-field-requires
 put-field-requires c κs = search needs
@@ -22,16 +20,16 @@ slice-write-out : tie.Need-slice-write-out
 slice-write-out c =
     let e = c .before .before in
     let f = e .before .before .before .before in
-    let s = f .before .before .before .before .before .before .before .before .before in
-    let z = encoded-short (s .args .bytes .now) in
+    let s = f .before .before .before .before .before .before .before .before in
+    let z = spelling-short (s .args .bytes .now) in
     omega (arith, s .pre, e .encode .ensures .0, f .put-field2 .ensures, f .before .before .before .before .put-field .ensures)
 
 add-result : tie.Need-add-result
 add-result c =
     let e = c .before .before in
     let f = e .before .before .before .before in
-    let s = f .before .before .before .before .before .before .before .before .before in
-    let z = encoded-short (s .args .bytes .now) in
+    let s = f .before .before .before .before .before .before .before .before in
+    let z = spelling-short (s .args .bytes .now) in
     omega (arith, s .pre, e .encode .ensures .0, f .put-field2 .ensures, f .before .before .before .before .put-field .ensures)
 
 same-length : tie.Need-same-length
@@ -42,15 +40,13 @@ returns c =
     let e = c .before .before in
     let f = e .before .before .before .before in
     let g = f .before .before .before .before in
-    let s = g .before .before .before .before .before in
-    let n = rw (g .before .before .wide .ensures) at (g .put-field .ensures) in
-    answers (s .args .number) (s .args .at) _ _ _ (s .args .bytes .now) (s .args .out .now) _ _ _ (s .pre .1) n (f .put-field2 .ensures) (e .encode .ensures)
+    let s = g .before .before .before .before in
+    answers (s .args .number) (s .args .at) _ _ _ (s .args .bytes .now) (s .args .out .now) _ _ _ (s .pre .1) (g .put-field .ensures) (f .put-field2 .ensures) (e .encode .ensures)
 
 pub put-answer-spec : {M : Type 1} → statement M
 put-answer-spec =
     tie.close
     (tie.spec
-    wide-requires
     put-field-requires
     put-field-requires-2
     encode-requires

@@ -1,8 +1,8 @@
--- `hexadecimal::take_three` meets its contract: each word is taken where the one before it ends. Assumes nothing.
-use Rattle.hexadecimal.proofs.Taking.{takes-three}
+-- `protocol::take_three` meets its contract: each word is taken where the one before it ends.
+use Rattle.protocol.proofs.ThreeWords.{takes-three}
 use borrow.Author.Needs.{needs}
-use Rattle.hexadecimal.proofs.take_three.Statement.{statement}
-use Rattle.hexadecimal.proofs.take_three.Tie as tie
+use Rattle.protocol.proofs.take_three.Statement.{statement}
+use Rattle.protocol.proofs.take_three.Tie as tie
 
 take-bytes-requires : tie.Need-take-bytes-requires
 take-bytes-requires c κs = search needs

@@ -1,0 +1,2 @@
+pub mod ThreeWords
+pub mod AnswerLine
