@@ -2,37 +2,29 @@
 -- From the right: what the first j digits spell ends in the last of them. Assumes nothing.
 use mathlib.Core.Path.{_≡_, refl, sym, _∙_, ap}
 use mathlib.Core.Bool.{Bool, true, false, _&&_}
-use mathlib.Core.List.{List, [], _∷_}
+use mathlib.Core.List.{_∷_}
 use Prim.Native.Nat.{ℕ, zero, suc, _+_, _-_, _*_, _/_, _%_, _^_, _≤_, _<_}
 use native.Mathlib.Nat.{pow-le-pow-right, lt-of-lt-of-le, le-trans}
 use native.Mathlib.Numerals.{add-one}
 use native.Mathlib.Omega.{arith}
-use lib.Dec.{ltb, leb, ltb→lt, lit<}
-use lib.ListN.{length, take, drop, getD, length-drop, drop-of-length-le}
+use lib.Dec.{ltb, leb, lit<}
+use lib.ListN.{length, take, drop, getD, length-drop}
 use lib.Seq.{drop-cons, take-suc, take-all}
 use borrow.Author.Tests.{lt-ltb, le-ltb, le-leb, lt-leb}
-use Rattle.rules.specs.Limits.{greatest-word}
+use Rattle.rules.specs.Limits.{lowest-word}
 use Rattle.rules.specs.Lists.{Bytes, spelled}
 use Rattle.rules.specs.Values.{accepted-minus, meaning}
 use Rattle.words.specs.Words.{word-of, value-of, pick}
 use Rattle.words.specs.declared.Word.the-variants.{Number, Outside}
+use Rattle.rules.proofs.Digits.{below-drop, spelled-none, spelled-turn, spelled-end, spelled-below, spelled-full, spelled-grows, spelled-snoc}
 use Rattle.buffer.proofs.Cases.{by-order}
 use Rattle.decimals.specs.Decimals.{decimal-format, digits-of, sign-half, magnitude-of, is-minus, first-spelled, all-digits, Readable, Reckoned, places, inner-written}
-use Rattle.decimals.proofs.Digits.{all-drop, all-at, spelled-below, spelled-full, spelled-grows, spelled-snoc}
 use Rattle.decimals.proofs.Halves.{length-digits-of, places-some, packed-high, packed-low, high-at, low-at, unpacked-at}
 use Rattle.decimals.proofs.Sound.{Sound, below-ten}
 
 pub record Spelling (p : Bool) (s : Bytes) (i x : ℕ) : Type 0 where
   pub upto : i ≤ places p (length s)
   pub rest : spelled 10 (drop i (digits-of p s)) x ≡ magnitude-of p s
-
-spelled-first : (b d : ℕ) (ds : List ℕ) (x : ℕ) → spelled b (d ∷ ds) x ≡ spelled b ds (x * b + d)
-unfolding spelled
-spelled-first b d ds x = refl
-
-spelled-none : (b x : ℕ) → spelled b [] x ≡ x
-unfolding spelled
-spelled-none b x = refl
 
 pub spelling-start : (p : Bool) (s : Bytes) → Spelling p s 0 0
 unfolding magnitude-of
@@ -44,7 +36,9 @@ module _ {p : Bool} {s : Bytes} {i x : ℕ} (w : Spelling p s i x) where
   first h = let l = length-digits-of p s in rw (drop-cons (digits-of p s) i 0 (omega arith), add-one)
 
   pub spelling-turn : i < places p (length s) → Spelling p s (i + 1) (x * 10 + getD (digits-of p s) i 0)
-  spelling-turn h = record { upto = omega arith; rest = sym (spelled-first 10 _ _ x) ∙ sym (first h) ∙ w .rest }
+  spelling-turn h =
+      let l = length-digits-of p s in
+      record { upto = omega arith; rest = spelled-turn 10 (digits-of p s) i x (omega arith) ∙ w .rest }
 
   pub spelling-over : x ≤ magnitude-of p s
   spelling-over = rw (w .rest) at (spelled-grows 10 (drop i (digits-of p s)) x (lit< tt))
@@ -52,7 +46,7 @@ module _ {p : Bool} {s : Bytes} {i x : ℕ} (w : Spelling p s i x) where
   pub spelling-end : places p (length s) ≤ i → x ≡ magnitude-of p s
   spelling-end h =
       let l = length-digits-of p s in
-      sym (rw (drop-of-length-le (digits-of p s) {i = i} (omega arith)) (spelled-none 10 x)) ∙ w .rest
+      sym (spelled-end 10 (digits-of p s) i x (omega arith)) ∙ w .rest
 
 -- ---- a byte a turn, of P two digits
 
@@ -72,7 +66,7 @@ module _ {s : Bytes} {x : ℕ} (i : ℕ) (w : Spelling true s (2 * i) x) where
   packed-end k e h = rw (e, ← high-at s i (omega arith)) (spelling-end (spelling-turn w (omega arith)) (omega arith))
 
 module _ {p : Bool} {s : Bytes} {x : ℕ} where
-  pub reckoned-over : {i : ℕ} → Spelling p s i x → suc greatest-word < x → Reckoned p s x
+  pub reckoned-over : {i : ℕ} → Spelling p s i x → lowest-word < x → Reckoned p s x
   reckoned-over w h = record { reached = spelling-over w; exact = λ k. absurd (omega arith) }
 
   pub reckoned-end : x ≡ magnitude-of p s → Reckoned p s x
@@ -96,7 +90,7 @@ module _ {p : Bool} {s : Bytes} {i : ℕ} (w : Spelling p s i 0) where
   pub spelling-fits : (m : ℕ) → all-digits p s ≡ true → places p (length s) - i ≤ m → ltb (magnitude-of p s) (10 ^ m) ≡ true
   spelling-fits m a h =
       let l = length-digits-of p s in
-      let f = spelled-below 10 (drop i (digits-of p s)) (all-drop _ i (digits-of p s) (below-ten p s a)) in
+      let f = spelled-below 10 (drop i (digits-of p s)) (below-drop 10 (digits-of p s) i (below-ten p s a)) in
       let g : 10 ^ length (drop i (digits-of p s)) ≤ 10 ^ m = pow-le-pow-right (lit< tt) (simp length-drop (omega arith)) in
       lt-ltb (magnitude-of p s) (10 ^ m) (rw (← w .rest) (lt-of-lt-of-le f g))
 
@@ -125,14 +119,14 @@ module _ {s : Bytes} (i : ℕ) (w : Spelling true s (2 * i) 0) where
 
 module _ {p : Bool} {s : Bytes} (v : Sound p s) where
   word-is : word-of (value-of (meaning (decimal-format p) s))
-      ≡ pick (leb (magnitude-of p s) (suc greatest-word)) (Number (record { negative = is-minus p s; magnitude = magnitude-of p s })) Outside
+      ≡ pick (leb (magnitude-of p s) (lowest-word)) (Number (record { negative = is-minus p s; magnitude = magnitude-of p s })) Outside
   unfolding word-of value-of
   word-is = rw (v .means)
 
-  pub word-outside : {x : ℕ} → Reckoned p s x → suc greatest-word < x → Outside ≡ word-of (value-of (meaning (decimal-format p) s))
+  pub word-outside : {x : ℕ} → Reckoned p s x → lowest-word < x → Outside ≡ word-of (value-of (meaning (decimal-format p) s))
   word-outside r h = sym (word-is ∙ rw (lt-leb _ _ (lt-of-lt-of-le h (r .reached))))
 
-  pub word-number : (below : Bool) (x : ℕ) → Reckoned p s x → x ≤ suc greatest-word → below ≡ (accepted-minus (sign-half p s) && ltb 0 x)
+  pub word-number : (below : Bool) (x : ℕ) → Reckoned p s x → x ≤ lowest-word → below ≡ (accepted-minus (sign-half p s) && ltb 0 x)
       → Number (record { negative = below; magnitude = x }) ≡ word-of (value-of (meaning (decimal-format p) s))
   unfolding is-minus
   word-number below x r h e = sym (word-is ∙ rw (← r .exact h, ← e, le-leb _ _ h))
@@ -145,11 +139,6 @@ module _ {p : Bool} {s : Bytes} (v : Readable p s) where
   more j h =
       let l = length-digits-of p s in
       rw (take-suc (digits-of p s) j 0 (omega arith)) (spelled-snoc 10 (take j (digits-of p s)) (getD (digits-of p s) j 0) 0)
-
-  small : (j : ℕ) → j < places p (length s) → getD (digits-of p s) j 0 < 10
-  small j h =
-      let l = length-digits-of p s in
-      ltb→lt (getD (digits-of p s) j 0) 10 (all-at (λ d. ltb d 10) (digits-of p s) j (below-ten p s (v .nines)) (omega arith))
 
   pub before-none : first-spelled p s 0 ≡ 0
   unfolding first-spelled
@@ -164,7 +153,7 @@ module _ {p : Bool} {s : Bytes} (v : Readable p s) where
   before-digit j o h =
       let e : j ≡ suc (j - 1) = omega arith in
       let m = more (j - 1) (omega arith) in
-      let d = small (j - 1) (omega arith) in
+      let d = below-ten p s (v .nines) (j - 1) in
       ap (λ k. first-spelled p s k % 10) e ∙ omega arith
 
   pub before-less : (j : ℕ) → j ≤ places p (length s) → first-spelled p s (j - 1) ≡ first-spelled p s j / 10
@@ -172,7 +161,7 @@ module _ {p : Bool} {s : Bytes} (v : Readable p s) where
   before-less (suc j) h =
       let e : suc j - 1 ≡ j = omega arith in
       let m = more j h in
-      let d = small j h in
+      let d = below-ten p s (v .nines) j in
       rw e (omega arith)
 
   pub before-two-less : (j : ℕ) → j ≤ places p (length s) → first-spelled p s (j - 2) ≡ first-spelled p s j / 100

@@ -11,11 +11,10 @@ use lib.ListN.{length, drop, set, replicate, length-append, length-set, length-m
 use lib.Seq.{drop-append-le}
 use Rattle.rules.specs.Lists.{digits}
 use Rattle.rules.specs.Values.{pairs, zoned, sign-written}
+use Rattle.rules.proofs.Digits.{length-digits, digits-zero}
 use Rattle.buffer.specs.Splice.{splice}
 use Rattle.buffer.proofs.Laws.{splice-nil}
-use Rattle.words.proofs.Digits.{digits-zero}
 use Rattle.decimals.specs.Decimals.{places, encoded, written, byte-base, inner-written, front, last-written}
-use Rattle.decimals.proofs.Digits.{length-digits}
 
 pub sign-small : (b : Bool) → sign-written b ≤ 15
 unfolding sign-written

@@ -3,10 +3,10 @@
 use mathlib.Core.Bool.{Bool, true, false, _&&_, _||_}
 use mathlib.Core.List.{List, [], _∷_, _++_, map}
 use mathlib.Core.Path.{_≡_}
-use Prim.Native.Nat.{ℕ, suc, _+_, _-_, _*_, _/_, _%_, _≤_, _<_}
+use Prim.Native.Nat.{ℕ, _+_, _-_, _*_, _/_, _%_, _≤_, _<_}
 use lib.Dec.{eqb, leb, ltb}
 use lib.ListN.{length, take}
-use Rattle.rules.specs.Limits.{greatest-word}
+use Rattle.rules.specs.Limits.{longest-alpha, lowest-word}
 use Rattle.rules.specs.Lists.{Bytes, all, spelled, digits, but-last, last}
 use Rattle.rules.specs.Values.{Format, packed, unpacked, halves, pairs, zoned, accepted-plus, accepted-minus, sign-written}
 
@@ -41,13 +41,13 @@ all-digits p bs = all (λ d. leb d 9) (digits-of p bs)
 -- Bytes whose digits can be read; so few that their digits can be counted.
 pub record Readable (p : Bool) (bs : Bytes) : Type 0 where
   pub some : 0 < length bs
-  pub short : length bs ≤ 253
+  pub short : length bs ≤ longest-alpha
   pub nines : all-digits p bs ≡ true
 
 -- A number that is the magnitude, unless it is greater than any in a conversion range: then the magnitude is no less.
 pub record Reckoned (p : Bool) (bs : Bytes) (x : ℕ) : Type 0 where
   pub reached : x ≤ magnitude-of p bs
-  pub exact : x ≤ suc greatest-word → x ≡ magnitude-of p bs
+  pub exact : x ≤ lowest-word → x ≡ magnitude-of p bs
 
 -- How many digits n bytes hold.
 unfoldable pub places : Bool → ℕ → ℕ

@@ -3,7 +3,8 @@ use mathlib.Core.Bool.{true}
 use Prim.Native.Nat.{_-_}
 use native.Mathlib.Omega.{arith}
 use Rattle.decimals.specs.Decimals.{inner-byte}
-use Rattle.decimals.proofs.Meanings.{Scan, scan-start, scan-turn, scan-stop, scan-end, pair-digits, pair-high, pair-low}
+use Rattle.buffer.proofs.Loops.{Scan, scan-start, scan-turn, scan-stop, scan-end}
+use Rattle.decimals.proofs.Meanings.{pair-digits, pair-high, pair-low}
 use borrow.Author.Needs.{needs}
 use Rattle.decimals.proofs.packed_pairs.Statement.{statement}
 use Rattle.decimals.proofs.packed_pairs.Tie as tie

@@ -2,7 +2,7 @@
 use lib.Dec.{eqb}
 use borrow.Author.Tests.{eq-eqb, ne-eqb}
 use Rattle.decimals.specs.Decimals.{inner-written}
-use Rattle.decimals.proofs.Before.{Back, back-start, back-turn, back-stop, back-end}
+use Rattle.buffer.proofs.Loops.{Back, back-start, back-turn, back-stop, back-end}
 use borrow.Author.Needs.{needs}
 use Rattle.decimals.proofs.zeros_before.Statement.{statement}
 use Rattle.decimals.proofs.zeros_before.Tie as tie

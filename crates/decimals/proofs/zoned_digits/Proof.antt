@@ -2,7 +2,8 @@
 use mathlib.Core.Bool.{false}
 use Prim.Native.Nat.{_-_}
 use Rattle.decimals.specs.Decimals.{inner-byte}
-use Rattle.decimals.proofs.Meanings.{Scan, scan-start, scan-turn, scan-stop, scan-end, zone-digit, zone-below, zone-above}
+use Rattle.buffer.proofs.Loops.{Scan, scan-start, scan-turn, scan-stop, scan-end}
+use Rattle.decimals.proofs.Meanings.{zone-digit, zone-below, zone-above}
 use borrow.Author.Needs.{needs}
 use Rattle.decimals.proofs.zoned_digits.Statement.{statement}
 use Rattle.decimals.proofs.zoned_digits.Tie as tie
