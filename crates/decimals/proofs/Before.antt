@@ -1,13 +1,12 @@
--- The bytes before the last of a value have the digits before its last; a scan of them from the right tells whether all are zeros.
--- Assumes nothing.
+-- The bytes before the last of a value have the digits before its last, and are all zeros where the magnitude is a digit.
 use mathlib.Core.Path.{_≡_, refl, sym, _∙_, ap}
 use mathlib.Core.Bool.{Bool, true, false, not, _&&_}
 use mathlib.Core.List.{[], _∷_, _++_}
-use Prim.Native.Nat.{ℕ, zero, suc, _+_, _-_, _*_, _/_, _%_, _^_, _≤_, _<_}
+use Prim.Native.Nat.{ℕ, zero, suc, _+_, _-_, _*_, _/_, _%_, _^_, _<_}
 use native.Mathlib.Nat.{pow-zero, pow-suc, div-lt-iff-lt-mul}
 use native.Mathlib.Omega.{arith}
 use lib.Dec.{eqb, ltb, lit<}
-use lib.ListN.{length, take, drop, getD, replicate}
+use lib.ListN.{length, take, getD}
 use lib.Seq.{take-at}
 use borrow.Author.Tests.{lt-ltb, le-ltb, eqb-true, eqb-false, eq-eqb, ne-eqb}
 use Rattle.rules.specs.Lists.{Bytes, all, digits}
@@ -17,8 +16,8 @@ use Rattle.buffer.proofs.Cases.{by-order}
 use Rattle.decimals.specs.Decimals.{digits-of, sign-half, magnitude-of, Readable, places, byte-base, inner-written, front, last-written}
 use Rattle.decimals.proofs.Halves.{length-digits-of, high-at, unpacked-at}
 use Rattle.decimals.proofs.Sound.{Sound, below-ten}
-use Rattle.decimals.proofs.Spelling.{last-digit-of}
-use Rattle.decimals.proofs.Written.{length-front, front-none, front-more, front-drop, front-behind, base-some, encoded-front}
+use Rattle.decimals.proofs.Written.{length-front, front-none, front-more, base-some, encoded-front}
+use Rattle.decimals.proofs.FirstDigits.{last-digit-of}
 
 -- ---- the bytes before the last
 
@@ -54,29 +53,6 @@ module _ {p : Bool} {s : Bytes} (v : Sound p s) where
   pub before-small : magnitude-of p s / 10 < byte-base p ^ (length s - 1)
   unfolding magnitude-of
   before-small = less-one p (length s - 1) _ (rw (length-digits-of p s, one-more) at (spelled-below 10 (digits-of p s) (below-ten p s (v .nines))))
-
-take-of-drop : (a m : ℕ) (s : Bytes) (k : ℕ) → m ≡ a + k → take k (drop a s) ≡ drop a (take m s)
-take-of-drop zero m s k e =
-    let q : m ≡ k = omega arith in
-    rw q
-take-of-drop (suc a) zero s k e = absurd (omega arith)
-take-of-drop (suc a) (suc m) [] zero e = refl
-take-of-drop (suc a) (suc m) [] (suc k) e = refl
-take-of-drop (suc a) (suc m) (b ∷ s) k e = take-of-drop a m s k (omega arith)
-
--- to n bytes of the same format: the last of them, or all behind zeros
-module _ {p : Bool} {s : Bytes} (v : Sound p s) (n : ℕ) where
-  pub copied-last : 0 < n → n < length s → take (length s - 1 - (length s - n)) (drop (length s - n) s) ≡ front p (n - 1) (magnitude-of p s / 10)
-  copied-last o h =
-      let e : length s - 1 - (length s - n) ≡ n - 1 = omega arith in
-      let f : length s - n + (n - 1) ≡ length s - 1 = omega arith in
-      rw (e, take-of-drop (length s - n) (length s - 1) s (n - 1) (omega arith), before-last v, ← f) (front-drop p (length s - n) (n - 1) (magnitude-of p s / 10))
-
-  pub copied-all : length s ≤ n → replicate (n - length s) (inner-written p 0) ++ take (length s - 1) s ≡ front p (n - 1) (magnitude-of p s / 10)
-  copied-all h =
-      let o = v .some in
-      let e : n - length s + (length s - 1) ≡ n - 1 = omega arith in
-      rw (before-last v, ← e) (sym (front-behind p (n - length s) (length s - 1) (magnitude-of p s / 10) (before-small v)))
 
 -- ---- whether all are zeros
 

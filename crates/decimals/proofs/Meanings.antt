@@ -1,5 +1,4 @@
--- What P and U bytes mean, and when: a scan from the left decides whether they are a value, and a value is its digits and its sign.
--- Assumes nothing.
+-- When P and U bytes are a value: what the meaning asks of digits and sign, byte after byte.
 use mathlib.Core.Path.{_≡_, refl, sym, _∙_, ap}
 use mathlib.Core.Bool.{Bool, true, false, _&&_, _||_, and-true, and-false, and-assoc}
 use mathlib.Core.List.{List, [], _∷_, map}
@@ -14,7 +13,8 @@ use Rattle.rules.specs.Values.{signed, halves, accepted-plus, accepted-minus, s
 use Rattle.rules.proofs.Bools.{and-regrouped, and-crossed}
 use Rattle.rules.proofs.Done.{is-done-then, is-done-after}
 use Rattle.buffer.proofs.Cases.{by-order}
-use Rattle.decimals.specs.Decimals.{decimal-format, is-sign, inner-byte, last-byte, value-bytes}
+use Rattle.decimals.specs.Decimals.{decimal-format}
+use Rattle.decimals.specs.Tests.{is-sign, inner-byte, last-byte, value-bytes}
 
 -- ---- when they are a value
 

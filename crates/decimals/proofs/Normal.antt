@@ -1,4 +1,4 @@
--- The normal form of P and U: when a number fits, its bytes, when a value is in it, and a value carried to it. Assumes nothing.
+-- The normal form of P and U: when a number fits, its bytes, when a value is in it, and a value carried to it.
 use mathlib.Core.Path.{_≡_, refl, sym, _∙_, ap}
 use mathlib.Core.Bool.{Bool, true, false, and-true}
 use mathlib.Core.List.{List, [], _∷_, _++_}

@@ -1,4 +1,4 @@
--- The facts of a P or U value, from its having a meaning. Assumes nothing.
+-- The facts of a P or U value, from its having a meaning.
 use mathlib.Core.Path.{_≡_, refl, sym, _∙_, ap}
 use mathlib.Core.Bool.{Bool, true, false, _&&_, false≢true}
 use mathlib.Core.List.{List, [], _∷_, _++_, map}
@@ -14,7 +14,8 @@ use Rattle.rules.specs.Values.{Value, number, signed, halves, pairs, zoned, acc
 use Rattle.rules.proofs.Steps.{by-test, true-T, T-true, and-left, and-right, not-done, from-bind, from-need, done-inj}
 use Rattle.rules.proofs.Done.{done-some}
 use Rattle.rules.proofs.Digits.{Below, all-getD}
-use Rattle.decimals.specs.Decimals.{decimal-format, digits-of, sign-half, magnitude-of, is-minus, all-digits, Readable, encoded, value-bytes}
+use Rattle.decimals.specs.Decimals.{decimal-format, digits-of, sign-half, magnitude-of, is-minus, all-digits, Readable, encoded}
+use Rattle.decimals.specs.Tests.{value-bytes}
 use Rattle.decimals.proofs.Meanings.{value-scan}
 
 -- ---- the meaning
