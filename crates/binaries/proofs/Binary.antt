@@ -8,19 +8,18 @@ use native.Mathlib.Numerals.{add-one}
 use native.Mathlib.Omega.{arith}
 use lib.Dec.{ltb, leb, lit<}
 use lib.ListN.{length, drop, getD, replicate, length-drop}
-use lib.Seq.{getD-drop}
 use borrow.Author.Tests.{lt-ltb, le-ltb, ltb-true, le-leb, lt-leb}
 use Rattle.rules.specs.Outcome.{done, is-done}
+use Rattle.rules.specs.Limits.{lowest-word}
 use Rattle.rules.specs.Lists.{Bytes, bytes-of, spelled, digits}
 use Rattle.rules.specs.Values.{number, binary, meaning, normal, carried, converted, conversion, in-range, in-normal-form}
+use Rattle.rules.proofs.Done.{is-done-need, done-need, no-length-byte}
+use Rattle.rules.proofs.Digits.{Below, below-drop, spelled-turn, spelled-end, spelled-behind, spelled-below, spelled-grows, digits-spelled, own-digits, digits-zero}
 use Rattle.buffer.proofs.Cases.{by-order}
 use Rattle.words.specs.Words.{pick, word-of, value-of}
 use Rattle.words.specs.declared.Word.{Word}
 use Rattle.words.specs.declared.Word.the-variants.{Number, Outside}
-use Rattle.words.proofs.Digits.{Below, spelled-behind, spelled-below, spelled-grows, digits-spelled, own-digits, digits-zero}
-use Rattle.words.proofs.Scans.{spelled-turn, spelled-end}
-use Rattle.words.proofs.NormalForm.{is-normal-form, no-length-byte}
-use Rattle.words.proofs.Fixed.{is-done-need, done-need}
+use Rattle.words.proofs.NormalForm.{is-normal-form}
 
 -- Carried from B to B a value is written as it is meant.
 carried-is : (n : ℕ) (s : Bytes) → carried binary binary n s ≡ normal binary n (number false (spelled 256 s 0))
@@ -54,21 +53,18 @@ word-bytes n true x d = absurd (false≢true (sym (never-minus n x) ∙ d))
 carried-fits : (n : ℕ) (s : Bytes) → is-done (carried binary binary n s) ≡ ltb (spelled 256 s 0) (256 ^ n)
 carried-fits n s = rw (carried-is n s) (fits-is n (spelled 256 s 0))
 
--- One byte of the walk: a zero changes nothing, another byte makes the number too large for the bytes behind it.
+-- One byte of the walk: a zero changes nothing, another byte makes the number too large for the bytes after it.
 module _ (s : Bytes) (i : ℕ) (h : i < length s) where
   pub zero-skips : getD s i 0 ≡ 0 → spelled 256 (drop (i + 1) s) 0 ≡ spelled 256 (drop i s) 0
-  zero-skips e = rw e at (spelled-turn s i 0 h)
+  zero-skips e = rw e at (spelled-turn 256 s i 0 h)
 
   pub too-large : (n : ℕ) → 0 < getD s i 0 → n + i < length s → 256 ^ n ≤ spelled 256 (drop i s) 0
   too-large n p l =
       let d = getD s i 0 in
-      let e = spelled-turn s i 0 h in
+      let e = spelled-turn 256 s i 0 h in
       let f = spelled-behind 256 (drop (i + 1) s) (0 * 256 + d) in
       let k : 256 ^ n ≤ 256 ^ length (drop (i + 1) s) = pow-le-pow-right {n = 256} (lit< tt) {i = n} {j = length (drop (i + 1) s)} (rw length-drop (omega arith)) in
       omega (arith, mul-le-mul-right (256 ^ length (drop (i + 1) s)) p)
-
-below-drop : (s : Bytes) (i : ℕ) → Below 256 s → Below 256 (drop i s)
-below-drop s i b j = rw (getD-drop i s j 0) (b (i + j))
 
 small : (s : Bytes) (n : ℕ) → Below 256 s → length s ≤ n → spelled 256 s 0 < 256 ^ n
 small s n b h =
@@ -81,7 +77,7 @@ module _ (s : Bytes) (n i : ℕ) (same : spelled 256 (drop i s) 0 ≡ spelled 25
   walk-fits b h =
       carried-fits n s
       ∙ lt-ltb (spelled 256 s 0) (256 ^ n)
-      (rw same at (small (drop i s) n (below-drop s i b) (rw length-drop (omega arith))))
+      (rw same at (small (drop i s) n (below-drop 256 s i b) (rw length-drop (omega arith))))
 
   pub walk-stops : (getD s i 0 ≡ 0 → ⊥) → n + i < length s → is-done (carried binary binary n s) ≡ false
   walk-stops z h =
@@ -111,35 +107,35 @@ module _ (s : Bytes) (n : ℕ) (b : Below 256 s) (fits : is-done (carried binary
   last-bytes h =
       let k = length s - n in
       let l : length (drop k s) ≡ n = rw length-drop (omega arith) in
-      bytes-are ∙ rw (← leading s n fitting k (omega arith)) (rw l at (own-digits (drop k s) (below-drop s k b)))
+      bytes-are ∙ rw (← leading s n fitting k (omega arith)) (rw l at (own-digits 256 (drop k s) (below-drop 256 s k b)))
 
   pub padded-bytes : length s ≤ n → bytes-of (carried binary binary n s) ≡ replicate (n - length s) 0 ++ s
   padded-bytes h =
       let e : n ≡ length s + (n - length s) = omega arith in
-      bytes-are ∙ ap (λ m. digits 256 m (spelled 256 s 0)) e ∙ digits-spelled s (n - length s) 0 b ∙ rw (digits-zero 256 (n - length s))
+      bytes-are ∙ ap (λ m. digits 256 m (spelled 256 s 0)) e ∙ digits-spelled 256 s (n - length s) 0 b ∙ rw (digits-zero 256 (n - length s))
 
 -- The word of a number.
 number-word : ℕ → Word
-number-word x = pick (leb x 2147483648) (Number (record { negative = false; magnitude = x })) Outside
+number-word x = pick (leb x lowest-word) (Number (record { negative = false; magnitude = x })) Outside
 
 word-is : (s : Bytes) → word-of (value-of (meaning binary s)) ≡ number-word (spelled 256 s 0)
 unfolding word-of value-of meaning number-word
 word-is s = refl
 
 module _ (s : Bytes) (i x : ℕ) (same : spelled 256 (drop i s) x ≡ spelled 256 s 0) where
-  pub word-outside : 2147483648 < x → Outside ≡ word-of (value-of (meaning binary s))
+  pub word-outside : lowest-word < x → Outside ≡ word-of (value-of (meaning binary s))
   unfolding number-word
   word-outside h =
-      let g = spelled-grows (drop i s) x in
-      rw (word-is s, lt-leb (spelled 256 s 0) 2147483648 (omega arith))
+      let g = spelled-grows 256 (drop i s) x (lit< tt) in
+      rw (word-is s, lt-leb (spelled 256 s 0) lowest-word (omega arith))
 
-  pub word-number : length s ≤ i → x ≤ 2147483648 → Number (record { negative = false; magnitude = x }) ≡ word-of (value-of (meaning binary s))
+  pub word-number : length s ≤ i → x ≤ lowest-word → Number (record { negative = false; magnitude = x }) ≡ word-of (value-of (meaning binary s))
   unfolding number-word
-  word-number h l = rw (word-is s, ← same, spelled-end s i x h, le-leb x 2147483648 l)
+  word-number h l = rw (word-is s, ← same, spelled-end 256 s i x h, le-leb x lowest-word l)
 
 -- "zeros to the left": every n bytes are in normal form.
 pub binary-normal : (n : ℕ) → 0 < n → (bs : Bytes) → length bs ≡ n → Below 256 bs → in-normal-form binary n bs ≡ true
 unfolding meaning
 binary-normal n h bs l b =
     is-normal-form binary n bs
-    (normal-is n (spelled 256 bs 0) (small bs n b (omega arith)) ∙ ap done (rw l at (own-digits bs b) ∙ sym (no-length-byte n bs h)))
+    (normal-is n (spelled 256 bs 0) (small bs n b (omega arith)) ∙ ap done (rw l at (own-digits 256 bs b) ∙ sym (no-length-byte n bs h)))

@@ -1,4 +1,4 @@
-// Format B: unsigned numbers of 1 to 126 bytes, carried from bytes to bytes, and to and from a word.
+// Format B: unsigned numbers of 1 to LONGEST_BINARY bytes, carried from bytes to bytes, and to and from a word.
 ghost use mathlib.Core.Path.{_≡_};
 ghost use mathlib.Core.Bool.{true};
 ghost use Prim.Native.Nat.{_+_, _≤_, _<_};
@@ -9,6 +9,7 @@ ghost use Rattle.rules.specs.Lists.{bytes-of};
 ghost use Rattle.rules.specs.Values.{binary, meaning, normal, carried};
 ghost use Rattle.words.specs.Words.{signed-value, word-of, value-of};
 ghost use Rattle.buffer.specs.Splice.{splice};
+use rules::LOWEST_WORD;
 use words::Signed;
 use words::Word;
 
@@ -37,7 +38,7 @@ pub fn binary_fits(s: &[u8], n: usize) -> bool
     true
 }
 
-// The number of s in n bytes, to out from at on.
+// Writes the number of s as n bytes to out, from the place at.
 pub fn carry_binary(s: &[u8], n: usize, out: &mut [u8], at: usize)
     requires { ⌜ (is-done (carried binary binary n (now s)) ≡ true) × (at + n ≤ length (now out)) ⌝ }
     ensures { λ _. ⌜ now (out .exit) ≡ splice at (bytes-of (carried binary binary n (now (s .entry)))) (now (out .entry)) ⌝ }
@@ -64,13 +65,13 @@ pub fn binary_word(s: &[u8]) -> Word
     let mut n: u64 = 0;
     let mut i = 0;
     while i < s.len() {
-        if 0x8000_0000 < n {
+        if (LOWEST_WORD as u64) < n {
             return Word::Outside;
         }
         n = n * 256 + wide(s[i]);
         i += 1;
     }
-    if 0x8000_0000 < n {
+    if (LOWEST_WORD as u64) < n {
         return Word::Outside;
     }
     Word::Number(Signed {
@@ -100,7 +101,7 @@ pub fn binary_fits_word(v: Signed, n: usize) -> bool
     true
 }
 
-// v in n bytes of format B, to out from at on.
+// Writes v as n bytes of format B to out, from the place at.
 pub fn write_binary_word(v: Signed, n: usize, out: &mut [u8], at: usize)
     requires { ⌜ (is-done (normal binary n (signed-value v)) ≡ true) × (at + n ≤ length (now out)) ⌝ }
     ensures { λ _. ⌜ now (out .exit) ≡ splice at (bytes-of (normal binary n (signed-value v))) (now (out .entry)) ⌝ }

@@ -1,10 +1,16 @@
--- A loop that writes the n bytes of t to out from at on, one a turn: the invariant as a record, its start, its turn and its end.
--- `Up` goes from the left, `Down` from the right; the byte that a turn stores is t's at that place.
+-- Two kinds of loop, a byte a turn: the invariant as a record, its start, its turn and its end.
+-- A write of the n bytes of t to out from at on: `Up` goes from the left, `Down` from the right; the byte that a turn stores is t's
+-- at that place. A test of the first n bytes of s: `Scan` goes from the left, `Back` from the right; what is left answers as the whole.
 use mathlib.Core.Path.{_≡_, refl, sym, ap, _∙_}
-use Prim.Native.Nat.{ℕ, _+_, _-_, _≤_, _<_}
+use mathlib.Core.Bool.{Bool, true, false, _&&_, and-true, and-false}
+use Prim.Native.Nat.{ℕ, suc, _+_, _-_, _≤_, _<_}
+use native.Mathlib.Numerals.{add-one}
 use native.Mathlib.Omega.{arith}
 use mathlib.Core.List.{List}
 use lib.ListN.{length, take, drop, getD, set, length-set}
+use lib.Seq.{drop-cons, take-suc}
+use Rattle.rules.specs.Lists.{all}
+use Rattle.rules.proofs.Digits.{all-none, all-first, all-last}
 use Rattle.buffer.specs.Splice.{splice}
 use Rattle.buffer.proofs.Laws.{splice-nil, turn-up, done-up, start-down, turn-down, done-down}
 
@@ -54,3 +60,60 @@ down-turn {at} {n} {t} {out₀} {out} {j} {q} {v} w h eq ev = record {
 
 pub down-end : {at n : ℕ} {t out₀ out : List ℕ} {j : ℕ} → Down at n t out₀ out j → j ≤ 0 → out ≡ splice at t out₀
 down-end {at} {n} {t} {out₀} {out} {j} w h = done-down at t out₀ out j h (w .done)
+
+pub record Scan (f : ℕ → Bool) (n : ℕ) (s : List ℕ) (i : ℕ) : Type 0 where
+  pub within : n ≤ length s
+  pub upto : i ≤ n
+  pub left : all f (take (n - i) (drop i s)) ≡ all f (take n s)
+
+pub scan-start : {f : ℕ → Bool} {n : ℕ} {s : List ℕ} → n ≤ length s → Scan f n s 0
+scan-start {f} {n} {s} h =
+    let e : n - 0 ≡ n = omega arith in
+    record { within = h; upto = omega arith; left = rw e }
+
+module _ {f : ℕ → Bool} {n : ℕ} {s : List ℕ} {i : ℕ} (w : Scan f n s i) where
+  first : i < n → all f (take (n - i) (drop i s)) ≡ (f (getD s i 0) && all f (take (n - (i + 1)) (drop (i + 1) s)))
+  first h =
+      let e : n - i ≡ suc (n - (i + 1)) = omega arith in
+      let k = w .within in
+      rw (e, drop-cons s i 0 (omega arith), ← add-one i) (all-first f (getD s i 0) (take (n - (i + 1)) (drop (i + 1) s)))
+
+  pub scan-turn : i < n → f (getD s i 0) ≡ true → Scan f n s (i + 1)
+  scan-turn h e = record { within = w .within; upto = omega arith; left = sym (first h ∙ rw e) ∙ w .left }
+
+  pub scan-stop : i < n → f (getD s i 0) ≡ false → false ≡ all f (take n s)
+  scan-stop h e = sym (first h ∙ rw e) ∙ w .left
+
+  pub scan-end : n ≤ i → true ≡ all f (take n s)
+  scan-end h =
+      let e : n - i ≡ 0 = omega arith in
+      sym (rw e (all-none f)) ∙ w .left
+
+pub record Back (f : ℕ → Bool) (n : ℕ) (s : List ℕ) (i : ℕ) : Type 0 where
+  pub within : n ≤ length s
+  pub upto : i ≤ n
+  pub left : all f (take i s) ≡ all f (take n s)
+
+pub back-start : {f : ℕ → Bool} {n : ℕ} {s : List ℕ} → n ≤ length s → Back f n s n
+back-start h = record { within = h; upto = omega arith; left = refl }
+
+module _ {f : ℕ → Bool} {n : ℕ} {s : List ℕ} {i : ℕ} (w : Back f n s i) where
+  final : 0 < i → all f (take i s) ≡ (all f (take (i - 1) s) && f (getD s (i - 1) 0))
+  final h =
+      let e : i ≡ suc (i - 1) = omega arith in
+      let k = w .within in
+      let u = w .upto in
+      ap (λ j. all f (take j s)) e ∙ rw (take-suc s (i - 1) 0 (omega arith)) (all-last f (take (i - 1) s) (getD s (i - 1) 0))
+
+  pub back-turn : 0 < i → f (getD s (i - 1) 0) ≡ true → Back f n s (i - 1)
+  back-turn h e =
+      let u = w .upto in
+      record { within = w .within; upto = omega arith; left = sym (final h ∙ rw e (and-true (all f (take (i - 1) s)))) ∙ w .left }
+
+  pub back-stop : 0 < i → f (getD s (i - 1) 0) ≡ false → false ≡ all f (take n s)
+  back-stop h e = sym (final h ∙ rw e (and-false (all f (take (i - 1) s)))) ∙ w .left
+
+  pub back-end : i ≤ 0 → true ≡ all f (take n s)
+  back-end h =
+      let z : i ≡ 0 = omega arith in
+      sym (rw z (all-none f)) ∙ w .left

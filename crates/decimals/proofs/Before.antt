@@ -1,25 +1,23 @@
--- The bytes before the last of a value have the digits before its last; a scan of them from the right tells whether all are zeros.
--- Assumes nothing.
+-- The bytes before the last of a value have the digits before its last, and are all zeros where the magnitude is a digit.
 use mathlib.Core.Path.{_≡_, refl, sym, _∙_, ap}
-use mathlib.Core.Bool.{Bool, true, false, not, _&&_, and-true, and-false}
+use mathlib.Core.Bool.{Bool, true, false, not, _&&_}
 use mathlib.Core.List.{[], _∷_, _++_}
-use Prim.Native.Nat.{ℕ, zero, suc, _+_, _-_, _*_, _/_, _%_, _^_, _≤_, _<_}
+use Prim.Native.Nat.{ℕ, zero, suc, _+_, _-_, _*_, _/_, _%_, _^_, _<_}
 use native.Mathlib.Nat.{pow-zero, pow-suc, div-lt-iff-lt-mul}
 use native.Mathlib.Omega.{arith}
 use lib.Dec.{eqb, ltb, lit<}
-use lib.ListN.{length, take, drop, getD, replicate}
-use lib.Seq.{take-suc, take-at}
+use lib.ListN.{length, take, getD}
+use lib.Seq.{take-at}
 use borrow.Author.Tests.{lt-ltb, le-ltb, eqb-true, eqb-false, eq-eqb, ne-eqb}
 use Rattle.rules.specs.Lists.{Bytes, all, digits}
 use Rattle.rules.proofs.Steps.{by-test}
+use Rattle.rules.proofs.Digits.{spelled-below, own-digits, all-none, all-last}
 use Rattle.buffer.proofs.Cases.{by-order}
 use Rattle.decimals.specs.Decimals.{digits-of, sign-half, magnitude-of, Readable, places, byte-base, inner-written, front, last-written}
-use Rattle.decimals.proofs.Digits.{spelled-below, digits-spelled}
 use Rattle.decimals.proofs.Halves.{length-digits-of, high-at, unpacked-at}
-use Rattle.decimals.proofs.Meanings.{and-assoc, all-none}
 use Rattle.decimals.proofs.Sound.{Sound, below-ten}
-use Rattle.decimals.proofs.Spelling.{last-digit-of}
-use Rattle.decimals.proofs.Written.{length-front, front-none, front-more, front-drop, front-behind, base-some, encoded-front}
+use Rattle.decimals.proofs.Written.{length-front, front-none, front-more, base-some, encoded-front}
+use Rattle.decimals.proofs.FirstDigits.{last-digit-of}
 
 -- ---- the bytes before the last
 
@@ -41,12 +39,12 @@ module _ {p : Bool} {s : Bytes} (v : Sound p s) where
   one-more : length s ≡ suc (length s - 1)
   one-more = let o = v .some in omega arith
 
-  own-digits : digits 10 (places p (suc (length s - 1))) (magnitude-of p s) ≡ digits-of p s
+  value-digits : digits 10 (places p (suc (length s - 1))) (magnitude-of p s) ≡ digits-of p s
   unfolding magnitude-of
-  own-digits = rw (← one-more, ← length-digits-of p s) (digits-spelled 10 (digits-of p s) (below-ten p s (v .nines)))
+  value-digits = rw (← one-more, ← length-digits-of p s) (own-digits 10 (digits-of p s) (below-ten p s (v .nines)))
 
   in-parts : front p (length s - 1) (magnitude-of p s / 10) ++ (last-written p (magnitude-of p s % 10) (sign-half p s) ∷ []) ≡ s
-  in-parts = sym (encoded-front p (length s - 1) (magnitude-of p s) (sign-half p s)) ∙ rw own-digits (v .whole)
+  in-parts = sym (encoded-front p (length s - 1) (magnitude-of p s) (sign-half p s)) ∙ rw value-digits (v .whole)
 
   pub before-last : take (length s - 1) s ≡ front p (length s - 1) (magnitude-of p s / 10)
   before-last =
@@ -55,65 +53,6 @@ module _ {p : Bool} {s : Bytes} (v : Sound p s) where
   pub before-small : magnitude-of p s / 10 < byte-base p ^ (length s - 1)
   unfolding magnitude-of
   before-small = less-one p (length s - 1) _ (rw (length-digits-of p s, one-more) at (spelled-below 10 (digits-of p s) (below-ten p s (v .nines))))
-
-take-of-drop : (a m : ℕ) (s : Bytes) (k : ℕ) → m ≡ a + k → take k (drop a s) ≡ drop a (take m s)
-take-of-drop zero m s k e =
-    let q : m ≡ k = omega arith in
-    rw q
-take-of-drop (suc a) zero s k e = absurd (omega arith)
-take-of-drop (suc a) (suc m) [] zero e = refl
-take-of-drop (suc a) (suc m) [] (suc k) e = refl
-take-of-drop (suc a) (suc m) (b ∷ s) k e = take-of-drop a m s k (omega arith)
-
--- to n bytes of the same format: the last of them, or all behind zeros
-module _ {p : Bool} {s : Bytes} (v : Sound p s) (n : ℕ) where
-  pub copied-last : 0 < n → n < length s → take (length s - 1 - (length s - n)) (drop (length s - n) s) ≡ front p (n - 1) (magnitude-of p s / 10)
-  copied-last o h =
-      let e : length s - 1 - (length s - n) ≡ n - 1 = omega arith in
-      let f : length s - n + (n - 1) ≡ length s - 1 = omega arith in
-      rw (e, take-of-drop (length s - n) (length s - 1) s (n - 1) (omega arith), before-last v, ← f) (front-drop p (length s - n) (n - 1) (magnitude-of p s / 10))
-
-  pub copied-all : length s ≤ n → replicate (n - length s) (inner-written p 0) ++ take (length s - 1) s ≡ front p (n - 1) (magnitude-of p s / 10)
-  copied-all h =
-      let o = v .some in
-      let e : n - length s + (length s - 1) ≡ n - 1 = omega arith in
-      rw (before-last v, ← e) (sym (front-behind p (n - length s) (length s - 1) (magnitude-of p s / 10) (before-small v)))
-
--- ---- a scan of the first n bytes from the right: those before i answer as all do
-
-pub record Back (f : ℕ → Bool) (n : ℕ) (s : Bytes) (i : ℕ) : Type 0 where
-  pub within : n ≤ length s
-  pub upto : i ≤ n
-  pub left : all f (take i s) ≡ all f (take n s)
-
-all-last : (f : ℕ → Bool) (bs : Bytes) (b : ℕ) → all f (bs ++ (b ∷ [])) ≡ (all f bs && f b)
-unfolding all
-all-last f [] b = and-true (f b)
-all-last f (c ∷ bs) b = rw (all-last f bs b) (and-assoc (f c) (all f bs) (f b))
-
-pub back-start : {f : ℕ → Bool} {n : ℕ} {s : Bytes} → n ≤ length s → Back f n s n
-back-start h = record { within = h; upto = omega arith; left = refl }
-
-module _ {f : ℕ → Bool} {n : ℕ} {s : Bytes} {i : ℕ} (w : Back f n s i) where
-  final : 0 < i → all f (take i s) ≡ (all f (take (i - 1) s) && f (getD s (i - 1) 0))
-  final h =
-      let e : i ≡ suc (i - 1) = omega arith in
-      let k = w .within in
-      let u = w .upto in
-      ap (λ j. all f (take j s)) e ∙ rw (take-suc s (i - 1) 0 (omega arith)) (all-last f (take (i - 1) s) (getD s (i - 1) 0))
-
-  pub back-turn : 0 < i → f (getD s (i - 1) 0) ≡ true → Back f n s (i - 1)
-  back-turn h e =
-      let u = w .upto in
-      record { within = w .within; upto = omega arith; left = sym (final h ∙ rw e (and-true (all f (take (i - 1) s)))) ∙ w .left }
-
-  pub back-stop : 0 < i → f (getD s (i - 1) 0) ≡ false → false ≡ all f (take n s)
-  back-stop h e = sym (final h ∙ rw e (and-false (all f (take (i - 1) s)))) ∙ w .left
-
-  pub back-end : i ≤ 0 → true ≡ all f (take n s)
-  back-end h =
-      let z : i ≡ 0 = omega arith in
-      sym (rw z (all-none f)) ∙ w .left
 
 -- ---- whether all are zeros
 

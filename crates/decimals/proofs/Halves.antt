@@ -1,4 +1,4 @@
--- The digits and the sign of P and U bytes by index. Assumes nothing.
+-- The digits and the sign of P and U bytes by index.
 use mathlib.Core.Path.{_≡_, refl, _∙_, ap}
 use mathlib.Core.Bool.{Bool, true, false}
 use mathlib.Core.List.{List, [], _∷_}

@@ -1,30 +1,22 @@
--- What P and U bytes mean, and when: a scan from the left decides whether they are a value, and a value is its digits and its sign.
--- Assumes nothing.
+-- When P and U bytes are a value: what the meaning asks of digits and sign, byte after byte.
 use mathlib.Core.Path.{_≡_, refl, sym, _∙_, ap}
-use mathlib.Core.Bool.{Bool, true, false, _&&_, _||_, and-true, and-false}
+use mathlib.Core.Bool.{Bool, true, false, _&&_, _||_, and-true, and-false, and-assoc}
 use mathlib.Core.List.{List, [], _∷_, map}
-use Prim.Native.Nat.{ℕ, zero, suc, _+_, _-_, _/_, _%_, _≤_, _<_}
-use native.Mathlib.Numerals.{add-one}
+use Prim.Native.Nat.{ℕ, zero, suc, _-_, _/_, _%_, _≤_, _<_}
 use native.Mathlib.Omega.{arith}
 use lib.Dec.{eqb, leb}
-use lib.ListN.{length, take, drop, getD}
-use lib.Seq.{drop-cons}
+use lib.ListN.{length, take, getD}
 use borrow.Author.Tests.{le-leb, lt-leb, eq-eqb, ne-eqb}
-use Rattle.rules.specs.Outcome.{Outcome, done, refused, _>>=_, need, is-done}
+use Rattle.rules.specs.Outcome.{done, refused, is-done}
 use Rattle.rules.specs.Lists.{Bytes, all, spelled, but-last, last}
 use Rattle.rules.specs.Values.{signed, halves, accepted-plus, accepted-minus, sign-means, decimal, meaning}
+use Rattle.rules.proofs.Bools.{and-regrouped, and-crossed}
+use Rattle.rules.proofs.Done.{is-done-then, is-done-after}
 use Rattle.buffer.proofs.Cases.{by-order}
-use Rattle.decimals.specs.Decimals.{decimal-format, is-sign, inner-byte, last-byte, value-bytes}
+use Rattle.decimals.specs.Decimals.{decimal-format}
+use Rattle.decimals.specs.Tests.{is-sign, inner-byte, last-byte, value-bytes}
 
 -- ---- when they are a value
-
-need-is-done : {A : Type 0} (t : Bool) (n : ℕ) (f : Unit {0} → Outcome A) → is-done (need t n >>= f) ≡ (t && is-done (f tt))
-need-is-done true n f = refl
-need-is-done false n f = refl
-
-then-is-done : {A B : Type 0} (m : Outcome A) (f : A → B) → is-done (m >>= λ a. done (f a)) ≡ is-done m
-then-is-done (done a) f = refl
-then-is-done (refused n) f = refl
 
 sign-is-done : (s : ℕ) → is-done (sign-means s) ≡ is-sign s
 unfolding sign-means is-sign
@@ -38,47 +30,31 @@ sign-is-done s = go (accepted-plus s) (accepted-minus s)
 decimal-is-done : (ds : List ℕ) (s : ℕ) → is-done (decimal ds s) ≡ (all (λ d. leb d 9) ds && is-sign s)
 unfolding decimal
 decimal-is-done ds s =
-    need-is-done (all (λ d. leb d 9) ds) 8 _
-    ∙ ap (λ t. all (λ d. leb d 9) ds && t) (then-is-done (sign-means s) (λ below. signed below (spelled 10 ds 0)) ∙ sign-is-done s)
-
-ahead : (a b c d : Bool) → (a && (b && c) && d) ≡ (a && b && (c && d))
-ahead true true c d = refl
-ahead true false c d = refl
-ahead false b c d = refl
+    is-done-after (all (λ d. leb d 9) ds) 8 _
+    ∙ ap (λ t. all (λ d. leb d 9) ds && t) (is-done-then (sign-means s) (λ below. signed below (spelled 10 ds 0)) ∙ sign-is-done s)
 
 packed-scan : (bs : Bytes) → (all (λ d. leb d 9) (but-last (halves bs)) && is-sign (last (halves bs))) ≡ value-bytes true bs
 unfolding all but-last last halves value-bytes inner-byte last-byte is-sign accepted-plus accepted-minus
 packed-scan [] = refl
 packed-scan (b ∷ []) = rw (and-true (leb (b / 16) 9))
-packed-scan (b ∷ c ∷ bs) = rw (← packed-scan (c ∷ bs)) (ahead (leb (b / 16) 9) (leb (b % 16) 9) _ _)
-
-apart : (a b c d e : Bool) → (a && b && (c && d && e)) ≡ (a && c && (b && (d && e)))
-apart true true true d e = refl
-apart true true false d e = refl
-apart true false true d e = refl
-apart true false false d e = refl
-apart false b c d e = refl
+packed-scan (b ∷ c ∷ bs) = rw (← packed-scan (c ∷ bs)) (and-regrouped (leb (b / 16) 9) (leb (b % 16) 9) _ _)
 
 unpacked-scan : (bs : Bytes)
     → (all (λ b. eqb (b / 16) 0xF) (but-last bs) && (all (λ d. leb d 9) (map (λ b. b % 16) bs) && is-sign (last bs / 16))) ≡ value-bytes false bs
 unfolding all but-last last value-bytes inner-byte last-byte is-sign accepted-plus accepted-minus
 unpacked-scan [] = refl
 unpacked-scan (b ∷ []) = rw (and-true (leb (b % 16) 9))
-unpacked-scan (b ∷ c ∷ bs) = rw (← unpacked-scan (c ∷ bs)) (apart (eqb (b / 16) 0xF) _ (leb (b % 16) 9) _ _)
+unpacked-scan (b ∷ c ∷ bs) = rw (← unpacked-scan (c ∷ bs)) (and-crossed (eqb (b / 16) 0xF) _ (leb (b % 16) 9) _ _)
 
 pub value-scan : (p : Bool) (bs : Bytes) → is-done (meaning (decimal-format p) bs) ≡ value-bytes p bs
 unfolding decimal-format meaning
 value-scan true bs = decimal-is-done (but-last (halves bs)) (last (halves bs)) ∙ packed-scan bs
 value-scan false bs =
-    need-is-done (all (λ b. eqb (b / 16) 0xF) (but-last bs)) 8 (λ _. decimal (map (λ b. b % 16) bs) (last bs / 16))
+    is-done-after (all (λ b. eqb (b / 16) 0xF) (but-last bs)) 8 (λ _. decimal (map (λ b. b % 16) bs) (last bs / 16))
     ∙ ap (λ t. all (λ b. eqb (b / 16) 0xF) (but-last bs) && t) (decimal-is-done (map (λ b. b % 16) bs) (last bs / 16))
     ∙ unpacked-scan bs
 
 -- ---- the bytes before the last, and the last
-
-pub and-assoc : (a b c : Bool) → (a && (b && c)) ≡ (a && b && c)
-and-assoc true b c = refl
-and-assoc false b c = refl
 
 value-parts : (p : Bool) (n : ℕ) (s : Bytes) → length s ≡ suc n → value-bytes p s ≡ (all (inner-byte p) (take n s) && last-byte p (getD s n 0))
 unfolding value-bytes all
@@ -86,7 +62,7 @@ value-parts p n [] e = absurd (omega arith)
 value-parts p zero (b ∷ []) e = refl
 value-parts p (suc n) (b ∷ []) e = absurd (omega arith)
 value-parts p zero (b ∷ c ∷ s) e = absurd (omega arith)
-value-parts p (suc n) (b ∷ c ∷ s) e = rw (value-parts p n (c ∷ s) (omega arith)) (and-assoc (inner-byte p b) (all (inner-byte p) (take n (c ∷ s))) (last-byte p (getD (c ∷ s) n 0)))
+value-parts p (suc n) (b ∷ c ∷ s) e = rw (value-parts p n (c ∷ s) (omega arith)) (sym (and-assoc (inner-byte p b) (all (inner-byte p) (take n (c ∷ s))) (last-byte p (getD (c ∷ s) n 0))))
 
 value-none : (p : Bool) (s : Bytes) → length s ≡ 0 → value-bytes p s ≡ false
 unfolding value-bytes
@@ -107,44 +83,6 @@ module _ (p : Bool) (s : Bytes) where
 
     pub not-inner : {a : Bool} → a ≡ all (inner-byte p) (take (length s - 1) s) → a ≡ false → false ≡ is-done (meaning (decimal-format p) s)
     not-inner e f = sym (parts ∙ rw (← e, f))
-
--- ---- a scan of the first n bytes: those from i on answer as all do
-
-pub record Scan (f : ℕ → Bool) (n : ℕ) (s : Bytes) (i : ℕ) : Type 0 where
-  pub within : n ≤ length s
-  pub upto : i ≤ n
-  pub left : all f (take (n - i) (drop i s)) ≡ all f (take n s)
-
-all-cons : (f : ℕ → Bool) (b : ℕ) (s : Bytes) → all f (b ∷ s) ≡ (f b && all f s)
-unfolding all
-all-cons f b s = refl
-
-pub all-none : (f : ℕ → Bool) → all f [] ≡ true
-unfolding all
-all-none f = refl
-
-pub scan-start : {f : ℕ → Bool} {n : ℕ} {s : Bytes} → n ≤ length s → Scan f n s 0
-scan-start {f} {n} {s} h =
-    let e : n - 0 ≡ n = omega arith in
-    record { within = h; upto = omega arith; left = rw e }
-
-module _ {f : ℕ → Bool} {n : ℕ} {s : Bytes} {i : ℕ} (w : Scan f n s i) where
-  first : i < n → all f (take (n - i) (drop i s)) ≡ (f (getD s i 0) && all f (take (n - (i + 1)) (drop (i + 1) s)))
-  first h =
-      let e : n - i ≡ suc (n - (i + 1)) = omega arith in
-      let k = w .within in
-      rw (e, drop-cons s i 0 (omega arith), ← add-one i) (all-cons f (getD s i 0) (take (n - (i + 1)) (drop (i + 1) s)))
-
-  pub scan-turn : i < n → f (getD s i 0) ≡ true → Scan f n s (i + 1)
-  scan-turn h e = record { within = w .within; upto = omega arith; left = sym (first h ∙ rw e) ∙ w .left }
-
-  pub scan-stop : i < n → f (getD s i 0) ≡ false → false ≡ all f (take n s)
-  scan-stop h e = sym (first h ∙ rw e) ∙ w .left
-
-  pub scan-end : n ≤ i → true ≡ all f (take n s)
-  scan-end h =
-      let e : n - i ≡ 0 = omega arith in
-      sym (rw e (all-none f)) ∙ w .left
 
 -- ---- a byte before the last, by its number
 

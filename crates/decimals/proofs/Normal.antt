@@ -1,6 +1,6 @@
--- The normal form of P and U: when a number fits, its bytes, when a value is in it, and a value carried to it. Assumes nothing.
+-- The normal form of P and U: when a number fits, its bytes, when a value is in it, and a value carried to it.
 use mathlib.Core.Path.{_≡_, refl, sym, _∙_, ap}
-use mathlib.Core.Bool.{Bool, true, false, and-true, false≢true}
+use mathlib.Core.Bool.{Bool, true, false, and-true}
 use mathlib.Core.List.{List, [], _∷_, _++_}
 use Prim.Native.Nat.{ℕ, zero, suc, _+_, _-_, _*_, _^_, _≤_, _<_}
 use native.Mathlib.Omega.{arith}
@@ -8,11 +8,16 @@ use lib.Dec.{eqb, ltb}
 use lib.ListN.{length}
 use borrow.Author.Tests.{lt-ltb, eqb-true, eqb-false, eq-eqb, ne-eqb}
 use Rattle.rules.specs.Outcome.{Outcome, done, refused, _>>=_, need, is-done}
+use Rattle.rules.specs.Limits.{longest-alpha}
 use Rattle.rules.specs.Lists.{Bytes, bytes-of, same}
-use Rattle.rules.specs.Values.{Format, Value, number, pairs, zoned, meaning, sign-written, normal, with-length-byte, in-normal-form, conversion, in-range, converted, carried}
+use Rattle.rules.specs.Numbers.{refusal-number}
+use Rattle.rules.specs.declared.Refusal.the-variants.{OutOfRange}
+use Rattle.rules.specs.Values.{Format, Value, number, pairs, zoned, meaning, sign-written, normal, in-normal-form, conversion, in-range, converted, carried}
 use Rattle.rules.proofs.Steps.{by-test, eqb-same}
+use Rattle.rules.proofs.Done.{is-done-need, no-length-byte}
+use Rattle.rules.proofs.Digits.{spelled-below, own-digits}
+use Rattle.words.proofs.NormalForm.{compares}
 use Rattle.decimals.specs.Decimals.{decimal-format, digits-of, sign-half, magnitude-of, is-minus, Readable, places, encoded, written}
-use Rattle.decimals.proofs.Digits.{spelled-below, digits-spelled}
 use Rattle.decimals.proofs.Halves.{length-digits-of}
 use Rattle.decimals.proofs.Sound.{Sound, sound, readable, below-ten}
 
@@ -20,16 +25,12 @@ use Rattle.decimals.proofs.Sound.{Sound, sound, readable, below-ten}
 
 module _ (p : Bool) (n : ℕ) (below : Bool) (x : ℕ) where
   normal-is : normal (decimal-format p) n (number below x)
-      ≡ (need (ltb x (10 ^ places p n)) 9 >>= λ _. done (written p n below x))
+      ≡ (need (ltb x (10 ^ places p n)) (refusal-number OutOfRange) >>= λ _. done (written p n below x))
   unfolding normal decimal-format places encoded written
   normal-is = elim p [ true ↦ refl | false ↦ refl ]
 
   pub normal-fits : is-done (normal (decimal-format p) n (number below x)) ≡ ltb x (10 ^ places p n)
-  normal-fits = ap is-done normal-is ∙ go (ltb x (10 ^ places p n)) _
-    where
-      go : (t : Bool) (bs : Bytes) → is-done (need t 9 >>= λ _. done bs) ≡ t
-      go true bs = refl
-      go false bs = refl
+  normal-fits = ap is-done normal-is ∙ is-done-need (ltb x (10 ^ places p n)) _
 
   pub normal-done : ltb x (10 ^ places p n) ≡ true
       → normal (decimal-format p) n (number below x) ≡ done (written p n below x)
@@ -64,24 +65,6 @@ unfolding encoded places
 same-encoded true n ds s t h e = same-pairs (n - 1) ds s t (omega arith)
 same-encoded false n ds s t h e = same-zoned ds s t (omega arith)
 
-form-at : (f : Format) (n : ℕ) (bs : Bytes) (o : Outcome Bytes) → (meaning f bs >>= normal f n) ≡ o
-    → in-normal-form f n bs ≡ (elim o [ done b ↦ same b (with-length-byte n bs) | refused k ↦ false ])
-unfolding in-normal-form
-form-at f n bs o e = ap (λ (r : Outcome Bytes). elim r [ done b ↦ same b (with-length-byte n bs) | refused k ↦ false ]) e
-
-no-length-byte : (n : ℕ) (bs : Bytes) → 0 < n → with-length-byte n bs ≡ bs
-unfolding with-length-byte
-no-length-byte zero bs h = absurd (omega arith)
-no-length-byte (suc n) bs h = refl
-
--- what is no value is not in normal form
-pub no-form : (f : Format) (n : ℕ) (bs : Bytes) → is-done (meaning f bs) ≡ false → in-normal-form f n bs ≡ false
-no-form f n bs e = go (meaning f bs) refl e
-  where
-    go : (m : Outcome Value) → meaning f bs ≡ m → is-done m ≡ false → in-normal-form f n bs ≡ false
-    go (done v) q e = absurd (false≢true (sym e))
-    go (refused k) q e = form-at f n bs (refused k) (rw q)
-
 -- "P and U to each other, all values"
 every-value : (p q : Bool) (w : Value) → in-range (conversion (decimal-format p) (decimal-format q)) w ≡ true
 unfolding in-range conversion decimal-format
@@ -98,9 +81,8 @@ module _ {p : Bool} {bs : Bytes} (v : Sound p bs) where
       let ten = below-ten p bs (v .nines) in
       let l = length-digits-of p bs in
       let h = rw l at (spelled-below 10 (digits-of p bs) ten) in
-      let d = rw l at (digits-spelled 10 (digits-of p bs) ten) in
-      let b = written p (length bs) (is-minus p bs) (magnitude-of p bs) in
-      form-at (decimal-format p) (length bs) bs (done b) (rw (v .means) (normal-done p (length bs) (is-minus p bs) (magnitude-of p bs) (lt-ltb _ _ h)))
+      let d = rw l at (own-digits 10 (digits-of p bs) ten) in
+      compares (decimal-format p) (length bs) bs {b = written p (length bs) (is-minus p bs) (magnitude-of p bs)} (rw (v .means) (normal-done p (length bs) (is-minus p bs) (magnitude-of p bs) (lt-ltb _ _ h)))
       ∙ rw (no-length-byte (length bs) bs (v .some), d)
       (ap (λ b. same (encoded p (digits-of p bs) (sign-written (is-minus p bs))) b) (sym (v .whole))
       ∙ same-encoded p (length bs) (digits-of p bs) _ _ (v .some) l)
@@ -123,7 +105,7 @@ module _ (p q : Bool) (n : ℕ) (bs : Bytes) (e : is-done (carried (decimal-form
   carried-sound : Sound p bs
   carried-sound = sound p bs (carried-value (decimal-format p) (decimal-format q) n bs e)
 
-  pub carried-readable : length bs ≤ 253 → Readable p bs
+  pub carried-readable : length bs ≤ longest-alpha → Readable p bs
   carried-readable = readable carried-sound
 
   pub carried-bytes : bytes-of (carried (decimal-format p) (decimal-format q) n bs) ≡ written q n (is-minus p bs) (magnitude-of p bs)

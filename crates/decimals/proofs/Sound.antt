@@ -1,25 +1,24 @@
--- The facts of a P or U value, from its having a meaning. Assumes nothing.
+-- The facts of a P or U value, from its having a meaning.
 use mathlib.Core.Path.{_≡_, refl, sym, _∙_, ap}
 use mathlib.Core.Bool.{Bool, true, false, _&&_, false≢true}
 use mathlib.Core.List.{List, [], _∷_, _++_, map}
 use Prim.Native.Nat.{ℕ, _+_, _*_, _/_, _%_, _≤_, _<_}
 use native.Mathlib.Omega.{arith}
-use lib.Dec.{T, eqb, leb, ltb, leb→le, lt→ltb, eqb→eq}
-use lib.ListN.{length}
+use lib.Dec.{T, eqb, leb, ltb, leb→le, eqb→eq}
+use lib.ListN.{length, getD}
 use borrow.Author.Tests.{eqb-true, ne-eqb}
 use Rattle.rules.specs.Outcome.{Outcome, done, refused, is-done}
+use Rattle.rules.specs.Limits.{longest-alpha}
 use Rattle.rules.specs.Lists.{Bytes, all, spelled, but-last, last}
 use Rattle.rules.specs.Values.{Value, number, signed, halves, pairs, zoned, accepted-plus, accepted-minus, sign-means, decimal, meaning}
 use Rattle.rules.proofs.Steps.{by-test, true-T, T-true, and-left, and-right, not-done, from-bind, from-need, done-inj}
-use Rattle.decimals.specs.Decimals.{decimal-format, digits-of, sign-half, magnitude-of, is-minus, all-digits, Readable, encoded, value-bytes}
-use Rattle.decimals.proofs.Digits.{all-weaker}
+use Rattle.rules.proofs.Done.{done-some}
+use Rattle.rules.proofs.Digits.{Below, all-getD}
+use Rattle.decimals.specs.Decimals.{decimal-format, digits-of, sign-half, magnitude-of, is-minus, all-digits, Readable, encoded}
+use Rattle.decimals.specs.Tests.{value-bytes}
 use Rattle.decimals.proofs.Meanings.{value-scan}
 
 -- ---- the meaning
-
-done-some : {A : Type 0} (m : Outcome A) → is-done m ≡ true → (a : A) × (m ≡ done a)
-done-some (done a) e = (a, refl)
-done-some (refused n) e = absurd (false≢true e)
 
 plus-not-minus : (s : ℕ) → accepted-plus s ≡ true → accepted-minus s ≡ false
 unfolding accepted-plus accepted-minus
@@ -90,10 +89,11 @@ some-bytes p [] e = absurd (false≢true e)
 some-bytes p (b ∷ bs) e = omega arith
 
 -- digits that are at most 9 are below ten
-pub below-ten : (p : Bool) (bs : Bytes) → all-digits p bs ≡ true → T (all (λ d. ltb d 10) (digits-of p bs))
+pub below-ten : (p : Bool) (bs : Bytes) → all-digits p bs ≡ true → Below 10 (digits-of p bs)
 unfolding all-digits
-below-ten p bs e =
-    all-weaker (λ d. leb d 9) (λ d. ltb d 10) (λ d h. lt→ltb d 10 (let q = leb→le d 9 h in omega arith)) (digits-of p bs) (true-T e)
+below-ten p bs e i =
+    let q = leb→le (getD (digits-of p bs) i 0) 9 (all-getD (λ d. leb d 9) (digits-of p bs) (true-T e) tt i) in
+    omega arith
 
 sound-as : (p : Bool) (bs : Bytes) (v : Value) → 0 < length bs → meaning (decimal-format p) bs ≡ done v → Sound p bs
 unfolding decimal-format meaning digits-of sign-half magnitude-of is-minus all-digits encoded
@@ -110,5 +110,5 @@ sound p bs e =
     let r = done-some (meaning (decimal-format p) bs) e in
     sound-as p bs (r .0) (some-bytes p bs (sym (value-scan p bs) ∙ e)) (r .1)
 
-pub readable : {p : Bool} {bs : Bytes} → Sound p bs → length bs ≤ 253 → Readable p bs
+pub readable : {p : Bool} {bs : Bytes} → Sound p bs → length bs ≤ longest-alpha → Readable p bs
 readable v h = record { some = v .some; short = h; nines = v .nines }

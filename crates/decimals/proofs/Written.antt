@@ -1,5 +1,5 @@
--- The bytes of a number in normal form are those before the last, each with the digits of its place, and the last; so a store behind
--- bytes that are still to be written is a part of the write. Assumes nothing.
+-- The bytes of a number in normal form are those before the last, each with the digits of its place, and the last; so a store after
+-- bytes that are still to be written is a part of the write.
 use mathlib.Core.Path.{_≡_, refl, sym, _∙_, ap}
 use mathlib.Core.Bool.{Bool, true, false}
 use mathlib.Core.List.{List, [], _∷_, _++_, map, map-append, append-nil, append-assoc}
@@ -11,11 +11,10 @@ use lib.ListN.{length, drop, set, replicate, length-append, length-set, length-m
 use lib.Seq.{drop-append-le}
 use Rattle.rules.specs.Lists.{digits}
 use Rattle.rules.specs.Values.{pairs, zoned, sign-written}
+use Rattle.rules.proofs.Digits.{length-digits, digits-zero}
 use Rattle.buffer.specs.Splice.{splice}
 use Rattle.buffer.proofs.Laws.{splice-nil}
-use Rattle.words.proofs.Digits.{digits-zero}
 use Rattle.decimals.specs.Decimals.{places, encoded, written, byte-base, inner-written, front, last-written}
-use Rattle.decimals.proofs.Digits.{length-digits}
 
 pub sign-small : (b : Bool) → sign-written b ≤ 15
 unfolding sign-written
@@ -127,7 +126,7 @@ length-written p n below x h =
     let l = length-front p (n - 1) (x / 10) in
     rw (written-front p n below x h, length-append (front p (n - 1) (x / 10))) (omega arith)
 
--- ---- a store behind bytes that are still to be written
+-- ---- a store after bytes that are still to be written
 
 behind : (out : List ℕ) (at : ℕ) (a : List ℕ) (q v : ℕ) → q ≡ at + length a → q < length out → splice at a (set out q v) ≡ splice at (a ++ (v ∷ [])) out
 unfolding splice

@@ -1,14 +1,14 @@
 -- Formats P and U in one: the digits and the sign that bytes have, and the bytes that digits and a sign make.
 -- A Bool selects the format: true is P (packed), false is U (unpacked).
-use mathlib.Core.Bool.{Bool, true, false, _&&_, _||_}
+use mathlib.Core.Bool.{Bool, true, false, _&&_}
 use mathlib.Core.List.{List, [], _∷_, _++_, map}
 use mathlib.Core.Path.{_≡_}
-use Prim.Native.Nat.{ℕ, suc, _+_, _-_, _*_, _/_, _%_, _≤_, _<_}
-use lib.Dec.{eqb, leb, ltb}
-use lib.ListN.{length, take}
-use Rattle.rules.specs.Limits.{greatest-word}
+use Prim.Native.Nat.{ℕ, _+_, _-_, _*_, _/_, _%_, _≤_, _<_}
+use lib.Dec.{leb, ltb}
+use lib.ListN.{length}
+use Rattle.rules.specs.Limits.{longest-alpha}
 use Rattle.rules.specs.Lists.{Bytes, all, spelled, digits, but-last, last}
-use Rattle.rules.specs.Values.{Format, packed, unpacked, halves, pairs, zoned, accepted-plus, accepted-minus, sign-written}
+use Rattle.rules.specs.Values.{Format, packed, unpacked, halves, pairs, zoned, accepted-minus, sign-written}
 
 unfoldable pub decimal-format : Bool → Format
 decimal-format true = packed
@@ -26,10 +26,6 @@ sign-half false bs = last bs / 16
 unfoldable pub magnitude-of : Bool → Bytes → ℕ
 magnitude-of p bs = spelled 10 (digits-of p bs) 0
 
--- The number that the first j digits spell.
-unfoldable pub first-spelled : Bool → Bytes → ℕ → ℕ
-first-spelled p bs j = spelled 10 (take j (digits-of p bs)) 0
-
 -- Below zero: "zero with D means zero".
 unfoldable pub is-minus : Bool → Bytes → Bool
 is-minus p bs = accepted-minus (sign-half p bs) && ltb 0 (magnitude-of p bs)
@@ -38,16 +34,11 @@ is-minus p bs = accepted-minus (sign-half p bs) && ltb 0 (magnitude-of p bs)
 unfoldable pub all-digits : Bool → Bytes → Bool
 all-digits p bs = all (λ d. leb d 9) (digits-of p bs)
 
--- Bytes whose digits can be read; so few that their digits can be counted.
+-- Bytes whose digits can be read, few enough for their digits to be counted.
 pub record Readable (p : Bool) (bs : Bytes) : Type 0 where
   pub some : 0 < length bs
-  pub short : length bs ≤ 253
+  pub short : length bs ≤ longest-alpha
   pub nines : all-digits p bs ≡ true
-
--- A number that is the magnitude, unless it is greater than any in a conversion range: then the magnitude is no less.
-pub record Reckoned (p : Bool) (bs : Bytes) (x : ℕ) : Type 0 where
-  pub reached : x ≤ magnitude-of p bs
-  pub exact : x ≤ suc greatest-word → x ≡ magnitude-of p bs
 
 -- How many digits n bytes hold.
 unfoldable pub places : Bool → ℕ → ℕ
@@ -63,7 +54,7 @@ encoded false ds s = zoned ds s
 unfoldable pub written : Bool → ℕ → Bool → ℕ → Bytes
 written p n below x = encoded p (digits 10 (places p n) x) (sign-written below)
 
--- A byte before the last has two digits in P and one in U; the m bytes with the last digits of a number.
+-- A byte before the last has two digits in P and one in U; `front` is m such bytes, with the last digits of a number.
 unfoldable pub byte-base : Bool → ℕ
 byte-base true = 100
 byte-base false = 10
@@ -79,22 +70,3 @@ front p m x = map (inner-written p) (digits (byte-base p) m x)
 unfoldable pub last-written : Bool → ℕ → ℕ → ℕ
 last-written true d s = d * 16 + s
 last-written false d s = s * 16 + d
-
--- An accepted sign.
-unfoldable pub is-sign : ℕ → Bool
-is-sign s = accepted-plus s || accepted-minus s
-
--- What a byte before the last must be, and the last.
-unfoldable pub inner-byte : Bool → ℕ → Bool
-inner-byte true b = leb (b / 16) 9 && leb (b % 16) 9
-inner-byte false b = eqb (b / 16) 0xF && leb (b % 16) 9
-
-unfoldable pub last-byte : Bool → ℕ → Bool
-last-byte true b = leb (b / 16) 9 && is-sign (b % 16)
-last-byte false b = leb (b % 16) 9 && is-sign (b / 16)
-
--- Whether bytes are a value, byte after byte.
-unfoldable pub value-bytes : Bool → Bytes → Bool
-value-bytes p [] = false
-value-bytes p (b ∷ []) = last-byte p b
-value-bytes p (b ∷ c ∷ bs) = inner-byte p b && value-bytes p (c ∷ bs)

@@ -1,1 +1,4 @@
 pub mod Decimals
+pub mod Tests
+pub mod Conversion
+pub mod Numbers

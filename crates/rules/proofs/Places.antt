@@ -13,6 +13,7 @@ use Rattle.rules.specs.Format.{Range}
 use Rattle.rules.specs.Use.{Place, Item, blanks-item, text-item, group-count, value-count, value-item, Asked, value-items}
 use Rattle.rules.specs.Update.{same-place, meet}
 use Rattle.rules.proofs.Steps.{and-left, and-right, and-intro, by-test, true-T}
+use Rattle.rules.proofs.Bools.{or-crossed, or-left, or-right, both-ways}
 
 -- "Counts, spaces and text name nothing."
 unfoldable pub places-of : List Item → List Place
@@ -42,16 +43,10 @@ unfolding any
 none-there [] = refl
 none-there (x ∷ xs) = none-there xs
 
-four : (a b c d : Bool) → ((a || b) || (c || d)) ≡ ((a || c) || (b || d))
-four true b c d = refl
-four false true true d = refl
-four false true false d = refl
-four false false c d = refl
-
 any-or : {A : Type 0} (f g : A → Bool) (xs : List A) → any (λ x. f x || g x) xs ≡ (any f xs || any g xs)
 unfolding any
 any-or f g [] = refl
-any-or f g (x ∷ xs) = rw (any-or f g xs) (four (f x) (g x) (any f xs) (any g xs))
+any-or f g (x ∷ xs) = rw (any-or f g xs) (or-crossed (f x) (g x) (any f xs) (any g xs))
 
 pub clash-none : (ps : List Place) → clash ps [] ≡ false
 unfolding clash any
@@ -244,20 +239,6 @@ grid-once fs i (suc n) k m d =
     ∙ any-row (among fs) (in-count (suc i) n) (in-count k m) fs i k m
     ∙ rw (none-below i (suc i) n (omega arith), and-false (any (λ a. among fs (a .field .name)) fs)) in
     rw (repeats-append (row fs i k m) (grid fs (suc i) n k m), row-once fs i k m d, c) (grid-once fs (suc i) n k m d)
-
-or-left : (a b : Bool) → T a → T (a || b)
-or-left true b t = tt
-or-left false b t = absurd t
-
-or-right : (a b : Bool) → T b → T (a || b)
-or-right true b t = tt
-or-right false b t = t
-
-both-ways : (a b : Bool) → (T a → T b) → (T b → T a) → a ≡ b
-both-ways true true f g = refl
-both-ways true false f g = absurd (f tt)
-both-ways false true f g = absurd (g tt)
-both-ways false false f g = refl
 
 -- A test holds somewhere among n numbers from i on where it holds at one of them, and only there.
 pub there : (f : ℕ → Bool) (i n k : ℕ) → i ≤ k → k < i + n → T (f k) → T (any f (counting i n))

@@ -19,7 +19,7 @@ use Rattle.buffer.proofs.Cases.{by-order}
 use Rattle.words.specs.Words.{pick, signed-value, word-of, value-of}
 use Rattle.words.specs.declared.Signed.{Signed}
 use Rattle.words.specs.declared.Word.the-variants.{Number, Outside}
-use Rattle.words.proofs.Digits.{length-digits}
+use Rattle.rules.proofs.Digits.{length-digits}
 use Rattle.decimals.specs.Decimals.{decimal-format}
 use Rattle.decimals.proofs.Normal.{normal-fits, normal-done, carried-value}
 use Rattle.decimals.proofs.Written.{length-written}

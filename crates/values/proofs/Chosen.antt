@@ -14,7 +14,7 @@ use Rattle.buffer.proofs.Cases.{by-order}
 use Rattle.words.specs.Words.{signed-value, word-of, value-of}
 use Rattle.words.specs.declared.Signed.{Signed}
 use Rattle.words.specs.declared.Word.the-variants.{Number, Outside}
-use Rattle.words.proofs.Digits.{Below}
+use Rattle.rules.proofs.Digits.{Below}
 use Rattle.words.proofs.Fixed.{twos-plus, twos-minus, fixed-normal}
 use Rattle.binaries.proofs.Binary.{binary-normal}
 use Rattle.decimals.specs.Decimals.{decimal-format}

@@ -15,7 +15,7 @@ use Rattle.rules.specs.Lists.{Bytes, spelled, digits}
 use Rattle.rules.specs.Values.{Format, alpha, binary, fixed, packed, unpacked, Value, text, number, allowed, strip, meaning, normal, null, null-value, content, with-length-byte, in-normal-form, twos-complement, accepted-minus, every, conversion, converts, in-range, converted, carried}
 use Rattle.rules.proofs.Steps.{from-bind, from-need, done-inj, not-done, T-true}
 use Rattle.buffer.proofs.Cases.{by-order}
-use Rattle.words.proofs.Digits.{Below, length-digits, spelled-digits, spelled-below}
+use Rattle.rules.proofs.Digits.{Below, length-digits, spelled-digits, spelled-below}
 use Rattle.words.proofs.Fixed.{twos-plus, twos-minus}
 use Rattle.words.proofs.NormalForm.{is-normal-form, normal-form-is}
 use Rattle.decimals.specs.Decimals.{decimal-format, sign-half, is-minus, magnitude-of, places}

@@ -15,8 +15,8 @@ use Rattle.rules.specs.Values.{Format, alpha, binary, fixed, packed, unpacked, 
 use Rattle.rules.proofs.Steps.{by-test}
 use Rattle.buffer.specs.Splice.{splice}
 use Rattle.buffer.proofs.Laws.{splice-nil, length-splice, splice-rest}
-use Rattle.words.proofs.Digits.{digits-zero}
-use Rattle.words.proofs.Fixed.{done-need}
+use Rattle.rules.proofs.Done.{done-need}
+use Rattle.rules.proofs.Digits.{digits-zero}
 use Rattle.values.specs.Formats.{format-at}
 use Rattle.kinds.proofs.Five.{five}
 use Rattle.values.proofs.Numbered.{from-one}

@@ -14,8 +14,8 @@ use Rattle.rules.specs.Characters.{space}
 use Rattle.rules.specs.Lists.{Bytes, bytes-of, same}
 use Rattle.rules.specs.Values.{text, alpha, strip, meaning, normal, carried, converted, conversion, in-range, in-normal-form, with-length-byte}
 use Rattle.rules.proofs.Steps.{by-test, same-same}
-use Rattle.words.proofs.NormalForm.{is-normal-form, compares, no-length-byte}
-use Rattle.words.proofs.Fixed.{is-done-need, done-need}
+use Rattle.rules.proofs.Done.{is-done-need, done-need, no-length-byte}
+use Rattle.words.proofs.NormalForm.{is-normal-form, compares}
 use Rattle.values.proofs.Carried.{no-fit, normal-length, done-bytes}
 
 -- One byte before a text.

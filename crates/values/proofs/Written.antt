@@ -12,7 +12,7 @@ use Rattle.rules.specs.Lists.{all, spelled, digits, but-last, last}
 use Rattle.rules.specs.Values.{number, packed, unpacked, signed, halves, pairs, zoned, accepted-plus, accepted-minus, sign-means, sign-written, decimal, meaning}
 use Rattle.rules.proofs.Steps.{need-true, and-intro, and-left, and-right, true-T}
 use Rattle.decimals.specs.Decimals.{decimal-format, places, encoded, written}
-use Rattle.decimals.proofs.Digits.{all-snoc, all-weaker, all-digits-below, length-digits, spelled-digits}
+use Rattle.rules.proofs.Digits.{all-snoc, all-weaker, all-digits-below, length-digits, spelled-digits}
 
 -- The last of a list, and all but it.
 but-last-snoc : (ds : List ℕ) (d : ℕ) → but-last (ds ++ (d ∷ [])) ≡ ds

@@ -12,13 +12,14 @@ use mir.Syntax.{w32}
 use mir.Val.{SFits, toZ, ofZ}
 use mir.Facts.{toZ-ofZ}
 use Rattle.buffer.proofs.Cases.{by-order}
-use Rattle.rules.specs.Outcome.{done, _>>=_, need, is-done}
+use Rattle.rules.specs.Outcome.{done, _>>=_, is-done}
 use Rattle.rules.specs.Lists.{Bytes, bytes-of, digits, spelled}
 use Rattle.rules.specs.Values.{number, fixed, meaning, normal, twos-complement, in-normal-form}
 use Rattle.words.specs.Signs.{sign-of, with-sign, greatest}
 use Rattle.words.specs.Words.{signed-value}
-use Rattle.words.proofs.Digits.{Below, own-digits, spelled-below}
-use Rattle.words.proofs.NormalForm.{is-normal-form, no-length-byte}
+use Rattle.rules.proofs.Done.{is-done-need, done-need, no-length-byte}
+use Rattle.rules.proofs.Digits.{Below, own-digits, spelled-below}
+use Rattle.words.proofs.NormalForm.{is-normal-form}
 
 pub not-2 : {n : ℕ} → (n ≡ 2) ⊎ (n ≡ 4) → (n ≡ 4 → ⊥) → n ≡ 2
 not-2 o no-4 = ⊎-elim (λ h. h) (λ h. absurd (no-4 h)) o
@@ -35,9 +36,9 @@ twos-minus size n h = rw (le-ltb n (2 ^ (8 * size - 1)) h, twos-complement)
 -- The sign and magnitude of an i32's bits; of two bytes, with the sign's bit copied upwards.
 pub sign-bits : (n : ℕ) → n < 4294967296 → signed-value (sign-of (toZ w32 n)) ≡ twos-complement 4 n
 sign-bits n h =
-    by-order n 2147483648
-    (λ l. rw (lt-ltb n 2147483648 l) (sym (twos-plus 4 n l)))
-    (λ l. rw (le-ltb n 2147483648 l) (ap (number true) (omega arith) ∙ sym (twos-minus 4 n l)))
+    by-order n 0x80000000
+    (λ l. rw (lt-ltb n 0x80000000 l) (sym (twos-plus 4 n l)))
+    (λ l. rw (le-ltb n 0x80000000 l) (ap (number true) (omega arith) ∙ sym (twos-minus 4 n l)))
 
 pub low-bits : (n : ℕ) → n < 32768 → twos-complement 4 n ≡ twos-complement 2 n
 low-bits n h = twos-plus 4 n (omega arith) ∙ sym (twos-plus 2 n h)
@@ -49,15 +50,6 @@ high-bits n h l = twos-minus 4 (n + 4294901760) (omega arith) ∙ ap (number tru
 pub decoded : (r : ℤ) (n : ℕ) → SFits w32 r → r ≡ toZ w32 n → n < 4294967296
     → signed-value (sign-of (toZ w32 (ofZ w32 r))) ≡ twos-complement 4 n
 decoded r n f e h = ap (λ z. signed-value (sign-of z)) (toZ-ofZ f ∙ e) ∙ sign-bits n h
-
--- What is done where a test passes.
-pub is-done-need : (t : Bool) (b : Bytes) → is-done (need t 9 >>= λ _. done b) ≡ t
-is-done-need true b = refl
-is-done-need false b = refl
-
-pub done-need : (t : Bool) (b : Bytes) → t ≡ true → (need t 9 >>= λ _. done b) ≡ done b
-done-need true b e = refl
-done-need false b e = cc
 
 -- The ranges of n bytes.
 pub fits-plus : (n x : ℕ) → is-done (normal fixed n (number false x)) ≡ ltb x (2 ^ (8 * n - 1))
@@ -126,7 +118,7 @@ fixed-bytes n o true x d = rw (minus-normal n x (minus-upto n x d)) (minus-digit
 -- Bytes of format F give themselves back, whatever they are.
 module _ (n : ℕ) (bs : Bytes) (size : length bs ≡ n) (b : Below 256 bs) (whole : 256 ^ n ≡ 2 ^ (8 * n)) (halved : 2 ^ (8 * n) ≡ 2 ^ (8 * n - 1) + 2 ^ (8 * n - 1)) where
   back : digits 256 n (spelled 256 bs 0) ≡ bs
-  back = rw size at (own-digits bs b)
+  back = rw size at (own-digits 256 bs b)
 
   again-plus : spelled 256 bs 0 < 2 ^ (8 * n - 1) → normal fixed n (twos-complement n (spelled 256 bs 0)) ≡ done bs
   again-plus h = rw (twos-plus n (spelled 256 bs 0) h) (plus-normal n (spelled 256 bs 0) h ∙ ap done back)

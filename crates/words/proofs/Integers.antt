@@ -1,4 +1,4 @@
--- The laws of ℤ that the functions over i32 want: the only place that computes with ℤ. Assumes nothing.
+-- The laws of ℤ that the functions over i32 want: the only place that computes with ℤ.
 use mathlib.Core.Path.{_≡_, refl, sym, ap, subst, _∙_}
 use mathlib.Core.Bool.{true, false, not}
 use Prim.Native.Nat.{ℕ, zero, suc, _+_, _-_, _<_, _≤_}
@@ -13,7 +13,7 @@ use mir.Val.{SFits, Fits, toZ, ofZ}
 use mir.Facts.{toZ-ofZ, toZ-pos}
 
 -- ---- minus: -(k + 1), from k as an i32
-neg-fits : (k : ℕ) → k < 2147483648 → SFits w32 (negℤ (pos k))
+neg-fits : (k : ℕ) → k < 0x80000000 → SFits w32 (negℤ (pos k))
 neg-fits zero h = record { sfits = omega arith }
 neg-fits (suc k) h = record { sfits = omega arith }
 
@@ -21,7 +21,7 @@ pred-neg : (k : ℕ) → predℤ (negℤ (pos k)) ≡ negsuc k
 pred-neg zero = refl
 pred-neg (suc k) = refl
 
-module _ (k : ℕ) (h : k < 2147483648) where
+module _ (k : ℕ) (h : k < 0x80000000) where
   negated : pos 0 -ℤ toZ w32 k ≡ negℤ (pos k)
   negated = ap (λ (z : ℤ). pos 0 -ℤ z) (toZ-pos w32 h) ∙ +ℤ-idl (negℤ (pos k))
 
@@ -109,11 +109,8 @@ below-bits (pos n) t = absurd t
 below-bits (negsuc n) t = omega arith
 
 -- ---- the number of bits from 2 ^ 31 on
-pub high : (n : ℕ) → 2147483648 ≤ n → negsuc (4294967295 - n) ≡ toZ w32 n
-high n h = rw (le-ltb n 2147483648 h) (ap negsuc (omega arith))
-
-pub mag-fits : (x : ℤ) → SFits w32 x → mag x < 2147483648
-mag-fits x f = f .sfits
+pub high : (n : ℕ) → 0x80000000 ≤ n → negsuc (4294967295 - n) ≡ toZ w32 n
+high n h = rw (le-ltb n 0x80000000 h) (ap negsuc (omega arith))
 
 -- ---- sign and magnitude
 pub sign-below : (x : ℤ) → T (not (nonNeg x)) → signed-word true (mag x + 1) ≡ sign-of x
@@ -131,5 +128,5 @@ pub minus-of : (m : ℕ) → (m ≡ 0 → ⊥) → negsuc (m - 1) ≡ negℤ (po
 minus-of zero h = absurd (h refl)
 minus-of (suc m) h = ap negsuc (omega arith)
 
-pub back-negsuc : (k : ℕ) → k < 2147483648 → toZ w32 (ofZ w32 (negsuc k)) ≡ negsuc k
+pub back-negsuc : (k : ℕ) → k < 0x80000000 → toZ w32 (ofZ w32 (negsuc k)) ≡ negsuc k
 back-negsuc k h = toZ-ofZ {w = w32} {z = negsuc k} (record { sfits = h })

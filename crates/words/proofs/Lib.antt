@@ -1,4 +1,3 @@
-pub mod Digits
 pub mod Scans
 pub mod Integers
 pub mod NormalForm

@@ -1,11 +1,10 @@
 -- When bytes are in normal form, for every format: what their meaning is written as is compared with them.
 use mathlib.Core.Path.{_≡_, refl, sym, _∙_, ap}
-use mathlib.Core.Bool.{Bool, true, false}
-use Prim.Native.Nat.{ℕ, zero, suc, _<_}
-use native.Mathlib.Nat.{not-suc-le-zero}
-use Rattle.rules.specs.Outcome.{Outcome, done, refused, _>>=_}
+use mathlib.Core.Bool.{Bool, true, false, false≢true}
+use Prim.Native.Nat.{ℕ}
+use Rattle.rules.specs.Outcome.{Outcome, done, refused, _>>=_, is-done}
 use Rattle.rules.specs.Lists.{Bytes, same}
-use Rattle.rules.specs.Values.{Format, meaning, normal, in-normal-form, with-length-byte}
+use Rattle.rules.specs.Values.{Format, Value, meaning, normal, in-normal-form, with-length-byte}
 use Rattle.rules.proofs.Steps.{same-same, same-eq, true-T}
 
 compared : Outcome Bytes → Bytes → Bool
@@ -39,8 +38,11 @@ pub compares : (f : Format) (n : ℕ) (bs : Bytes) {b : Bytes} → (meaning f bs
 unfolding compared
 compares f n bs e = in-form f n bs ∙ rw e
 
--- A length of its own has no length byte.
-pub no-length-byte : (n : ℕ) (bs : Bytes) → 0 < n → with-length-byte n bs ≡ bs
-unfolding with-length-byte
-no-length-byte zero bs h = absurd (not-suc-le-zero h)
-no-length-byte (suc n) bs h = refl
+-- What is no value is not in normal form.
+pub no-form : (f : Format) (n : ℕ) (bs : Bytes) → is-done (meaning f bs) ≡ false → in-normal-form f n bs ≡ false
+unfolding compared
+no-form f n bs e = in-form f n bs ∙ go (meaning f bs) e
+  where
+    go : (m : Outcome Value) → is-done m ≡ false → compared (m >>= normal f n) (with-length-byte n bs) ≡ false
+    go (done v) e = absurd (false≢true (sym e))
+    go (refused k) e = refl

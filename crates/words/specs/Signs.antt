@@ -2,6 +2,7 @@
 use mathlib.Core.Bool.{Bool, true, false}
 use Prim.Native.Nat.{ℕ, _+_}
 use lib.IntN.{ℤ, pos, negsuc, negℤ}
+use Rattle.rules.specs.Limits.{lowest-word, greatest-word}
 use Rattle.words.specs.declared.Signed.{Signed}
 
 abbrev pub signed-word : Bool → ℕ → Signed
@@ -15,7 +16,7 @@ abbrev pub with-sign : Bool → ℕ → ℤ
 with-sign true n = negℤ (pos n)
 with-sign false n = pos n
 
--- The greatest magnitude of a sign in four bytes.
+-- The greatest magnitude of a number below zero, and of one that is not.
 abbrev pub greatest : Bool → ℕ
-greatest true = 2147483648
-greatest false = 2147483647
+greatest true = lowest-word
+greatest false = greatest-word

@@ -1,11 +1,9 @@
 -- What the code's numbers mean, as values of `rules`.
 use mathlib.Core.Bool.{Bool, true, false}
 use mathlib.Core.List.{[]}
-use Prim.Native.Nat.{ℕ, suc}
 use lib.Dec.{leb}
 use Rattle.rules.specs.Outcome.{Outcome, done, refused}
-use Rattle.rules.specs.Limits.{greatest-word}
-use Rattle.rules.specs.Lists.{Bytes}
+use Rattle.rules.specs.Limits.{lowest-word}
 use Rattle.rules.specs.Values.{Value, text, number}
 use Rattle.words.specs.declared.Signed.{Signed}
 use Rattle.words.specs.declared.Word.{Word}
@@ -18,10 +16,10 @@ abbrev pub pick : Bool → Word → Word → Word
 pick true a b = a
 pick false a b = b
 
--- The word that a value is: a number of at most 2,147,483,648, or outside.
+-- The word that a value is: a number whose magnitude is at most lowest-word, or outside.
 unfoldable pub word-of : Value → Word
 word-of (text t) = Outside
-word-of (number below n) = pick (leb n (suc greatest-word)) (Number (record { negative = below; magnitude = n })) Outside
+word-of (number below n) = pick (leb n lowest-word) (Number (record { negative = below; magnitude = n })) Outside
 
 -- The value of an outcome; that of a refusal is of no use.
 unfoldable pub value-of : Outcome Value → Value

@@ -23,21 +23,21 @@ pub struct Signed {
     pub magnitude: u32,
 }
 
-// A number of magnitude 2,147,483,648 at most; or one outside every conversion range.
+// A number whose magnitude is at most LOWEST_WORD, or one outside every conversion range.
 pub enum Word {
     Number(Signed),
     Outside,
 }
 
-// −(k + 1): the only function that makes a number below zero.
+// −(k + 1): every i32 below zero is made here.
 fn minus(k: u32) -> i32
-    requires { ⌜ k < 2147483648 ⌝ }
+    requires { ⌜ k < 0x80000000 ⌝ }
     ensures { λ r. ⌜ r ≡ negsuc k ⌝ }
 {
     -(k as i32) - 1
 }
 
-// The k of x = −(k + 1): the only function that negates. −(x + 1) fits at −2,147,483,648 too, where −x does not.
+// The k of x = −(k + 1). −(x + 1) fits an i32 for the lowest x too, where −x does not.
 fn unminus(x: i32) -> u32
     requires { ⌜ T (not (nonNeg x)) ⌝ }
     ensures { λ r. ⌜ r ≡ mag x ⌝ }
@@ -67,7 +67,7 @@ fn to_bits(x: i32) -> u32
     }
 }
 
-// Sign and magnitude of x; −2,147,483,648 has the magnitude 2,147,483,648.
+// The sign and the magnitude of x; the lowest x has the magnitude LOWEST_WORD.
 fn split(x: i32) -> Signed
     ensures { λ r. ⌜ r ≡ sign-of x ⌝ }
 {
@@ -121,7 +121,7 @@ fn number_of(s: &[u8]) -> u32
     n
 }
 
-// The last n bytes of x, to out from at on.
+// Writes the last n bytes of x to out, from the place at.
 pub fn put_number(x: u32, n: usize, out: &mut [u8], at: usize)
     requires { ⌜ at + n ≤ length (now out) ⌝ }
     ensures { λ _. ⌜ now (out .exit) ≡ splice at (digits 256 n x) (now (out .entry)) ⌝ }
@@ -159,7 +159,7 @@ pub fn fixed_word(s: &[u8]) -> Signed
     split(decode(s))
 }
 
-// The first magnitude that n bytes hold only below zero.
+// 2^(8n − 1): the least magnitude that fits n bytes only as a number below zero.
 fn half(n: usize) -> u32
     requires { ⌜ (n ≡ 2) ⊎ (n ≡ 4) ⌝ }
     ensures { λ r. ⌜ r ≡ 2 ^ (8 * n - 1) ⌝ }
@@ -180,7 +180,7 @@ pub fn fixed_fits(v: Signed, n: usize) -> bool
     }
 }
 
-// v in n bytes of format F, to out from at on.
+// Writes v as n bytes of format F to out, from the place at.
 pub fn write_fixed(v: Signed, n: usize, out: &mut [u8], at: usize)
     requires { ⌜ ((n ≡ 2) ⊎ (n ≡ 4)) × (is-done (normal fixed n (signed-value v)) ≡ true) × (at + n ≤ length (now out)) ⌝ }
     ensures { λ _. ⌜ now (out .exit) ≡ splice at (bytes-of (normal fixed n (signed-value v))) (now (out .entry)) ⌝ }

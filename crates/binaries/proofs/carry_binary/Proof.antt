@@ -1,4 +1,4 @@
--- `binaries::carry_binary` meets its contract: the last bytes, or all of them behind zeros.
+-- `binaries::carry_binary` meets its contract: the last bytes, or all of them after zeros.
 use mathlib.Core.Path.{ap, sym, _∙_}
 use native.Mathlib.Omega.{arith}
 use Prim.Native.Nat.{ℕ, _-_}

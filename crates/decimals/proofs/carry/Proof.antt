@@ -1,9 +1,9 @@
--- `decimals::carry` meets its contract: the last byte is written, and the digits before it to the bytes before it. Assumes nothing.
+-- `decimals::carry` meets its contract: the last byte is written, and the digits before it to the bytes before it.
 use mathlib.Core.Path.{refl, _∙_}
 use lib.ListN.{length-set}
 use Rattle.decimals.specs.Decimals.{magnitude-of, is-minus}
-use Rattle.decimals.proofs.Written.{written-last-first}
 use Rattle.decimals.proofs.Normal.{carried-value, carried-readable, carried-bytes}
+use Rattle.decimals.proofs.Written.{written-last-first}
 use borrow.Author.Needs.{needs}
 use Rattle.decimals.proofs.carry.Statement.{statement}
 use Rattle.decimals.proofs.carry.Tie as tie

@@ -1,4 +1,4 @@
--- `decimals::fits` meets its contract: a value fits where its magnitude has no more digits than the bytes hold. Assumes nothing.
+-- `decimals::fits` meets its contract: a value fits where its magnitude has no more digits than the bytes hold.
 use Rattle.decimals.specs.Decimals.{magnitude-of, is-minus}
 use Rattle.decimals.proofs.Sound.{sound, readable}
 use Rattle.decimals.proofs.Normal.{normal-fits, carried-is}

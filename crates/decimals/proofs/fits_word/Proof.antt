@@ -1,4 +1,4 @@
--- `decimals::fits_word` meets its contract: every number has at most ten digits, and one of fewer is below a power of ten. Assumes nothing.
+-- `decimals::fits_word` meets its contract: every number has at most ten digits, and one of fewer is below a power of ten.
 use mathlib.Core.Path.{sym, _∙_}
 use Prim.Native.Nat.{_^_, _≤_}
 use native.Mathlib.Nat.{pow-le-pow-right, lt-of-lt-of-le}

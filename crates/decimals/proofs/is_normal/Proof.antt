@@ -1,7 +1,8 @@
--- `decimals::is_normal` meets its contract: a value is in normal form where its sign is the one that is written. Assumes nothing.
+-- `decimals::is_normal` meets its contract: a value is in normal form where its sign is the one that is written.
 use mathlib.Core.Path.{sym, _∙_}
 use Rattle.decimals.proofs.Sound.{sound}
-use Rattle.decimals.proofs.Normal.{no-form, form-sign}
+use Rattle.decimals.proofs.Normal.{form-sign}
+use Rattle.words.proofs.NormalForm.{no-form}
 use borrow.Author.Needs.{needs}
 use Rattle.decimals.proofs.is_normal.Statement.{statement}
 use Rattle.decimals.proofs.is_normal.Tie as tie

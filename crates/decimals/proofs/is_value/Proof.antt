@@ -1,4 +1,4 @@
--- `decimals::is_value` meets its contract: the bytes before the last, and the last, by the format. Assumes nothing.
+-- `decimals::is_value` meets its contract: the bytes before the last, and the last, by the format.
 use Rattle.decimals.proofs.Meanings.{no-bytes, all-inner, not-inner}
 use borrow.Author.Needs.{needs}
 use Rattle.decimals.proofs.is_value.Statement.{statement}

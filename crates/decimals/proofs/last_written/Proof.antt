@@ -1,4 +1,4 @@
--- `decimals::last_written` meets its contract: which half is the digit, and which the sign. Assumes nothing.
+-- `decimals::last_written` meets its contract: which half is the digit, and which the sign.
 use native.Mathlib.Omega.{arith}
 use Rattle.decimals.specs.Decimals.{last-written}
 use Rattle.decimals.proofs.Written.{sign-small}

@@ -1,6 +1,6 @@
--- `decimals::to_word` meets its contract: the magnitude, where it is in the conversion range, and whether it is below zero. Assumes nothing.
+-- `decimals::to_word` meets its contract: the magnitude, where it is in the conversion range, and whether it is below zero.
 use Rattle.decimals.proofs.Sound.{sound, readable}
-use Rattle.decimals.proofs.Spelling.{word-outside, word-number}
+use Rattle.decimals.proofs.Reckoning.{word-outside, word-number}
 use borrow.Author.Needs.{needs}
 use Rattle.decimals.proofs.to_word.Statement.{statement}
 use Rattle.decimals.proofs.to_word.Tie as tie
@@ -9,6 +9,9 @@ reckoned-requires : tie.Need-reckoned-requires
 reckoned-requires c κs =
     let a = c .before in
     readable (sound (a .args .packed) (a .args .s .now) (a .pre .0)) (a .pre .1)
+
+cast-if1 : tie.Need-cast-if1
+cast-if1 c = search needs
 
 returns : tie.Need-returns
 returns c =
@@ -23,8 +26,8 @@ sign-requires c κs =
 below-zero-requires : tie.Need-below-zero-requires
 below-zero-requires c κs = search needs
 
-cast-t6 : tie.Need-cast-t6
-cast-t6 c = search needs
+cast-t7 : tie.Need-cast-t7
+cast-t7 c = search needs
 
 returns-2 : tie.Need-returns-2
 returns-2 c =
@@ -36,4 +39,4 @@ returns-2 c =
 pub to-word-spec : {M : Type 1} → statement M
 to-word-spec =
     tie.close
-    (tie.spec reckoned-requires returns sign-requires below-zero-requires cast-t6 returns-2)
+    (tie.spec reckoned-requires cast-if1 returns sign-requires below-zero-requires cast-t7 returns-2)

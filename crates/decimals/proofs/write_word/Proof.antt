@@ -1,9 +1,9 @@
--- `decimals::write_word` meets its contract: the last byte is written, and the digits before it to the bytes before it. Assumes nothing.
+-- `decimals::write_word` meets its contract: the last byte is written, and the digits before it to the bytes before it.
 use mathlib.Core.Path.{refl, _∙_}
 use native.Mathlib.Omega.{arith}
 use lib.ListN.{length-set}
-use Rattle.decimals.proofs.Written.{written-last-first}
 use Rattle.decimals.proofs.Normal.{normal-bytes}
+use Rattle.decimals.proofs.Written.{written-last-first}
 use borrow.Author.Needs.{needs}
 use Rattle.decimals.proofs.write_word.Statement.{statement}
 use Rattle.decimals.proofs.write_word.Tie as tie

@@ -1,4 +1,4 @@
--- `decimals::written_sign` meets its contract, by its test. Assumes nothing.
+-- `decimals::written_sign` meets its contract, by its test.
 use Rattle.rules.specs.Values.{sign-written}
 use Rattle.decimals.proofs.written_sign.Statement.{statement}
 use Rattle.decimals.proofs.written_sign.Tie as tie

@@ -1,4 +1,4 @@
--- `words::number_of` meets its contract: the bytes left, behind the number so far, spell what the whole spells.
+-- `words::number_of` meets its contract: the bytes left, after the number so far, spell what the whole spells.
 use Prim.Native.Nat.{_-_}
 use lib.ListN.{length}
 use Rattle.words.proofs.Scans.{Reading, reading-start, reading-room, reading-turn, reading-end}

@@ -1,13 +1,11 @@
 -- `words::put_number` meets its contract: the digits of the rest are the first digits of the whole.
-use Prim.Native.Nat.{_-_}
 use native.Mathlib.Omega.{arith}
 use mathlib.Core.Path.{_≡_, refl}
 use lib.ListN.{take}
 use lib.Seq.{take-all}
 use Rattle.rules.specs.Lists.{digits}
 use Rattle.buffer.proofs.Loops.{Down, down-start, down-turn, down-end}
-use Rattle.words.proofs.Digits.{length-digits}
-use Rattle.words.proofs.Scans.{digit-next}
+use Rattle.rules.proofs.Digits.{length-digits, digit-next}
 use borrow.Author.Needs.{needs}
 use Rattle.words.proofs.put_number.Statement.{statement}
 use Rattle.words.proofs.put_number.Tie as tie
