@@ -7,6 +7,7 @@ use native.Mathlib.Omega.{arith}
 use lib.Dec.{eqb}
 use lib.ListN.{getD, drop, replicate}
 use Rattle.rules.specs.Outcome.{Outcome, done}
+use Rattle.rules.specs.declared.Refusal.{Refusal}
 use Rattle.rules.specs.Characters.{period}
 use Rattle.rules.specs.Lists.{Bytes}
 use Rattle.rules.specs.Table.{Entry}
@@ -54,8 +55,8 @@ no-uses es ls us e = sym (done-inj e)
 module _ {es : List Entry} {f : Bytes} {at : ℕ} {before : List ℕ} where
   -- An element before those that are left.
   module _ (e : Element) (us : List Meaning) (w : Ahead es f before at us) (xs : List rules.Element) (q : element-of f e ∷ xs ≡ w .left) where
-    first-refused : (n : ℕ) → Means es before e (meant.Refused n) → ⊥
-    first-refused n m =
+    first-refused : (y : Refusal) → Means es before e (meant.Refused y) → ⊥
+    first-refused y m =
         from-uses es (w .indexes) (element-of f e) xs us (subst (λ ys. uses es (w .indexes) ys ≡ done us) (sym q) (w .meant)) λ v vs p r s.
         not-done (m .answer f (w .indexes) (w .remembers) ∙ p)
 
@@ -70,11 +71,11 @@ module _ {es : List Entry} {f : Bytes} {at : ℕ} {before : List ℕ} where
   next-bad s = record { same = refl; known = tt; answer = λ us w. not-done (sym (s .answer) ∙ w .parsed) }
 
   module _ {e : Element} {stop : ℕ} (s : Stepped f at (parsed (drop at f)) (step.At e stop)) where
-    pub next-refused : {n : ℕ} → Means es before e (meant.Refused n) → Nexts es f at before before Refused
-    next-refused {n} m = record {
+    pub next-refused : {y : Refusal} → Means es before e (meant.Refused y) → Nexts es f at before before Refused
+    next-refused {y} m = record {
       same = refl;
       known = tt;
-      answer = λ us w. from-bind (elements-behind f stop) _ (sym (s .answer) ∙ w .parsed) λ ys g q. first-refused e us w ys (done-inj q) n m;
+      answer = λ us w. from-bind (elements-behind f stop) _ (sym (s .answer) ∙ w .parsed) λ ys g q. first-refused e us w ys (done-inj q) y m;
     }
 
     pub next-last : eqb (getD f stop 0) period ≡ true → {u : Use} → Means es before e (meant.As u) → Nexts es f at before before (Last u)
