@@ -3,6 +3,8 @@
 // refuses it. To what is no such call it is `?`.
 use lines::Line;
 use protocol::Call;
+use rules::Refusal;
+use uses::Verdict;
 ghost use mathlib.Core.Path.{_≡_};
 ghost use Prim.Native.Nat.{_*_, _≤_, _<_};
 ghost use lib.ListN.{length};
@@ -18,27 +20,37 @@ fn output_area() -> [u8; 8]
     [0; 8]
 }
 
-// The number of the first refusal that the table and the format alone bring about, or 0.
-fn decide(table: &[u8], format: &[u8], update: bool) -> u8
+// The first refusal that the table and the format alone bring about.
+fn decide(table: &[u8], format: &[u8], update: bool) -> Verdict
     ensures { λ r. ⌜ Tested (decided (now (table .entry)) (now (format .entry)) update) r ⌝ }
 {
     if !tables::valid(table) {
-        return 1;
+        return Verdict::Refused(Refusal::BadTable);
     }
     if !formats::syntax::syntax(format) {
-        return 3;
+        return Verdict::Refused(Refusal::BadSyntax);
     }
-    let number = uses::test(table, format);
-    if 0 < number {
-        return number;
+    let tested = uses::test(table, format);
+    match tested {
+        Verdict::Refused(x) => Verdict::Refused(x),
+        Verdict::Passed => {
+            if !update {
+                return Verdict::Passed;
+            }
+            if uses::twice::named_twice(table, format) {
+                return Verdict::Refused(Refusal::NamedTwice);
+            }
+            Verdict::Passed
+        }
     }
-    if !update {
-        return 0;
+}
+
+// The number of a refusal, or 0.
+fn number(v: Verdict) -> u8 {
+    match v {
+        Verdict::Passed => 0,
+        Verdict::Refused(x) => rules::refusal_number(x),
     }
-    if uses::twice::named_twice(table, format) {
-        return 6;
-    }
-    0
 }
 
 fn decide_call(bytes: &[u8], c: Call, update: bool) -> u8
@@ -47,7 +59,7 @@ fn decide_call(bytes: &[u8], c: Call, update: bool) -> u8
     let table = c.table;
     let record = c.record;
     let format = c.format;
-    decide(&bytes[0..table], &bytes[record..format], update)
+    number(decide(&bytes[0..table], &bytes[record..format], update))
 }
 
 // The line that answers a line, to the front of out; the place behind it.

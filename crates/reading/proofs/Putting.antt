@@ -5,6 +5,8 @@ use mathlib.Core.List.{List}
 use Prim.Native.Nat.{ℕ, _≤_}
 use native.Mathlib.Omega.{arith}
 use lib.ListN.{length}
+use Rattle.rules.specs.Numbers.{refusal-number}
+use Rattle.rules.specs.declared.Refusal.{Refusal}
 use Rattle.rules.specs.Lists.{Bytes}
 use Rattle.rules.specs.Table.{Entry}
 use Rattle.rules.specs.Use.{indexes-after, items-of}
@@ -42,12 +44,12 @@ module _ {es : List Entry} {b : Bytes} {places : List ℕ} {f : Bytes} {end : �
   puts-unused (NoItem n) h = absurd (not-both h)
   puts-unused (NoUse n) h = record { fits = omega arith; same = refl; kept = refl; going = λ ls q. (ls, q, λ r k xs. passed es r end ls (element-of f e) xs n) }
 
-  pub puts-refused : (s : Standing) {out : Bytes} (n : ℕ) → Means es last e (meant.Refused n) → use-refused s ≡ false → Puts es b places f end write e last last s out out (NoUse n)
-  puts-refused s n m h = record {
+  pub puts-refused : (s : Standing) {out : Bytes} (x : Refusal) → Means es last e (meant.Refused x) → use-refused s ≡ false → Puts es b places f end write e last last s out out (NoUse (refusal-number x))
+  puts-refused s x m h = record {
     fits = omega arith;
     same = refl;
     kept = refl;
-    going = λ ls q. (ls, q, λ r k xs. refused-use es r end ls (element-of f e) xs n (m .answer f ls q) s (not-unused s h) ls);
+    going = λ ls q. (ls, q, λ r k xs. refused-use es r end ls (element-of f e) xs (refusal-number x) (m .answer f ls q) s (not-unused s h) ls);
   }
 
   module _ {last′ : List ℕ} {u : Use} (m : Means es last e (meant.As u)) (k : Remembered es u last last′) where

@@ -741,7 +741,7 @@ fn put_element(
         return state;
     }
     match uses::use_of(t, last, e) {
-        Meant::Refused(n) => Standing::NoUse(n),
+        Meant::Refused(x) => Standing::NoUse(rules::refusal_number(x)),
         Meant::As(u) => {
             uses::remember(t, last, u);
             match state {

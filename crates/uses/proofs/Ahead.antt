@@ -7,6 +7,7 @@ use native.Mathlib.Omega.{arith}
 use lib.Dec.{eqb}
 use lib.ListN.{getD, drop, replicate}
 use Rattle.rules.specs.Outcome.{Outcome, done}
+use Rattle.rules.specs.declared.Refusal.{Refusal}
 use Rattle.rules.specs.Characters.{period}
 use Rattle.rules.specs.Lists.{Bytes}
 use Rattle.rules.specs.Table.{Entry}
@@ -36,8 +37,8 @@ step-as {f} {at} {o} e h = subst (Stepped f at o) e h
 pub means-as : {es : List Entry} {last : List ℕ} {x : Element} {r s : Meant} → r ≡ s → Means es last x r → Means es last x s
 means-as {es} {last} {x} e h = subst (Means es last x) e h
 
-pub nexts-as : {es : List Entry} {f : Bytes} {at : ℕ} {element-before after : List ℕ} {r s : Turn} → r ≡ s → Nexts es f at element-before after r → Nexts es f at element-before after s
-nexts-as {es} {f} {at} {element-before} {after} e h = subst (Nexts es f at element-before after) e h
+pub nexts-as : {es : List Entry} {f : Bytes} {at : ℕ} {before after : List ℕ} {r s : Turn} → r ≡ s → Nexts es f at before after r → Nexts es f at before after s
+nexts-as {es} {f} {at} {before} {after} e h = subst (Nexts es f at before after) e h
 
 from-uses : {C : Type 0} (es : List Entry) (ls : Indexes) (x : rules.Element) (xs : List rules.Element) (us : List Meaning) → uses es ls (x ∷ xs) ≡ done us
     → ((u : Meaning) (vs : List Meaning) → use-of es ls x ≡ done u → uses es (indexes-after u ls) xs ≡ done vs → us ≡ u ∷ vs → C) → C
@@ -51,33 +52,33 @@ no-uses : (es : List Entry) (ls : Indexes) (us : List Meaning) → uses es ls []
 unfolding uses
 no-uses es ls us e = sym (done-inj e)
 
-module _ {es : List Entry} {f : Bytes} {at : ℕ} {element-before : List ℕ} where
+module _ {es : List Entry} {f : Bytes} {at : ℕ} {before : List ℕ} where
   -- An element before those that are left.
-  module _ (e : Element) (us : List Meaning) (w : Ahead es f element-before at us) (xs : List rules.Element) (q : element-of f e ∷ xs ≡ w .left) where
-    first-refused : (n : ℕ) → Means es element-before e (meant.Refused n) → ⊥
-    first-refused n m =
+  module _ (e : Element) (us : List Meaning) (w : Ahead es f before at us) (xs : List rules.Element) (q : element-of f e ∷ xs ≡ w .left) where
+    first-refused : (y : Refusal) → Means es before e (meant.Refused y) → ⊥
+    first-refused y m =
         from-uses es (w .indexes) (element-of f e) xs us (subst (λ ys. uses es (w .indexes) ys ≡ done us) (sym q) (w .meant)) λ v vs p r s.
         not-done (m .answer f (w .indexes) (w .remembers) ∙ p)
 
-    first-meant : (u : Use) → Means es element-before e (meant.As u)
+    first-meant : (u : Use) → Means es before e (meant.As u)
         → (vs : List Meaning) × (us ≡ use-meant es f u ∷ vs) × (uses es (indexes-after (use-meant es f u) (w .indexes)) xs ≡ done vs)
     first-meant u m =
         from-uses es (w .indexes) (element-of f e) xs us (subst (λ ys. uses es (w .indexes) ys ≡ done us) (sym q) (w .meant)) λ v vs p r s.
         let g : v ≡ use-meant es f u = sym (done-inj (m .answer f (w .indexes) (w .remembers) ∙ p)) in
         (vs, s ∙ ap (λ x. x ∷ vs) g, subst (λ x. uses es (indexes-after x (w .indexes)) xs ≡ done vs) g r)
 
-  pub next-bad : Stepped f at (parsed (drop at f)) step.Bad → Nexts es f at element-before element-before Refused
+  pub next-bad : Stepped f at (parsed (drop at f)) step.Bad → Nexts es f at before before Refused
   next-bad s = record { same = refl; known = tt; answer = λ us w. not-done (sym (s .answer) ∙ w .parsed) }
 
   module _ {e : Element} {stop : ℕ} (s : Stepped f at (parsed (drop at f)) (step.At e stop)) where
-    pub next-refused : {n : ℕ} → Means es element-before e (meant.Refused n) → Nexts es f at element-before element-before Refused
-    next-refused {n} m = record {
+    pub next-refused : {y : Refusal} → Means es before e (meant.Refused y) → Nexts es f at before before Refused
+    next-refused {y} m = record {
       same = refl;
       known = tt;
-      answer = λ us w. from-bind (elements-behind f stop) _ (sym (s .answer) ∙ w .parsed) λ ys g q. first-refused e us w ys (done-inj q) n m;
+      answer = λ us w. from-bind (elements-behind f stop) _ (sym (s .answer) ∙ w .parsed) λ ys g q. first-refused e us w ys (done-inj q) y m;
     }
 
-    pub next-last : eqb (getD f stop 0) period ≡ true → {u : Use} → Means es element-before e (meant.As u) → Nexts es f at element-before element-before (Last u)
+    pub next-last : eqb (getD f stop 0) period ≡ true → {u : Use} → Means es before e (meant.As u) → Nexts es f at before before (Last u)
     next-last h {u} m = record {
       same = refl;
       known = m .held f (s .place .2);
@@ -86,8 +87,8 @@ module _ {es : List Entry} {f : Bytes} {at : ℕ} {element-before : List ℕ} wh
           r .1 ∙ ap (λ vs. use-meant es f u ∷ vs) (no-uses es _ (r .0) (r .2));
     }
 
-    pub next-more : eqb (getD f stop 0) period ≡ false → {u : Use} → Means es element-before e (meant.As u) → {after : List ℕ} → Remembered es u element-before after
-        → Nexts es f at element-before after (More u (stop + 1))
+    pub next-more : eqb (getD f stop 0) period ≡ false → {u : Use} → Means es before e (meant.As u) → {after : List ℕ} → Remembered es u before after
+        → Nexts es f at before after (More u (stop + 1))
     next-more h {u} m k = record {
       same = k .same;
       known = (omega (arith, s .place), omega (arith, s .place), m .held f (s .place .2));

@@ -4,11 +4,11 @@ use mathlib.Core.Bool.{Bool, true, false}
 use mathlib.Core.List.{List, [], _∷_}
 use mathlib.Core.Option.{Option}
 use Prim.Native.Nat.{ℕ, _<_}
-use native.Mathlib.Omega.{arith}
 use borrow.Author.Tests.{eqb-true}
 use lib.Dec.{eqb}
 use lib.ListN.{length, getD}
 use Rattle.rules.specs.Outcome.{Outcome, done, refused}
+use Rattle.rules.specs.declared.Refusal.the-variants.{UnknownName}
 use Rattle.rules.specs.Values.{Format}
 use Rattle.rules.specs.Table.{What, field, group, Entry, is-inside}
 use Rattle.rules.specs.Format as rules
@@ -71,8 +71,8 @@ module _ (n : ℕ) (es : List Entry) where
 
 -- A name.
 module _ (es : List Entry) (last : List ℕ) (n : Named) where
-  pub name-nothing : find (n .name) es ≡ refused 4 → Means es last (element.Named n) (meant.Refused 4)
-  name-nothing e = record { answer = λ f ls m. sym (named-nothing (n .name) es ls _ _ _ _ e); held = λ f s. omega arith }
+  pub name-nothing : find (n .name) es ≡ refused 4 → Means es last (element.Named n) (meant.Refused UnknownName)
+  name-nothing e = record { answer = λ f ls m. sym (named-nothing (n .name) es ls _ _ _ _ e); held = λ f s. tt }
 
   module _ (i : ℕ) (e : find (n .name) es ≡ done (found-at es i)) (r : Meant) where
     pub name-group : is-group (getD es i blank .what) ≡ true → Settles es (group-use es i n) r → Means es last (element.Named n) r
@@ -114,20 +114,20 @@ module _ (n : ℕ) (es : List Entry) (ls : Indexes) where
   last-nothing m i e q = rw (e, q)
 
 module _ (es : List Entry) (c : Count) where
-  pub counted-nothing : find (c .name) es ≡ refused 4 → (last : List ℕ) → Means es last (element.Count c) (meant.Refused 4)
-  counted-nothing e last = record { answer = λ f ls m. count-nothing (c .name) es ls _ e; held = λ f s. omega arith }
+  pub counted-nothing : find (c .name) es ≡ refused 4 → (last : List ℕ) → Means es last (element.Count c) (meant.Refused UnknownName)
+  counted-nothing e last = record { answer = λ f ls m. count-nothing (c .name) es ls _ e; held = λ f s. tt }
 
   pub counted-as : (i : ℕ) → find (c .name) es ≡ done (found-at es i) → (r : Meant) → Settles es (count-use es i c) r
       → (last : List ℕ) → Means es last (element.Count c) r
   counted-as i e r s last = record { answer = λ f ls m. s .answer f ∙ count-of (c .name) es ls _ i e; held = λ f z. s .held f }
 
 module _ (es : List Entry) (n m : ℕ) where
-  pub no-first : find n es ≡ refused 4 → (last : List ℕ) → Means es last (element.Series n m) (meant.Refused 4)
-  no-first e last = record { answer = λ f ls z. first-nothing n es ls m e; held = λ f s. omega arith }
+  pub no-first : find n es ≡ refused 4 → (last : List ℕ) → Means es last (element.Series n m) (meant.Refused UnknownName)
+  no-first e last = record { answer = λ f ls z. first-nothing n es ls m e; held = λ f s. tt }
 
   module _ (i : ℕ) (e : find n es ≡ done (found-at es i)) where
-    pub no-last : find m es ≡ refused 4 → (last : List ℕ) → Means es last (element.Series n m) (meant.Refused 4)
-    no-last q last = record { answer = λ f ls z. last-nothing n es ls m i e q; held = λ f s. omega arith }
+    pub no-last : find m es ≡ refused 4 → (last : List ℕ) → Means es last (element.Series n m) (meant.Refused UnknownName)
+    no-last q last = record { answer = λ f ls z. last-nothing n es ls m i e q; held = λ f s. tt }
 
     pub series-to : (j : ℕ) → find m es ≡ done (found-at es j) → (r : Meant) → Settles es (series-use es i j) r
         → (last : List ℕ) → Means es last (element.Series n m) r

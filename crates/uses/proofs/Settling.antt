@@ -9,6 +9,8 @@ use native.Mathlib.Omega.{arith}
 use lib.ListN.{length, getD, take, drop}
 use lib.Seq.{drop-cons}
 use Rattle.rules.specs.Outcome.{Outcome, done, refused, is-done}
+use Rattle.rules.specs.Numbers.{refusal-number}
+use Rattle.rules.specs.declared.Refusal.the-variants.{UseRule}
 use Rattle.rules.specs.Lists.{Bytes, absent, all}
 use Rattle.rules.specs.Values.{allowed, converts}
 use Rattle.rules.specs.Table.{What, field, group, Field, Entry, fields-below}
@@ -33,8 +35,8 @@ use Rattle.uses.proofs.Together.{field-periodic, group-some, group-begi
 use Rattle.uses.proofs.Effects.{asked-right}
 use Rattle.uses.proofs.Fields.{group-fields, group-upto, plain-none-multiple, series-none-multiple, series-five}
 
-pub refuse : (es : List Entry) (o : Outcome rules.Use) → o ≡ refused 5 → Settles es o (meant.Refused 5)
-refuse es o e = record { answer = λ f. sym e; held = λ f. omega arith }
+pub refuse : (es : List Entry) (o : Outcome rules.Use) → o ≡ refused (refusal-number UseRule) → Settles es o (meant.Refused UseRule)
+refuse es o e = record { answer = λ f. sym e; held = λ f. tt }
 
 -- A field.
 module _ (f : Field) (inside : Bool) (last : ℕ) (os vs : Option Range) (l g : Option ℕ) where

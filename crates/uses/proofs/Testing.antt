@@ -2,12 +2,14 @@
 use mathlib.Core.Path.{_≡_, refl, sym, ap, subst, _∙_}
 use mathlib.Core.Bool.{true, false}
 use mathlib.Core.List.{List, [], _∷_}
-use Prim.Native.Nat.{ℕ, zero, suc, _+_, _<_}
+use Prim.Native.Nat.{ℕ, zero, suc, _+_}
 use lib.Dec.{eqb, leb}
 use lib.ListN.{length, getD, drop, replicate}
 use Rattle.rules.specs.Outcome.{Outcome, done, refused, _>>=_, is-done}
 use Rattle.rules.specs.Limits.{longest-format}
 use Rattle.rules.specs.Characters.{period}
+use Rattle.rules.specs.Numbers.{refusal-number}
+use Rattle.rules.specs.declared.Refusal.{Refusal}
 use Rattle.rules.specs.Lists.{Bytes, look-up}
 use Rattle.rules.specs.Table.{Entry}
 use Rattle.rules.specs.Format as rules
@@ -16,7 +18,7 @@ use Rattle.rules.specs.Use as rules-use
 use Rattle.rules.specs.Use.{Indexes, last-index, indexes-after, use-of, uses}
 use Rattle.rules.proofs.Steps.{from-bind, from-need, done-inj, not-done}
 use Rattle.tables.proofs.Bools.{clash}
-use Rattle.formats.specs.Elements.{element-of, sound}
+use Rattle.formats.specs.Elements.{element-of}
 use Rattle.formats.specs.Syntax.{parsed, element-before, elements-behind, by-step}
 use Rattle.formats.specs.declared.Element.{Element}
 use Rattle.formats.specs.declared.syntax.Step.the-variants.{At, Bad}
@@ -25,21 +27,23 @@ use Rattle.uses.specs.Meant.{use-meant, Means, indexes-kept, Remembers, 
 use Rattle.uses.specs.declared.Use.{Use}
 use Rattle.uses.specs.declared.Use.the-variants as code
 use Rattle.uses.specs.declared.Meant.the-variants as meant
+use Rattle.uses.specs.declared.Verdict.{Verdict}
+use Rattle.uses.specs.declared.Verdict.the-variants.{Passed, Refused}
 
-tested-then : {A B : Type 0} (o : Outcome A) (g : A → B) (r : ℕ) → Tested o r → Tested (o >>= λ a. done (g a)) r
+tested-then : {A B : Type 0} (o : Outcome A) (g : A → B) (r : Verdict) → Tested o r → Tested (o >>= λ a. done (g a)) r
 tested-then (done a) g r t = t
 tested-then (refused n) g r t = t
 
 module _ (es : List Entry) (ls : Indexes) (x : rules.Element) (xs : List rules.Element) where
-  first-refused : (n : ℕ) → use-of es ls x ≡ refused n → 0 < n → Tested (uses es ls (x ∷ xs)) n
+  first-refused : (y : Refusal) → use-of es ls x ≡ refused (refusal-number y) → Tested (uses es ls (x ∷ xs)) (Refused y)
   unfolding uses
-  first-refused n e h = rw e (refl, h)
+  first-refused y e = rw e (y, refl, refl)
 
-  first-done : (u : rules-use.Use) → use-of es ls x ≡ done u → (r : ℕ) → Tested (uses es (indexes-after u ls) xs) r → Tested (uses es ls (x ∷ xs)) r
+  first-done : (u : rules-use.Use) → use-of es ls x ≡ done u → (r : Verdict) → Tested (uses es (indexes-after u ls) xs) r → Tested (uses es ls (x ∷ xs)) r
   unfolding uses
   first-done u e r t = rw e (tested-then (uses es (indexes-after u ls) xs) _ r t)
 
-no-more : (es : List Entry) (ls : Indexes) → Tested (uses es ls []) 0
+no-more : (es : List Entry) (ls : Indexes) → Tested (uses es ls []) Passed
 unfolding uses
 no-more es ls = refl
 
@@ -49,7 +53,7 @@ pub record Testing (es : List Entry) (f : Bytes) (last : List ℕ) (at : ℕ) : 
   pub left : List rules.Element
   pub parsed : parsed (drop at f) ≡ done left
   pub remembers : Remembers es last indexes
-  pub rest : (r : ℕ) → Tested (uses es indexes left) r → Tested (uses-of es f) r
+  pub rest : (r : Verdict) → Tested (uses es indexes left) r → Tested (uses-of es f) r
 
 pub from-is-done : {A C : Type 0} (o : Outcome A) → is-done o ≡ true → ((a : A) → o ≡ done a → C) → C
 from-is-done (done a) e k = k a refl
@@ -89,17 +93,17 @@ module _ (es : List Entry) (f : Bytes) where
 
     -- The first element, and those behind it.
     module _ (e : Element) (stop : ℕ) (p : parsed (drop at f) ≡ by-step f (At e stop)) where
-      pub testing-refused : (n : ℕ) → Means es last e (meant.Refused n) → sound f e → Tested (uses-of es f) n
-      testing-refused n k z =
+      pub testing-refused : (y : Refusal) → Means es last e (meant.Refused y) → Tested (uses-of es f) (Refused y)
+      testing-refused y k =
           from-bind (elements-behind f stop) _ (sym p ∙ w .parsed) λ ys g q.
-          w .rest n (subst (λ xs. Tested (uses es (w .indexes) xs) n) (done-inj q)
-          (first-refused es (w .indexes) (element-of f e) ys n (sym (k .answer f (w .indexes) (w .remembers))) (k .held f z)))
+          w .rest (Refused y) (subst (λ xs. Tested (uses es (w .indexes) xs) (Refused y)) (done-inj q)
+          (first-refused es (w .indexes) (element-of f e) ys y (sym (k .answer f (w .indexes) (w .remembers)))))
 
       module _ (u : Use) (k : Means es last e (meant.As u)) where
-        pub testing-last : eqb (getD f stop 0) period ≡ true → Tested (uses-of es f) 0
+        pub testing-last : eqb (getD f stop 0) period ≡ true → Tested (uses-of es f) Passed
         testing-last h =
-            w .rest 0 (subst (λ xs. Tested (uses es (w .indexes) xs) 0) (done-inj (sym (p ∙ ap (element-before (element-of f e)) (behind-last f stop h)) ∙ w .parsed))
-            (first-done es (w .indexes) (element-of f e) [] (use-meant es f u) (sym (k .answer f (w .indexes) (w .remembers))) 0 (no-more es _)))
+            w .rest Passed (subst (λ xs. Tested (uses es (w .indexes) xs) Passed) (done-inj (sym (p ∙ ap (element-before (element-of f e)) (behind-last f stop h)) ∙ w .parsed))
+            (first-done es (w .indexes) (element-of f e) [] (use-meant es f u) (sym (k .answer f (w .indexes) (w .remembers))) Passed (no-more es _)))
 
         pub testing-more : eqb (getD f stop 0) period ≡ false → {after : List ℕ} → Remembered es u last after → Testing es f after (stop + 1)
         testing-more h r =

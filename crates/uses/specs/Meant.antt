@@ -8,6 +8,9 @@ use lib.Dec.{ltb}
 use lib.ListN.{length, take, drop, getD}
 use Rattle.rules.specs.Outcome.{Outcome, done, refused, _>>=_, need}
 use Rattle.rules.specs.Limits.{most-entries, highest-index, longest-text}
+use Rattle.rules.specs.Numbers.{refusal-number}
+use Rattle.rules.specs.declared.Refusal.{Refusal}
+use Rattle.rules.specs.declared.Refusal.the-variants.{UseRule}
 use Rattle.rules.specs.Lists.{Bytes, all, filter}
 use Rattle.rules.specs.Values.{Format, allowed, converts}
 use Rattle.rules.specs.Table.{Field, Entry, group}
@@ -29,6 +32,8 @@ use Rattle.uses.specs.declared.Use.{Use}
 use Rattle.uses.specs.declared.Use.the-variants as code
 use Rattle.uses.specs.declared.Meant.{Meant}
 use Rattle.uses.specs.declared.Meant.the-variants as meant
+use Rattle.uses.specs.declared.Verdict.{Verdict}
+use Rattle.uses.specs.declared.Verdict.the-variants as verdict
 use Rattle.uses.specs.declared.Ranges.{Ranges}
 use Rattle.uses.specs.declared.Spreads.{Spreads}
 use Rattle.uses.specs.declared.Spreads.the-variants as spreads
@@ -51,7 +56,7 @@ letter-given n = optional (n .lettered) (n .letter)
 -- The occurrences and the values that an element means.
 abbrev pub spread-of : Spreads → Outcome Spread
 spread-of (spreads.Over r) = done (record { occurrences = range (r .from) (r .upto); values = range (r .«value_from») (r .«value_upto»); bare = r .bare })
-spread-of spreads.Broken = refused 5
+spread-of spreads.Broken = refused (refusal-number UseRule)
 
 -- In a periodic group, whatever the last index of a field is.
 abbrev pub Spread-inside : Bool → Named → Spreads → Type 0
@@ -60,7 +65,7 @@ Spread-inside mu n r = (last : ℕ) → spread-of r ≡ spread true mu last (occ
 -- Some occurrences and values, where both ranges are in order.
 unfoldable pub ranged : Range → Range → Bool → Outcome Spread
 ranged os vs bare = do
-  _ ← need (in-order os && in-order vs) 5
+  _ ← need (in-order os && in-order vs) (refusal-number UseRule)
   done (record { occurrences = os; values = vs; bare = bare })
 
 -- A format by the code's number; none from 5 on.
@@ -77,7 +82,7 @@ Length-in-effect s x k = (f : Field) → f .size ≡ s → length-in-effect f (l
 -- A field at the format and the length in effect.
 abbrev pub asked-at : Field → Effect → Outcome Asked
 asked-at f (effect.At g n) = done (record { field = f; format = format-at g; size = n })
-asked-at f effect.Broken = refused 5
+asked-at f effect.Broken = refused (refusal-number UseRule)
 
 abbrev pub known-format : Effect → Type 0
 known-format (effect.At g n) = g < 5
@@ -111,7 +116,7 @@ use-meant es f (code.Values s) =
 
 abbrev pub outcome-of : List Entry → Bytes → Meant → Outcome rules.Use
 outcome-of es f (meant.As u) = done (use-meant es f u)
-outcome-of es f (meant.Refused n) = refused n
+outcome-of es f (meant.Refused x) = refused (refusal-number x)
 
 -- A span of one field, at a length and a format that are right for it.
 pub record One-field (es : List Entry) (s : Span) : Type 0 where
@@ -152,7 +157,7 @@ Use-held es f (code.Values s) = Span-held es s
 
 abbrev pub Meant-held : List Entry → Bytes → Meant → Type 0
 Meant-held es f (meant.As u) = Use-held es f u
-Meant-held es f (meant.Refused n) = 0 < n
+Meant-held es f (meant.Refused x) = Unit {0}
 
 -- The rules' outcome is met, where no byte of the format matters.
 pub record Settles (es : List Entry) (o : Outcome rules.Use) (r : Meant) : Type 0 where
@@ -238,10 +243,10 @@ pub record Remembered (es : List Entry) (u : Use) (before after : List ℕ) : Ty
   pub same : length after ≡ length before
   pub indexes : (f : Bytes) (ls : Indexes) → Remembers es before ls → Remembers es after (rules.indexes-after (use-meant es f u) ls)
 
--- The number of an outcome: 0 where it was done.
-abbrev pub Tested : {A : Type 0} → Outcome A → ℕ → Type 0
-Tested (done a) r = r ≡ 0
-Tested (refused n) r = (r ≡ n) × (0 < n)
+-- The verdict on an outcome: why it was refused, where it was.
+abbrev pub Tested : {A : Type 0} → Outcome A → Verdict → Type 0
+Tested (done a) r = r ≡ verdict.Passed
+Tested (refused n) r = (x : Refusal) × (r ≡ verdict.Refused x) × (refusal-number x ≡ n)
 
 -- What the use rules say of a format.
 unfoldable pub uses-of : List Entry → Bytes → Outcome (List rules.Use)

@@ -1,4 +1,4 @@
--- `decisions::decide` meets its contract: each test's refusal is the first, since those before it passed. Assumes nothing.
+-- `decisions::decide` meets its contract: each test's refusal is the first, since those before it passed.
 use mathlib.Core.Path.{_≡_, sym, _∙_}
 use mathlib.Core.Bool.{true}
 use borrow.Author.Tests.{not-true, not-false}
@@ -10,6 +10,10 @@ use borrow.Author.Needs.{needs}
 use Rattle.decisions.proofs.decide.Statement.{statement}
 use Rattle.decisions.proofs.decide.Tie as tie
 
+-- After the first test the slice is a table.
+is-table : (c : tie.Else1) → Valid (c .before .before .before .before .args .table .now)
+is-table c = sym (c .before .valid .ensures) ∙ not-false (c .before .valid .result) (c .if1 .left)
+
 valid-requires : tie.Need-valid-requires
 valid-requires c κs = search needs
 
@@ -20,44 +24,41 @@ syntax-requires : tie.Need-syntax-requires
 syntax-requires c κs = search needs
 
 returns-2 : tie.Need-returns-2
-returns-2 c =
-    let p = c .before .before in
-    by-syntax _ _ _ (sym (p .before .valid .ensures) ∙ not-false (p .before .valid .result) (p .if1 .left)) (sym (c .before .syntax .ensures) ∙ not-true (c .before .syntax .result) (c .if2 .taken))
+returns-2 c = by-syntax _ _ _ (is-table (c .before .before)) (sym (c .before .syntax .ensures) ∙ not-true (c .before .syntax .result) (c .if2 .taken))
 
 test-requires : tie.Need-test-requires
-test-requires c κs =
-    let p = c .before .before in
-    (sym (p .before .valid .ensures) ∙ not-false (p .before .valid .result) (p .if1 .left), sym (c .before .syntax .ensures) ∙ not-false (c .before .syntax .result) (c .if2 .left))
+test-requires c κs = (is-table (c .before .before), sym (c .before .syntax .ensures) ∙ not-false (c .before .syntax .result) (c .if2 .left))
+
+enum-known-tested : tie.Need-enum-known-tested
+enum-known-tested c = search needs
+
+enum-told : tie.Need-enum-told
+enum-told c = search needs
 
 returns-3 : tie.Need-returns-3
 returns-3 c =
-    let p = c .before .before .before .before in
-    by-uses _ _ _ (sym (p .before .valid .ensures) ∙ not-false (p .before .valid .result) (p .if1 .left)) _ (c .before .test .ensures) (c .if3 .taken)
+    let u = c .before .before .before in
+    by-none _ _ _ (is-table (u .before .before .before)) _ (u .test .ensures) (c .before .enum-told .given .1) (not-true _ (c .if3 .taken))
+
+named-twice-requires : tie.Need-named-twice-requires
+named-twice-requires c κs = is-table (c .before .before .before .before .before .before)
 
 returns-4 : tie.Need-returns-4
 returns-4 c =
-    let u = c .before .before in
-    let p = u .before .before .before in
-    by-none _ _ _ (sym (p .before .valid .ensures) ∙ not-false (p .before .valid .result) (p .if1 .left)) _ (u .test .ensures) (c .before .if3 .left) (not-true _ (c .if4 .taken))
-
-named-twice-requires : tie.Need-named-twice-requires
-named-twice-requires c κs =
-    let p = c .before .before .before .before .before in
-    sym (p .before .valid .ensures) ∙ not-false (p .before .valid .result) (p .if1 .left)
+    let n = c .before in
+    let u = n .before .before .before .before in
+    by-twice _ _ _ (is-table (u .before .before .before)) _ (u .test .ensures) (n .before .before .enum-told .given .1) (not-false _ (n .before .if3 .left)) _ (n .named-twice .ensures) (c .if4 .taken)
 
 returns-5 : tie.Need-returns-5
 returns-5 c =
-    let n = c .before in
-    let u = n .before .before .before in
-    let p = u .before .before .before in
-    by-twice _ _ _ (sym (p .before .valid .ensures) ∙ not-false (p .before .valid .result) (p .if1 .left)) _ (u .test .ensures) (n .before .before .if3 .left) (not-false _ (n .before .if4 .left)) _ (n .named-twice .ensures) (c .if5 .taken)
+    let u = c .before .before .before in
+    by-uses _ _ _ (is-table (u .before .before .before)) _ (u .test .ensures) _ (c .before .tested .given .1)
 
 returns-6 : tie.Need-returns-6
 returns-6 c =
     let n = c .before in
-    let u = n .before .before .before in
-    let p = u .before .before .before in
-    by-once _ _ _ (sym (p .before .valid .ensures) ∙ not-false (p .before .valid .result) (p .if1 .left)) _ (u .test .ensures) (n .before .before .if3 .left) (not-false _ (n .before .if4 .left)) _ (n .named-twice .ensures) (c .if5 .left)
+    let u = n .before .before .before .before in
+    by-once _ _ _ (is-table (u .before .before .before)) _ (u .test .ensures) (n .before .before .enum-told .given .1) (not-false _ (n .before .if3 .left)) _ (n .named-twice .ensures) (c .if4 .left)
 
 pub decide-spec : {M : Type 1} → statement M
 decide-spec =
@@ -68,8 +69,10 @@ decide-spec =
     syntax-requires
     returns-2
     test-requires
+    enum-known-tested
+    enum-told
     returns-3
-    returns-4
     named-twice-requires
+    returns-4
     returns-5
     returns-6)

@@ -1,9 +1,10 @@
--- `reading::put_element` meets its contract: by what the element means, what is left behind it ends and writes as it does with it. Assumes nothing.
-use mathlib.Core.Path.{_≡_, refl, sym, _∙_}
+-- `reading::put_element` meets its contract: by what the element means, what is left behind it ends and writes as it does with it.
+use mathlib.Core.Path.{_≡_, refl, sym, ap, _∙_}
 use native.Mathlib.Omega.{arith}
 use Rattle.tables.specs.Entries.{entries-of}
 use Rattle.uses.proofs.Testing.{span-known}
 use Rattle.uses.proofs.Ahead.{means-as}
+use Rattle.reading.specs.declared.Standing.the-variants.{NoUse}
 use Rattle.reading.proofs.Putting.{at-fits, not-unused, puts-as, puts-unused, puts-refused, puts-behind, puts-items}
 use borrow.Author.Needs.{needs}
 use Rattle.reading.proofs.put_element.Statement.{statement}
@@ -18,8 +19,11 @@ returns c = puts-unused _ (sym (c .before .is-unused .ensures) ∙ c .if1 .taken
 use-of-requires : tie.Need-use-of-requires
 use-of-requires c κs = search needs
 
-enum-known-n : tie.Need-enum-known-n
-enum-known-n c = search needs
+enum-known-x : tie.Need-enum-known-x
+enum-known-x c = search needs
+
+refusal-number-requires : tie.Need-refusal-number-requires
+refusal-number-requires c κs = search needs
 
 enum-known-u : tie.Need-enum-known-u
 enum-known-u c = search needs
@@ -49,7 +53,9 @@ enum-known-state-3 : tie.Need-enum-known-state-3
 enum-known-state-3 c = search needs
 
 returns-2 : tie.Need-returns-2
-returns-2 c = puts-refused _ _ (means-as (c .before .n .given .1) (c .before .before .before .use-of .ensures)) (sym (c .before .before .before .before .before .before .is-unused .ensures) ∙ c .before .before .before .before .before .if1 .left)
+returns-2 c =
+    let m = c .before .before .before .before in
+    puts-as refl (ap NoUse (c .refusal-number .ensures)) (puts-refused _ _ (means-as (c .before .before .x .given .1) (m .use-of .ensures)) (sym (m .before .before .before .is-unused .ensures) ∙ m .before .before .if1 .left))
 
 same-length : tie.Need-same-length
 same-length c = search needs
@@ -75,7 +81,8 @@ put-element-spec =
     is-unused-requires
     returns
     use-of-requires
-    enum-known-n
+    enum-known-x
+    refusal-number-requires
     enum-known-u
     remember-requires
     enum-known-state

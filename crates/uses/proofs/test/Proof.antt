@@ -75,7 +75,7 @@ returns-2 c =
     let a = c .before .before .before .before .before .before .before .before .before .before .before .before .args in
     let n = step-as (c .before .before .before .before .before .before .e .given .1) (c .before .before .before .before .before .before .before .before .next .ensures) in
     let m = means-as (c .before .m2 .given .1) (c .before .before .before .use-of .ensures) in
-    testing-refused (entries-of (a .t .now)) (a .f .now) (c .before .before .before .before .before .before .before .before .before .loop .inv .2) _ (c .before .before .before .before .before .before .e .given .0 .1 .0) (n .answer) _ m (n .place .2)
+    testing-refused (entries-of (a .t .now)) (a .f .now) (c .before .before .before .before .before .before .before .before .before .loop .inv .2) _ (c .before .before .before .before .before .before .e .given .0 .1 .0) (n .answer) _ m
 
 enum-told : tie.Need-enum-told Inv-loop μ-loop
 enum-told c = search needs
