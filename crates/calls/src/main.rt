@@ -82,7 +82,7 @@ fn least(a: usize, b: usize) -> usize
     if a < b { a } else { b }
 }
 
-// The parts of bytes that a call's words spelled are lent to the service, and room up to the length asked.
+// Lends the service the bytes that the call's words spelled, and room up to the length asked for.
 fn ask_read(bytes: &[u8], c: Call, room: &mut [u8]) -> Answered
     requires { ⌜ Called (length (now bytes)) c ⌝ }
     ensures { λ r. ⌜ r .length ≤ length (now (room .entry)) ⌝ }
@@ -162,7 +162,7 @@ fn answer_line(line: &[u8], bytes: &mut [u8], room: &mut [u8], out: &mut [u8])
     lines::write(out, end);
 }
 
-// The next line of the input is answered, where there is one.
+// Answers the next line of the input, if there is one.
 fn answer_next(input: &mut [u8], l: Line, bytes: &mut [u8], room: &mut [u8], out: &mut [u8]) -> Line
     requires { ⌜ Areas (now input) (now bytes) (now room) (now out) × Placed (length (now input)) l × (0 < l .more) ⌝ }
     ensures { λ r. ⌜ Placed (length (now (input .entry))) r × (r .more < l .more) ⌝ }

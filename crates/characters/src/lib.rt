@@ -22,7 +22,7 @@ pub const APOSTROPHE: u8 = 0x7D;
 
 pub const LETTER_C: u8 = 0xC3;
 
-pub const LETTER_E: u8 = 0xC5;
+const LETTER_E: u8 = 0xC5;
 
 pub const LETTER_X: u8 = 0xE7;
 
@@ -43,7 +43,7 @@ pub fn is_digit(b: u8) -> bool
     between(DIGIT_0, b, 0xF9)
 }
 
-pub fn is_letter(b: u8) -> bool
+fn is_letter(b: u8) -> bool
     ensures { λ r. ⌜ r ≡ letter b ⌝ }
 {
     if between(0xC1, b, 0xC9) {

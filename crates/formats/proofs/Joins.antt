@@ -1,4 +1,4 @@
--- The first text of a format and what stands behind it: a walk from left to right puts the pieces together as the definition does.
+-- The first text of a format and what follows it: a walk from left to right puts the pieces together as the definition does.
 use mathlib.Core.Path.{_≡_, refl, sym, ap, _∙_}
 use mathlib.Core.Bool.{Bool, true, false}
 use mathlib.Core.List.{List, [], _∷_}
@@ -28,7 +28,7 @@ use Rattle.formats.proofs.Parts.{part-nil}
 use Rattle.formats.proofs.PieceLaws.{single-digit, single-format, single-bad, piece-one}
 use Rattle.buffer.proofs.Cases.{by-order}
 
--- A text, and the texts behind the comma or the period that ends it.
+-- A text, and the texts after the comma or the period that ends it.
 unfoldable then : Bytes → Bytes → Outcome (List Bytes)
 then t [] = refused 3
 then t (b ∷ bs) = elim (eqb b period) [ true ↦ done (t ∷ []) | false ↦ texts false bs >>= (λ ts. done (t ∷ ts)) ]
@@ -60,7 +60,7 @@ then-comma : (t : Bytes) (b : ℕ) (bs : Bytes) → eqb b period ≡ false → t
 unfolding then
 then-comma t b bs e = rw (e, then) refl
 
--- The piece of a text, put before what stands behind it.
+-- The piece of a text, put before what follows it.
 abbrev joined : Bytes → Outcome Pending → Outcome Pending
 joined t o = rules.piece (trim t) >>= λ q. o >>= put-before q
 
@@ -120,7 +120,7 @@ pub trim-at : (f : Bytes) (at end first last : ℕ) → part f at last ≡ strip
 unfolding trim
 trim-at f at end first last e h = rw (← e) (sym h)
 
--- What stands there is no piece where there is nothing.
+-- A piece has one byte or more.
 pub piece-some : (f : Bytes) (a b : ℕ) (q : rules.Piece) → rules.piece (part f a b) ≡ done q → a < b
 unfolding rules.piece
 piece-some f a b q e = by-order a b (λ h. h) (λ h. absurd (not-done (rw (part-nil f a b h) at e)))

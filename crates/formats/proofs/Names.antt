@@ -1,4 +1,4 @@
--- The rules of a name and what stands behind it, step by step as the code takes them.
+-- The rules of a name and what follows it, step by step as the code takes them.
 use mathlib.Core.Path.{_≡_, refl, ap, _∙_}
 use mathlib.Core.Bool.{true, false}
 use mathlib.Core.List.{[], _∷_}
@@ -69,7 +69,7 @@ module _ (bs : Bytes) {k : ℕ} {cs : Bytes} (e : number-first bs ≡ done (k, c
   pub parenthesis-open : {l : ℕ} {ds : Bytes} → range-end k cs ≡ done (l, ds) → byte-alone close-parenthesis ds ≡ false → parenthesis bs ≡ refused 3
   parenthesis-open {l} {ds} h t = parenthesis-behind k cs bs e ∙ rw h (closing-open (range k l) ds t)
 
--- Behind a name and a range.
+-- After a name and a range.
 module _ (n : ℕ) (r : Range) (f : Bytes) (at upto : ℕ) where
   pub after-range-nothing : at ≡ upto → after-range n r (part f at upto) ≡ done (named n (some r) none none none)
   unfolding after-range
@@ -84,7 +84,7 @@ module _ (n : ℕ) (r : Range) (f : Bytes) (at upto : ℕ) where
   unfolding after-range
   after-range-open h k e q = rw (part-cons f at upto h k, e, q) refl
 
--- Behind a name and an index.
+-- After a name and an index.
 module _ (n i : ℕ) where
   pub after-index-count : (bs : Bytes) → byte-alone letter-C bs ≡ true → after-index n i bs ≡ done (count n (some i))
   unfolding after-index byte-alone
@@ -98,7 +98,7 @@ module _ (n i : ℕ) where
   after-index-range (b ∷ bs) e q =
       rw (← q, e, after-index) (by-test (eqb b hyphen) (λ h. rw (h, range-end) refl) (λ h. rw (h, range-end) refl))
 
--- Behind a name and a hyphen.
+-- After a name and a hyphen.
 module _ (n : ℕ) (f : Bytes) (at upto : ℕ) (k : upto ≤ length f) where
   pub series-two : upto - at ≡ 2 → series-to n (part f at upto) ≡ (need (is-name (getD f at 0) (getD f (at + 1) 0)) 3 >>= λ _. done (series n (name-of (getD f at 0) (getD f (at + 1) 0))))
   unfolding series-to nothing
@@ -124,7 +124,7 @@ after-name-other : (n b : ℕ) (bs : Bytes) → byte-alone letter-C (b ∷ bs) �
 unfolding after-name byte-alone
 after-name-other n b bs e = rw (e, after-name) refl
 
--- Behind a name.
+-- After a name.
 module _ (n : ℕ) (f : Bytes) (at upto : ℕ) where
   pub after-name-nothing : at ≡ upto → after-name n (part f at upto) ≡ done (named n none none none none)
   unfolding after-name

@@ -20,7 +20,7 @@ use Rattle.formats.specs.Pieces.{no-apostrophe, as-piece, only-element, 
 use Rattle.formats.proofs.Parts.{part-nil, part-cons, part-snoc, length-part}
 use Rattle.characters.proofs.Tests.{and-false-right}
 
--- Behind a number.
+-- After a number.
 module _ (n : ℕ) (f : Bytes) (at upto : ℕ) where
   pub number-length : at ≡ upto → n ≤ greatest-length → after-number n (part f at upto) ≡ done (length-piece n)
   unfolding after-number
@@ -86,7 +86,7 @@ still-refused : (t : Bool) → _≡_ {A = Outcome Piece} (need t 3 >>= λ _. ref
 still-refused true = refl
 still-refused false = refl
 
--- Behind an apostrophe: the text, up to the last byte.
+-- After an apostrophe: the text, up to the last byte.
 module _ (f : Bytes) (at upto : ℕ) (h : at < upto) (k : upto ≤ length f) where
   abbrev closed : Bool
   closed = eqb (getD f (upto - 1) 0) apostrophe && no-apostrophe (part f at (upto - 1))

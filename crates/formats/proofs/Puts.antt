@@ -1,4 +1,4 @@
--- A piece put before what stands behind it, and then the elements taken: what comes of it for each kind of piece.
+-- A piece put before what follows it, and then the elements taken: what comes of it for each kind of piece.
 use mathlib.Core.Path.{_≡_, refl, ap, _∙_}
 use mathlib.Core.Bool.{Bool, true, false, false≢true}
 use mathlib.Core.List.{List, _∷_}
@@ -60,7 +60,7 @@ completed-settled e h (done p) = rw (h p) (over (settled p))
     over false = refl
 completed-settled e h (refused n) = refl
 
--- Behind an element put before them, the elements come first.
+-- After an element that is put before them, the elements come first.
 pub put-first : (e : Element) (m : Outcome Pending) → elements-first (m >>= put-before (element e))
 unfolding put-before settled absent
 put-first e m p h =

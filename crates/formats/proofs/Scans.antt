@@ -22,9 +22,6 @@ turned-yes q b e = rw e refl
 pub turned-no : (q : Bool) (b : ℕ) → (b ≡ apostrophe → ⊥) → q ≡ turned q b
 turned-no q b e = rw (ne-eqb b apostrophe e, turned) refl
 
-pub ends-inside : (q : Bool) (b : ℕ) → q ≡ true → false ≡ ends q b
-ends-inside q b e = rw e refl
-
 pub ends-comma : (q : Bool) (b : ℕ) → q ≡ false → b ≡ comma → true ≡ ends q b
 ends-comma q b n e = rw (n, e) refl
 

@@ -1,4 +1,4 @@
--- The steps of the code, one law for each way out: what stands at a place and behind it settles what the rules say from there on.
+-- The steps of the code, one law for each way out: what stands at a place and after it settles what the rules say from there on.
 use mathlib.Core.Path.{_≡_, refl, sym, ap, _∙_}
 use mathlib.Core.Bool.{Bool, true, false}
 use mathlib.Core.List.{List, [], _∷_}
@@ -68,7 +68,7 @@ module _ (f : Bytes) (n : Named) (s : n .sized ≡ false) where
 pub name-at-length : (n : Named) (size : Option ℕ) → n .lettered ≡ false → named-of n size (optional (n .lettered) (n .letter)) ≡ named-of n size none
 name-at-length n size l = ap (λ b. named-of n size b) (optional-none (n .lettered) (n .letter) l)
 
--- What stands behind a place, by a period or a comma there.
+-- What follows a place, by a period or a comma there.
 module _ (f : Bytes) (stop : ℕ) where
   pub behind-last : eqb (getD f stop 0) period ≡ true → elements-behind f stop ≡ done []
   unfolding elements-behind
@@ -92,7 +92,7 @@ module _ (f : Bytes) (stop : ℕ) where
   pub first-comma : (getD f stop 0 ≡ period → ⊥) → elements-first (pending (drop (stop + 1) f)) → elements-first (rest f stop)
   first-comma e s p h = s p (sym (rest-comma f stop (ne-eqb (getD f stop 0) period e)) ∙ h)
 
--- An element behind which neither a length nor a format stands, and the elements behind it.
+-- An element that neither a length nor a format follows, and the elements after it.
 module _ (f : Bytes) (end : ℕ) where
   at-first : (k : Pending → Outcome (List rules.Element)) (x : rules.Element) → ((es : List rules.Element) → k (both none none es) ≡ done (x ∷ es))
       → elements-first (rest f end) → (rest f end >>= k) ≡ element-before x (elements-behind f end)
@@ -101,7 +101,7 @@ module _ (f : Bytes) (end : ℕ) where
   at-settled : (x : rules.Element) → (rest f end >>= λ p. need (settled p) 3 >>= λ _. done (x ∷ p .elements)) ≡ element-before x (elements-behind f end)
   at-settled x = settle-before x (rest f end) ∙ ap (element-before x) (rest-behind f end)
 
--- A name at a length, and a name alone: the step from what stands behind each.
+-- A name at a length, and a name alone: the step from what follows each.
 abbrev at-length : Named → ℕ → Pending → Outcome (List rules.Element)
 at-length n size p = need (absent (p .size)) 3 >>= λ _. done (named-of n (some size) (p .format) ∷ p .elements)
 
@@ -117,7 +117,7 @@ module _ (f : Bytes) (end : ℕ) (n : Named) where
   unfolding then-completed completed
   name-first l b s = at-first f end (name-alone n l b) (named-of n none none) (λ es. refl) s
 
-  -- Behind a comma the next piece has been read, and its own comma or period stands at end′.
+  -- After a comma the next piece has been read, and its own comma or period stands at end′.
   module _ (e : getD f end 0 ≡ period → ⊥) where
     followed : {m : Outcome Pending} → pending (drop (end + 1) f) ≡ m → (k : Pending → Outcome (List rules.Element)) → (rest f end >>= k) ≡ (m >>= k)
     followed w k = ap (λ r. r >>= k) (rest-comma f end (ne-eqb (getD f end 0) period e) ∙ w)

@@ -1,4 +1,4 @@
--- What stands behind a name, by its first bytes: digits and nothing more are a length, a letter alone is a format, and what is longer is an element, if anything.
+-- What follows a name, by its first bytes: digits and nothing more are a length, a letter alone is a format, and what is longer is an element, if anything.
 use mathlib.Core.Path.{_≡_, refl, sym, ap, subst, _∙_}
 use mathlib.Core.Bool.{Bool, true, false, _&&_}
 use Prim.Native.Nat.{ℕ, _+_, _-_, _≤_, _<_}
@@ -37,6 +37,10 @@ name-only t m q e =
     from-need t 3 _ e λ _ k.
     from-bind m _ k λ x _ l. (x, sym (done-inj l))
 
+-- A number was read: what is after it settles the piece.
+pub number-read : {o : Outcome (ℕ × Bytes)} {n : ℕ} {bs : Bytes} → o ≡ done (n, bs) → (o >>= λ i. after-number (i .0) (i .1)) ≡ after-number n bs
+number-read e = ap (λ o. o >>= λ i. after-number (i .0) (i .1)) e
+
 module _ (f : Bytes) (at upto : ℕ) (k : upto ≤ length f) where
   -- Two bytes and more, the first of which is no digit.
   pub longer-only : at + 1 < upto → digit (getD f at 0) ≡ false → only-element (piece (part f at upto))
@@ -53,7 +57,7 @@ module _ (f : Bytes) (at upto : ℕ) (k : upto ≤ length f) where
       let r = read-end (read-first h k d refl (omega (arith, b))) l in
       piece-one f at upto k (omega arith)
       ∙ single-digit (getD f at 0) d
-      ∙ sym (ap (λ o. o >>= λ i. after-number (i .0) (i .1)) r ∙ number-length (getD f at 0 - digit-0) f (at + 1) upto (omega arith) (omega (arith, b))))
+      ∙ sym (number-read r ∙ number-length (getD f at 0 - digit-0) f (at + 1) upto (omega arith) (omega (arith, b))))
 
 -- What is an element, if anything, comes before no length and no format.
 pub bounded-first : {f : Bytes} {at : ℕ} {r : Bounds} → Bounded f at r → only-element (piece (part f (r .first) (r .last))) → elements-first (pending (drop at f))

@@ -36,11 +36,11 @@ element-of f (code.Named n) = named-of n (optional (n .sized) (n .length)) (opti
 element-of f (code.Count c) = rules.count (c .name) (optional (c .indexed) (c .index))
 element-of f (code.Series first last) = rules.series first last
 
--- An element has two characters or more.
+-- An element has two characters or more: with its comma or period three bytes, so that 2,048 bytes have at most 682 elements.
 abbrev pub shortest-element : ℕ
 shortest-element = 2
 
--- The numbers of a format are below this: as many digits as they have at most.
+-- The numbers of a format are below this, for they have no more digits.
 abbrev pub number-bound : ℕ
 number-bound = 10 ^ most-digits
 

@@ -13,12 +13,12 @@ use Rattle.formats.specs.Elements.{number-bound}
 use Rattle.formats.specs.declared.numbers.Number.{Number}
 use Rattle.formats.specs.declared.numbers.Number.the-variants.{Value, Bad}
 
--- A number and the bytes behind it, up to a place.
+-- A number and the bytes after it, up to a place.
 abbrev pub number-and-rest : Bytes → ℕ → Number → Outcome (ℕ × Bytes)
 number-and-rest f upto (Value n p) = done (n, part f p upto)
 number-and-rest f upto Bad = refused 3
 
--- Where the bytes behind it begin, and how large a number is.
+-- Where the bytes after it begin, and how large a number is.
 abbrev pub number-place : ℕ → ℕ → Number → Type 0
 number-place at upto (Value n p) = (at ≤ p) × (p ≤ upto) × (n < number-bound)
 number-place at upto Bad = Unit {0}

@@ -30,11 +30,11 @@ parsed bs = do
 abbrev pub element-before : rules.Element → Outcome (List rules.Element) → Outcome (List rules.Element)
 element-before e o = o >>= λ es. done (e ∷ es)
 
--- The elements behind the comma or the period at a place.
+-- The elements after the comma or the period at a place.
 unfoldable pub elements-behind : Bytes → ℕ → Outcome (List rules.Element)
 elements-behind f stop = elim (eqb (getD f stop 0) period) [ true ↦ done [] | false ↦ parsed (drop (stop + 1) f) ]
 
--- The elements from a place on, by a step of the code: an element and those behind it.
+-- The elements from a place on, by a step of the code: an element and those after it.
 abbrev pub by-step : Bytes → Step → Outcome (List rules.Element)
 by-step f (At e stop) = element-before (element-of f e) (elements-behind f stop)
 by-step f Bad = refused 3
@@ -54,10 +54,10 @@ pub record Stepped (f : Bytes) (at : ℕ) (o : Outcome (List rules.Element)) (r 
 abbrev pub Stepped-upto : Bytes → ℕ → Outcome (List rules.Element) → Step → Type 0
 Stepped-upto f end o r = (at : ℕ) → at + shortest-element ≤ end → Stepped f at o r
 
--- A name at a length, behind which a format may stand.
+-- A name at a length, which a format may follow.
 unfoldable pub then-format : Bytes → ℕ → Named → ℕ → Outcome (List rules.Element)
 then-format f end n size = rest f end >>= λ p. need (absent (p .size)) 3 >>= λ _. done (named-of n (some size) (p .format) ∷ p .elements)
 
--- An element, behind which stands what may.
+-- An element, completed by what follows it.
 unfoldable pub then-completed : Bytes → ℕ → rules.Element → Outcome (List rules.Element)
 then-completed f end e = rest f end >>= λ p. completed e p >>= λ x. done (x ∷ p .elements)

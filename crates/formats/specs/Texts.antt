@@ -1,4 +1,4 @@
--- The texts of a format one after the other: what stands behind each, and what the code answers of them.
+-- The texts of a format one after the other: what follows each, and what the code answers of them.
 use mathlib.Core.Path.{_≡_}
 use mathlib.Core.Bool.{Bool, true, false}
 use mathlib.Core.List.{[], _∷_}
@@ -38,15 +38,15 @@ pending bs = texts false bs >>= assembled
 abbrev pub elements-first : Outcome Pending → Type 0
 elements-first o = (p : Pending) → o ≡ done p → settled p ≡ true
 
--- Nothing behind the period counts.
+-- Nothing after the period counts.
 abbrev pub none-pending : Pending
 none-pending = record { size = none; format = none; elements = [] }
 
--- The same for what stands behind the comma or the period at a place.
+-- The same for what follows the comma or the period at a place.
 unfoldable pub rest : Bytes → ℕ → Outcome Pending
 rest f end = elim (eqb (getD f end 0) period) [ true ↦ done none-pending | false ↦ pending (drop (end + 1) f) ]
 
--- The text from a place on was found: where it stands without the spaces around it, and where it ends. It is empty where it does not.
+-- The text from a place on was found: where it stands without the spaces around it, and where it ends; if it has no end, the bounds are empty.
 pub record Bounded (f : Bytes) (at : ℕ) (r : Bounds) : Type 0 where
   pub answer : pending (drop at f) ≡ (rules.piece (part f (r .first) (r .last)) >>= λ p. rest f (r .end) >>= put-before p)
   pub from : at ≤ r .first
@@ -55,7 +55,7 @@ pub record Bounded (f : Bytes) (at : ℕ) (r : Bounds) : Type 0 where
   pub inside : r .end ≤ length f
   pub ended : r .first < r .last → r .end < length f
 
--- Where a text ends, if it does: an element has its characters before that.
+-- Where a text ends, if it does; an element has its characters before that.
 abbrev pub reached : Bytes → ℕ → ℕ → Piece → Type 0
 reached f at end (piece.Element e) = (at + shortest-element ≤ end) × (end < length f)
 reached f at end (piece.Length n) = (at ≤ end) × (end < length f)

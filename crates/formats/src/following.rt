@@ -1,5 +1,5 @@
-// What may follow an element: another element, and behind a name a length, then or instead a format.
-// `end` is the place of the comma or period behind the element.
+// What may follow an element: another element; after a name also a length, a format, or both in that order.
+// `end` is the place of the comma or period after the element.
 use super::Element;
 use super::Named;
 use super::numbers::Number;
@@ -21,12 +21,12 @@ ghost use Rattle.formats.specs.Pieces.{unfinished, trails};
 ghost use Rattle.formats.specs.Texts.{pending, elements-first};
 ghost use Rattle.formats.specs.Syntax.{Stepped-upto, then-format, then-completed};
 
-// The letters lie from C1 to E9, and the digits behind them.
+// The letters lie from C1 to E9, and the digits after them.
 const FIRST_LETTER: u8 = 0xC1;
 
 const LAST_LETTER: u8 = 0xE9;
 
-// What can stand behind a name: a length, a format, neither (an element, if it is good), or what is bad.
+// What can follow a name: a length, a format, neither (an element, if it is good), or bad syntax.
 pub enum Trailer {
     Length(u16),
     Format(u8),
@@ -34,7 +34,7 @@ pub enum Trailer {
     Bad,
 }
 
-// Whether the text at a place begins with two bytes as no length and no format does: a letter, and a letter or a digit.
+// Whether the text at a place begins with a letter and then a letter or a digit, as no length and no format does. `false` tells nothing.
 fn begins_longer(f: &[u8], at: usize) -> bool
     requires { ⌜ at ≤ length (now f) ⌝ }
     ensures { λ r. ⌜ (r ≡ true → elements-first (pending (drop at (now (f .entry))))) ⌝ }
@@ -52,7 +52,7 @@ fn begins_longer(f: &[u8], at: usize) -> bool
     f[at + 1] >= FIRST_LETTER
 }
 
-// What the bytes from one place up to another are behind a name. Whether what is neither is good is for the next step to find.
+// What the bytes from one place up to another are after a name. Whether `Neither` is a good element is for the next step to find.
 fn trailer_at(f: &[u8], first: usize, last: usize) -> Trailer
     requires { ⌜ (first ≤ last) × (last ≤ length (now f)) ⌝ }
     ensures { λ r. ⌜ trails (piece (part (now (f .entry)) first last)) r ⌝ }
@@ -83,7 +83,7 @@ fn trailer_at(f: &[u8], first: usize, last: usize) -> Trailer
 }
 
 // A format may follow the name, which has a length.
-fn format_behind(f: &[u8], end: usize, n: Named, size: u16) -> Step
+fn format_after(f: &[u8], end: usize, n: Named, size: u16) -> Step
     requires { ⌜ (end < length (now f)) × Small n × (n .lettered ≡ false) × (size ≤ greatest-length) ⌝ }
     ensures { λ r. ⌜ Stepped-upto (now (f .entry)) end (then-format (now (f .entry)) end n size) r ⌝ }
 {
@@ -105,7 +105,7 @@ fn format_behind(f: &[u8], end: usize, n: Named, size: u16) -> Step
 }
 
 // A length or a format may follow the name.
-fn length_behind(f: &[u8], end: usize, n: Named) -> Step
+fn length_after(f: &[u8], end: usize, n: Named) -> Step
     requires { ⌜ (end < length (now f)) × Small n × (n .sized ≡ false) × (n .lettered ≡ false) ⌝ }
     ensures { λ r. ⌜ Stepped-upto (now (f .entry)) end (then-completed (now (f .entry)) end (element-of (now (f .entry)) (Element.Named n))) r ⌝ }
 {
@@ -118,20 +118,20 @@ fn length_behind(f: &[u8], end: usize, n: Named) -> Step
     let b = bounds_at(f, end + 1);
     let next = trailer_at(f, b.first, b.last);
     match next {
-        Trailer::Length(size) => format_behind(f, b.end, n, size),
+        Trailer::Length(size) => format_after(f, b.end, n, size),
         Trailer::Format(c) => Step::At(Element::Named(n.with_format(c)), b.end),
         Trailer::Neither => Step::At(Element::Named(n), end),
         Trailer::Bad => Step::Bad,
     }
 }
 
-// What follows the element is what may.
+// Completes an element with the length and format that follow it, if any; anything else there is bad syntax.
 pub fn completed(f: &[u8], end: usize, e: Element) -> Step
     requires { ⌜ (end < length (now f)) × sound (now f) e × unfinished e ⌝ }
     ensures { λ r. ⌜ Stepped-upto (now (f .entry)) end (then-completed (now (f .entry)) end (element-of (now (f .entry)) e)) r ⌝ }
 {
     match e {
-        Element::Named(n) => length_behind(f, end, n),
+        Element::Named(n) => length_after(f, end, n),
         Element::Blanks(_) => Step::At(e, end),
         Element::Text(_, _) => Step::At(e, end),
         Element::Count(_) => Step::At(e, end),

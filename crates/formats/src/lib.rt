@@ -8,8 +8,8 @@ pub mod texts;
 ghost use mathlib.Core.Path.{_≡_};
 ghost use Rattle.formats.specs.Elements.{bare-name, with-occurrences, with-values, with-length, with-format};
 
-// A name with what may stand behind it: occurrences from-upto, values (first-last), a length and a format letter.
-// Numbers are 0 where they are not given.
+// A name with what may follow it: occurrences from-upto, values (first-last), a length and a format letter.
+// A number that is not given is 0.
 pub struct Named {
     pub name: u16,
     pub indexed: bool,
@@ -78,7 +78,7 @@ impl Named {
     }
 }
 
-// A count, of one occurrence where it is indexed.
+// A count; if it is indexed, that of one occurrence.
 pub struct Count {
     pub name: u16,
     pub indexed: bool,

@@ -12,7 +12,7 @@ ghost use Rattle.formats.specs.Part.{part};
 ghost use Rattle.formats.specs.Elements.{number-bound};
 ghost use Rattle.formats.specs.Numbers.{Numbered, range-end, byte-alone};
 
-// A number, and the place behind it.
+// A number, and the place after it.
 pub enum Number {
     Value(u16, usize),
     Bad,
@@ -52,7 +52,7 @@ pub fn number_first(f: &[u8], at: usize, upto: usize) -> Number
     Number::Value(n, i)
 }
 
-// The end of a range whose beginning, k, stands before `at`.
+// The end of a range that begins with k, which was read before `at`.
 pub fn range_end(f: &[u8], at: usize, upto: usize, k: u16) -> Number
     requires { ⌜ (at ≤ upto) × (upto ≤ length (now f)) × (k < number-bound) ⌝ }
     ensures { λ r. ⌜ Numbered (now (f .entry)) at upto (range-end k (part (now (f .entry)) at upto)) r ⌝ }
@@ -66,7 +66,7 @@ pub fn range_end(f: &[u8], at: usize, upto: usize, k: u16) -> Number
     number_first(f, at + 1, upto)
 }
 
-// Whether the byte c stands there and nothing more.
+// Whether the bytes from one place up to another are the byte c and nothing more.
 pub fn alone(f: &[u8], at: usize, upto: usize, c: u8) -> bool
     requires { ⌜ (at ≤ upto) × (upto ≤ length (now f)) ⌝ }
     ensures { λ r. ⌜ r ≡ byte-alone c (part (now (f .entry)) at upto) ⌝ }

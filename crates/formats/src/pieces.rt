@@ -28,7 +28,7 @@ ghost use Rattle.formats.specs.Part.{part};
 ghost use Rattle.formats.specs.Elements.{range, number-bound};
 ghost use Rattle.formats.specs.Pieces.{Bracketed, Pieced, as-piece, no-apostrophe, number-piece};
 
-// The values in parentheses behind a name.
+// The values in parentheses after a name.
 pub enum Bracket {
     Values(u16, u16),
     Bad,

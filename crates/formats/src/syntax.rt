@@ -13,7 +13,7 @@ ghost use Rattle.rules.specs.Characters.{period};
 ghost use Rattle.rules.specs.Format.{elements};
 ghost use Rattle.formats.specs.Syntax.{parsed, Stepped};
 
-// An element and the place of the comma or period behind it, or bad syntax.
+// An element and the place of the comma or period after it, or bad syntax.
 pub enum Step {
     At(Element, usize),
     Bad,

@@ -1,4 +1,4 @@
-// The texts of a format, parted by commas and ended by a period, and the piece that each is without the spaces around it.
+// The texts of a format, separated by commas and ended by a period; each, without the spaces around it, is a piece.
 use super::pieces::Piece;
 use super::pieces::piece_at;
 use characters::APOSTROPHE;
@@ -14,7 +14,7 @@ ghost use Rattle.rules.specs.Format.{turned, ends, skip-spaces};
 ghost use Rattle.formats.specs.Part.{part};
 ghost use Rattle.formats.specs.Texts.{extent, Narrowed, Bounded, Looked};
 
-// The piece of the text from a place on, and where its comma or period stands.
+// The piece of the text at a place, and where its comma or period stands.
 pub struct PieceAt {
     pub piece: Piece,
     pub end: usize,
@@ -63,7 +63,7 @@ fn text_end(f: &[u8], at: usize) -> usize
     i
 }
 
-// The place behind the last byte that is no space.
+// The place after the last byte that is no space.
 fn last_place(f: &[u8], at: usize, upto: usize) -> usize
     requires { ⌜ (at ≤ upto) × (upto ≤ length (now f)) ⌝ }
     ensures { λ r. ⌜ Narrowed at upto r (strip (part (now (f .entry)) at upto)) (part (now (f .entry)) at r) ⌝ }
@@ -94,8 +94,8 @@ fn first_place(f: &[u8], at: usize, upto: usize) -> usize
     i
 }
 
-// Where the text from a place on stands without the spaces around it, and where its comma or period stands. Where there is none, an
-// empty text.
+// Where the text from a place on stands without the spaces around it, and where its comma or period stands. If it has none, the
+// text is empty.
 pub fn bounds_at(f: &[u8], at: usize) -> Bounds
     requires { ⌜ at ≤ length (now f) ⌝ }
     ensures { λ r. ⌜ Bounded (now (f .entry)) at r ⌝ }

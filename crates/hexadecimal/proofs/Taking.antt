@@ -12,7 +12,7 @@ use Rattle.rules.proofs.Steps.{by-test, by-option, some-inj, not-some}
 use Rattle.buffer.proofs.Laws.{splice-nil}
 use Rattle.buffer.specs.Search.{upto-first}
 use Rattle.hexadecimal.specs.Text.{empty-word, is-paired, spelled-bytes, number}
-use Rattle.hexadecimal.specs.Lines.{word-at, word-bytes, place-behind, next-at, number-at}
+use Rattle.hexadecimal.specs.Lines.{word-at, word-bytes, place-after, next-at, number-at}
 use Rattle.hexadecimal.specs.Answers.{decoded-upto, written-bytes, Decodes, Takes}
 use Rattle.hexadecimal.specs.declared.Decoded.{Decoded}
 use Rattle.hexadecimal.specs.declared.Decoded.the-variants.{Upto, NoBytes}
@@ -46,7 +46,7 @@ module _ {C : Type 0} (at : ℕ) (o : Option Bytes) where
 -- no bytes, and so no next word
 gives-none : (line : Bytes) (at start : ℕ) (out : Bytes) → at ≤ length line + 1 → 2 * start ≤ at → word-bytes at line ≡ none
     → Takes line at start out out (record { end = start; next = length line + 1 })
-unfolding next-at place-behind
+unfolding next-at place-after
 gives-none line at start out h k e =
     record { end = rw (e, add-zero); next = rw e; after = rw e (sym (splice-nil start out)); upto = omega arith; within = omega arith }
 
@@ -72,7 +72,7 @@ module _ (line : Bytes) (at stop start : ℕ) (out out′ : Bytes) (h : at ≤ l
 
   pub takes-some : (r : Decoded) (end : ℕ) → stop ≤ length line → r ≡ Upto end → Decodes (take (stop - at) (drop at line)) start out out′ r
       → Takes line at start out out′ (record { end = end; next = stop + 1 })
-  unfolding next-at place-behind
+  unfolding next-at place-after
   takes-some r end l q d =
       from-upto start (spelled-bytes (take (stop - at) (drop at line))) end (sym q ∙ d .answer) λ bs e f.
       let b = bytes-are ∙ e in

@@ -23,12 +23,12 @@ abbrev pub decoded-upto : ℕ → Option Bytes → Decoded
 decoded-upto at none = NoBytes
 decoded-upto at (some bs) = Upto (at + length bs)
 
--- What is written: nothing where there are no bytes.
+-- What is written: nothing if there are no bytes.
 abbrev pub written-bytes : Option Bytes → Bytes
 written-bytes none = []
 written-bytes (some bs) = bs
 
--- A word is decoded to out from at on, and nothing is written where it spells no bytes.
+-- A word is decoded to out from at on, and nothing is written if it spells no bytes.
 pub record Decodes (word : Bytes) (at : ℕ) (out out′ : Bytes) (r : Decoded) : Type 0 where
   pub answer : r ≡ decoded-upto at (spelled-bytes word)
   pub after : out′ ≡ splice at (written-bytes (spelled-bytes word)) out

@@ -17,12 +17,12 @@ unfoldable pub word-bytes : ℕ → Bytes → Option Bytes
 word-bytes at line = cond (leb at (length line)) (spelled-bytes (word-at at line)) none
 
 -- Where the next word begins: one place after the end of the line if there is none, or if this word spells no bytes.
-unfoldable pub place-behind : ℕ → Bytes → Option Bytes → ℕ
-place-behind at line none = length line + 1
-place-behind at line (some bs) = at + (length (word-at at line) + 1)
+unfoldable pub place-after : ℕ → Bytes → Option Bytes → ℕ
+place-after at line none = length line + 1
+place-after at line (some bs) = at + (length (word-at at line) + 1)
 
 unfoldable pub next-at : ℕ → Bytes → ℕ
-next-at at line = place-behind at line (word-bytes at line)
+next-at at line = place-after at line (word-bytes at line)
 
 -- The number that the line spells from a place on to its end.
 unfoldable pub number-at : ℕ → Bytes → Option ℕ

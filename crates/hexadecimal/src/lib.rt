@@ -225,7 +225,7 @@ fn put_number(n: usize, out: &mut [u8], at: usize) -> usize
     at + k
 }
 
-// The bytes of the line's word from at on, to out from start on. Where it spells none, no word follows.
+// The bytes of the line's word from at on, to out from start on. If it spells none, no word follows.
 pub fn take_bytes(line: &[u8], at: usize, out: &mut [u8], start: usize) -> Taken
     requires { ⌜ (at ≤ length (now line) + 1) × (2 * start ≤ at) × (length (now line) ≤ 2 * length (now out)) ⌝ }
     ensures { λ r. ⌜ Takes (now (line .entry)) at start (now (out .entry)) (now (out .exit)) r ⌝ }

@@ -33,6 +33,6 @@ module _ (number at a b e : ℕ) (bytes out out₁ out₂ out₃ : Bytes) (h : a
       let order : ((n ++ l) ++ spelling bytes) ++ (10 ∷ []) ≡ n ++ (l ++ (spelling bytes ++ (10 ∷ []))) = simp append-assoc in
       record {
         after = rw order at (push at ((n ++ l) ++ spelling bytes) out out₃ e 10 two (omega arith) (omega arith));
-        behind = rw (← order) (omega arith);
+        end = rw (← order) (omega arith);
         short = omega arith;
       }

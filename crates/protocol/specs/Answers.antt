@@ -18,5 +18,5 @@ no-call-line = 63 ∷ 32 ∷ 48 ∷ 32 ∷ 45 ∷ 10 ∷ []
 -- The line of an answer is written to out from at on; the place after it.
 pub record Answers (number : ℕ) (bytes : Bytes) (at : ℕ) (out out′ : Bytes) (r : ℕ) : Type 0 where
   pub after : out′ ≡ splice at (answer-line number bytes) out
-  pub behind : r ≡ at + length (answer-line number bytes)
+  pub end : r ≡ at + length (answer-line number bytes)
   pub short : r ≤ at + (2 * length bytes + 16)

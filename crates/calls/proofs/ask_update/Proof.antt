@@ -1,4 +1,4 @@
--- `calls::ask_update` is safe: the parts stand one behind the other, and what is lent is no longer than room.
+-- `calls::ask_update` is safe: the parts stand one after the other, and what is lent is no longer than room.
 use native.Mathlib.Omega.{arith}
 use lib.ListN.{length-take}
 use borrow.Author.Needs.{needs}

@@ -1,4 +1,4 @@
--- `hexadecimal::spell` meets its contract: the digits that are left, behind what was read, spell the whole.
+-- `hexadecimal::spell` meets its contract: what was read and the digits that are left spell the whole.
 use Prim.Native.Nat.{_-_, _≤_, _<_, _^_}
 use mathlib.Core.Path.{_≡_, refl, sym, _∙_}
 use mathlib.Core.List.{map}

@@ -1,4 +1,4 @@
--- `hexadecimal::take_number` meets its contract: the place lies behind the line, or the rest of the line is the word.
+-- `hexadecimal::take_number` meets its contract: the place lies after the line, or the rest of the line is the word.
 use mathlib.Core.Path.{_∙_, sym, ap}
 use Rattle.hexadecimal.specs.Answers.{number-read}
 use Rattle.hexadecimal.proofs.Taking.{number-beyond, number-here}

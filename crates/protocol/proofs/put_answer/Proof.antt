@@ -7,6 +7,9 @@ use borrow.Author.Needs.{needs}
 use Rattle.protocol.proofs.put_answer.Statement.{statement}
 use Rattle.protocol.proofs.put_answer.Tie as tie
 
+abbrev start : tie.After-put-field2 → tie.Start
+start c = c .before .before .before .before .before .before .before .before
+
 put-field-requires : tie.Need-put-field-requires
 put-field-requires c κs = search needs
 
@@ -20,7 +23,7 @@ slice-write-out : tie.Need-slice-write-out
 slice-write-out c =
     let e = c .before .before in
     let f = e .before .before .before .before in
-    let s = f .before .before .before .before .before .before .before .before in
+    let s = start f in
     let z = spelling-short (s .args .bytes .now) in
     omega (arith, s .pre, e .encode .ensures .0, f .put-field2 .ensures, f .before .before .before .before .put-field .ensures)
 
@@ -28,7 +31,7 @@ add-result : tie.Need-add-result
 add-result c =
     let e = c .before .before in
     let f = e .before .before .before .before in
-    let s = f .before .before .before .before .before .before .before .before in
+    let s = start f in
     let z = spelling-short (s .args .bytes .now) in
     omega (arith, s .pre, e .encode .ensures .0, f .put-field2 .ensures, f .before .before .before .before .put-field .ensures)
 
@@ -40,7 +43,7 @@ returns c =
     let e = c .before .before in
     let f = e .before .before .before .before in
     let g = f .before .before .before .before in
-    let s = g .before .before .before .before in
+    let s = start f in
     answers (s .args .number) (s .args .at) _ _ _ (s .args .bytes .now) (s .args .out .now) _ _ _ (s .pre .1) (g .put-field .ensures) (f .put-field2 .ensures) (e .encode .ensures)
 
 pub put-answer-spec : {M : Type 1} → statement M

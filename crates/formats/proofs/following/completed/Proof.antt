@@ -9,8 +9,8 @@ use Rattle.formats.proofs.following.completed.Tie as tie
 enum-known-e : tie.Need-enum-known-e
 enum-known-e c = search needs
 
-length-behind-requires : tie.Need-length-behind-requires
-length-behind-requires c κs =
+length-after-requires : tie.Need-length-after-requires
+length-after-requires c κs =
     let s = c .before .before .before .before in
     let e = c .before .e .given .1 in
     let u = rw e at (s .pre .2) in
@@ -29,7 +29,7 @@ enum-told-4 : tie.Need-enum-told-4
 enum-told-4 c = search needs
 
 returns : tie.Need-returns
-returns c = rw (c .before .before .e .given .1) (c .length-behind .ensures)
+returns c = rw (c .before .before .e .given .1) (c .length-after .ensures)
 
 returns-2 : tie.Need-returns-2
 returns-2 c from h =
@@ -60,7 +60,7 @@ completed-spec =
     tie.close
     (tie.spec
     enum-known-e
-    length-behind-requires
+    length-after-requires
     enum-told
     enum-told-2
     enum-told-3

@@ -1,14 +1,39 @@
--- `formats::following::trailer_at` meets its contract: the first byte and what stands behind it choose the rule.
-use mathlib.Core.Path.{refl, sym, ap, _∙_}
+-- `formats::following::trailer_at` meets its contract: the first byte and what follows it choose the rule.
+use mathlib.Core.Path.{_≡_, refl, sym, _∙_}
+use mathlib.Core.Bool.{false}
+use mathlib.Core.List.{[], _∷_}
 use native.Mathlib.Omega.{arith}
-use Rattle.rules.specs.Outcome.{_>>=_}
-use Rattle.rules.specs.Format.{after-number}
+use lib.ListN.{getD}
+use Rattle.rules.specs.Characters.{digit}
+use Rattle.rules.specs.Format.{piece}
+use Rattle.formats.specs.Part.{part}
+use Rattle.formats.specs.Pieces.{number-piece}
 use Rattle.formats.proofs.Names.{numbered-value, numbered-bad}
 use Rattle.formats.proofs.PieceLaws.{number-length, number-large, number-only, single-format, single-bad, piece-nothing, piece-one}
-use Rattle.formats.proofs.Trailers.{only-from, longer-only, digit-piece}
+use Rattle.formats.proofs.Trailers.{only-from, longer-only, digit-piece, number-read}
 use borrow.Author.Needs.{needs}
 use Rattle.formats.proofs.following.trailer_at.Statement.{statement}
 use Rattle.formats.proofs.following.trailer_at.Tie as tie
+
+-- A digit stands first: the bytes are read as a number.
+abbrev start : tie.Then2 → tie.Start
+start c = c .before .before .before .before .before
+
+as-number : (c : tie.Then2)
+    → piece (part (start c .args .f .now) (start c .args .first) (start c .args .last)) ≡ number-piece (part (start c .args .f .now) (start c .args .first) (start c .args .last))
+as-number c =
+    let a = start c .args in
+    digit-piece (a .f .now) (a .first) (a .last) (omega arith) (omega arith) (sym (c .before .is-digit .ensures) ∙ c .if2 .taken)
+
+-- Another byte stands first, alone or not.
+abbrev other : tie.Else2 → tie.Start
+other c = c .before .before .before .before .before
+
+no-digit : (c : tie.Else2) → digit (getD (other c .args .f .now) (other c .args .first) 0) ≡ false
+no-digit c = sym (c .before .is-digit .ensures) ∙ c .if2 .left
+
+as-one : (c : tie.Then5) → let a = other (c .before) .args in piece (part (a .f .now) (a .first) (a .last)) ≡ piece (getD (a .f .now) (a .first) 0 ∷ [])
+as-one c = let a = other (c .before) .args in piece-one (a .f .now) (a .first) (a .last) (omega arith) (c .if5 .taken)
 
 returns : tie.Need-returns
 returns c =
@@ -31,30 +56,28 @@ enum-told : tie.Need-enum-told
 enum-told c = search needs
 
 returns-2 : tie.Need-returns-2
-returns-2 c =
-    let a = c .before .before .before .before .before .before .before .before .args in
-    digit-piece (a .f .now) (a .first) (a .last) (omega arith) (omega arith) (sym (c .before .before .before .before .is-digit .ensures) ∙ c .before .before .before .if2 .taken) ∙ rw (numbered-bad (c .before .before .number-first .ensures) (c .enum-told .given .1)) refl
+returns-2 c = as-number (c .before .before .before) ∙ rw (numbered-bad (c .before .before .number-first .ensures) (c .enum-told .given .1)) refl
 
 returns-3 : tie.Need-returns-3
 returns-3 c =
-    let a = c .before .before .before .before .before .before .before .before .before .before .args in
-    let v = numbered-value (c .before .before .before .before .number-first .ensures) (c .before .before .n .given .1) in
-    let b = ap (λ o. o >>= λ i. after-number (i .0) (i .1)) (v .0) in
-    only-from (digit-piece (a .f .now) (a .first) (a .last) (omega arith) (omega arith) (sym (c .before .before .before .before .before .before .is-digit .ensures) ∙ c .before .before .before .before .before .if2 .taken) ∙ b) (number-only _ (a .f .now) _ (a .last) (omega (arith, v .1)) (omega arith))
+    let n = c .before .before in
+    let d = n .before .before .before in
+    let v = numbered-value (n .before .before .number-first .ensures) (n .n .given .1) in
+    only-from (as-number d ∙ number-read (v .0)) (number-only _ (start d .args .f .now) _ (start d .args .last) (omega (arith, v .1)) (omega arith))
 
 returns-4 : tie.Need-returns-4
 returns-4 c =
-    let a = c .before .before .before .before .before .before .before .before .before .before .before .args in
-    let v = numbered-value (c .before .before .before .before .before .number-first .ensures) (c .before .before .before .n .given .1) in
-    let b = ap (λ o. o >>= λ i. after-number (i .0) (i .1)) (v .0) in
-    digit-piece (a .f .now) (a .first) (a .last) (omega arith) (omega arith) (sym (c .before .before .before .before .before .before .before .is-digit .ensures) ∙ c .before .before .before .before .before .before .if2 .taken) ∙ b ∙ number-large _ (a .f .now) _ (a .last) (c .before .if3 .left) (omega arith)
+    let n = c .before .before .before in
+    let d = n .before .before .before in
+    let v = numbered-value (n .before .before .number-first .ensures) (n .n .given .1) in
+    as-number d ∙ number-read (v .0) ∙ number-large _ (start d .args .f .now) _ (start d .args .last) (c .before .if3 .left) (omega arith)
 
 returns-5 : tie.Need-returns-5
 returns-5 c =
-    let a = c .before .before .before .before .before .before .before .before .before .before .before .args in
-    let v = numbered-value (c .before .before .before .before .before .number-first .ensures) (c .before .before .before .n .given .1) in
-    let b = ap (λ o. o >>= λ i. after-number (i .0) (i .1)) (v .0) in
-    (digit-piece (a .f .now) (a .first) (a .last) (omega arith) (omega arith) (sym (c .before .before .before .before .before .before .before .is-digit .ensures) ∙ c .before .before .before .before .before .before .if2 .taken) ∙ b ∙ number-length _ (a .f .now) _ (a .last) (c .before .if3 .left) (omega arith), omega arith)
+    let n = c .before .before .before in
+    let d = n .before .before .before in
+    let v = numbered-value (n .before .before .number-first .ensures) (n .n .given .1) in
+    (as-number d ∙ number-read (v .0) ∙ number-length _ (start d .args .f .now) _ (start d .args .last) (c .before .if3 .left) (omega arith), omega arith)
 
 sub-if5 : tie.Need-sub-if5
 sub-if5 c = search needs
@@ -63,19 +86,15 @@ is-override-requires : tie.Need-is-override-requires
 is-override-requires c κs = search needs
 
 returns-6 : tie.Need-returns-6
-returns-6 c =
-    let a = c .before .before .before .before .before .before .before .before .args in
-    piece-one (a .f .now) (a .first) (a .last) (omega arith) (c .before .before .if5 .taken) ∙ single-format _ (sym (c .before .before .before .before .is-digit .ensures) ∙ c .before .before .before .if2 .left) (sym (c .before .is-override .ensures) ∙ c .if6 .taken)
+returns-6 c = as-one (c .before .before) ∙ single-format _ (no-digit (c .before .before .before)) (sym (c .before .is-override .ensures) ∙ c .if6 .taken)
 
 returns-7 : tie.Need-returns-7
-returns-7 c =
-    let a = c .before .before .before .before .before .before .before .before .args in
-    piece-one (a .f .now) (a .first) (a .last) (omega arith) (c .before .before .if5 .taken) ∙ single-bad _ (sym (c .before .before .before .before .is-digit .ensures) ∙ c .before .before .before .if2 .left) (sym (c .before .is-override .ensures) ∙ c .if6 .left)
+returns-7 c = as-one (c .before .before) ∙ single-bad _ (no-digit (c .before .before .before)) (sym (c .before .is-override .ensures) ∙ c .if6 .left)
 
 returns-8 : tie.Need-returns-8
 returns-8 c =
-    let a = c .before .before .before .before .before .before .args in
-    longer-only (a .f .now) (a .first) (a .last) (omega arith) (omega arith) (sym (c .before .before .is-digit .ensures) ∙ c .before .if2 .left)
+    let a = other (c .before) .args in
+    longer-only (a .f .now) (a .first) (a .last) (omega arith) (omega arith) (no-digit (c .before))
 
 pub trailer-at-spec : {M : Type 1} → statement M
 trailer-at-spec =

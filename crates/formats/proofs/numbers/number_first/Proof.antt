@@ -14,6 +14,10 @@ Inv-loop f at upto a n₀ i₀ n i = Read f at upto n i
 abbrev μ-loop : tie.MeasureT-loop
 μ-loop f at upto a n₀ i₀ n i = upto - i
 
+-- What has been read before the turn.
+abbrev turn : tie.After-is-digit2 Inv-loop μ-loop → tie.At-loop Inv-loop μ-loop
+turn c = c .before .before .before
+
 returns : tie.Need-returns Inv-loop μ-loop
 returns c =
     let a = c .before .before .args in
@@ -54,7 +58,7 @@ is-digit-requires-2 c κs = search needs
 
 returns-3 : tie.Need-returns-3 Inv-loop μ-loop
 returns-3 c =
-    let w = c .before .before .before .before .loop .inv in
+    let w = turn (c .before) .loop .inv in
     let d = c .before .is-digit2 in
     record {
       answer = read-stop w (c .before .before .before .loop-test .taken) (sym (d .ensures) ∙ not-true (d .result) (c .if3 .taken));
@@ -66,7 +70,7 @@ sub-if4 c = search needs
 
 returns-4 : tie.Need-returns-4 Inv-loop μ-loop
 returns-4 c =
-    let w = c .before .before .before .before .before .loop .inv in
+    let w = turn (c .before .before) .loop .inv in
     let d = c .before .before .is-digit2 in
     record {
       answer = read-many w (c .before .before .before .before .loop-test .taken) (sym (d .ensures) ∙ not-false (d .result) (c .before .if3 .left)) (omega arith);
@@ -74,13 +78,13 @@ returns-4 c =
     }
 
 mul-n : tie.Need-mul-n Inv-loop μ-loop
-mul-n c = omega (arith, read-value (c .before .before .before .before .before .loop .inv))
+mul-n c = omega (arith, read-value (turn (c .before .before) .loop .inv))
 
 digit-of-requires-2 : tie.Need-digit-of-requires-2 Inv-loop μ-loop
 digit-of-requires-2 c κs = sym (c .before .before .is-digit2 .ensures) ∙ not-false (c .before .before .is-digit2 .result) (c .before .if3 .left)
 
 add-n : tie.Need-add-n Inv-loop μ-loop
-add-n c = omega (arith, c .digit-of2 .ensures .1, read-value (c .before .before .before .before .before .before .loop .inv))
+add-n c = omega (arith, c .digit-of2 .ensures .1, read-value (turn (c .before .before .before) .loop .inv))
 
 add-i-2 : tie.Need-add-i-2 Inv-loop μ-loop
 add-i-2 c = search needs
@@ -91,7 +95,7 @@ loop-less c = search needs
 loop-again : tie.Need-loop-again Inv-loop μ-loop
 loop-again c =
     let d = c .before .before .before .is-digit2 in
-    read-turn (c .before .before .before .before .before .before .loop .inv) (c .before .before .before .before .before .loop-test .taken)
+    read-turn (turn (c .before .before .before) .loop .inv) (c .before .before .before .before .before .loop-test .taken)
     (sym (d .ensures) ∙ not-false (d .result) (c .before .before .if3 .left)) (c .before .if4 .left) (c .digit-of2 .ensures .0) (c .digit-of2 .ensures .1)
 
 returns-5 : tie.Need-returns-5 Inv-loop μ-loop

@@ -1,4 +1,4 @@
--- `formats::pieces::after_name` meets its contract, by what stands behind the name: nothing, a count, a series or an index.
+-- `formats::pieces::after_name` meets its contract, by what follows the name: nothing, a count, a series or an index.
 use mathlib.Core.Path.{refl, sym, ap, _∙_}
 use native.Mathlib.Omega.{arith}
 use Rattle.formats.specs.declared.Element.the-variants as code

@@ -7,6 +7,9 @@ use borrow.Author.Needs.{needs}
 use Rattle.formats.proofs.pieces.after_number.Statement.{statement}
 use Rattle.formats.proofs.pieces.after_number.Tie as tie
 
+abbrev start : tie.After-alone → tie.Start
+start c = c .before .before .before .before .before
+
 returns : tie.Need-returns
 returns c =
     let a = c .before .before .before .args in
@@ -35,7 +38,7 @@ cast-t9 c = search needs
 
 returns-5 : tie.Need-returns-5
 returns-5 c =
-    let a = c .before .before .before .before .before .before .args in
+    let a = start (c .before) .args in
     record {
       answer = number-blanks (a .n) (a .f .now) (a .at) (a .upto) (omega arith) (omega arith) (sym (c .before .alone .ensures) ∙ c .if5 .taken) (omega arith) (c .before .before .if4 .left);
       sound = (omega arith, tt);
@@ -43,7 +46,7 @@ returns-5 c =
 
 returns-6 : tie.Need-returns-6
 returns-6 c =
-    let a = c .before .before .before .before .before .before .args in
+    let a = start (c .before) .args in
     pieced-bad (number-other (a .n) (a .f .now) (a .at) (a .upto) (omega arith) (omega arith) (sym (c .before .alone .ensures) ∙ c .if5 .left))
 
 pub after-number-spec : {M : Type 1} → statement M

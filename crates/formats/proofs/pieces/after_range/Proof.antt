@@ -1,4 +1,4 @@
--- `formats::pieces::after_range` meets its contract, by what stands behind the range.
+-- `formats::pieces::after_range` meets its contract, by what follows the range.
 use mathlib.Core.Path.{refl, ap, _∙_}
 use native.Mathlib.Omega.{arith}
 use Rattle.formats.specs.Elements.{range, with-occurrences, with-values}

@@ -1,4 +1,4 @@
--- `formats::pieces::number_piece` meets its contract: a number, and what stands behind it.
+-- `formats::pieces::number_piece` meets its contract: a number, and what follows it.
 use mathlib.Core.Path.{refl}
 use native.Mathlib.Omega.{arith}
 use Rattle.formats.proofs.Names.{numbered-value, numbered-bad}

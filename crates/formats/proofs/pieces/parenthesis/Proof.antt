@@ -6,6 +6,10 @@ use borrow.Author.Needs.{needs}
 use Rattle.formats.proofs.pieces.parenthesis.Statement.{statement}
 use Rattle.formats.proofs.pieces.parenthesis.Tie as tie
 
+-- The number before the end of the range.
+abbrev first : tie.After-l → tie.After-k
+first c = c .before .before .before .before
+
 number-first-requires : tie.Need-number-first-requires
 number-first-requires c κs = search needs
 
@@ -41,14 +45,18 @@ alone-requires c κs =
 
 returns-3 : tie.Need-returns-3
 returns-3 c =
-    let v = numbered-value (c .before .before .before .before .before .before .before .before .before .number-first .ensures) (c .before .before .before .before .before .before .before .k .given .1) in
-    let w = numbered-value (c .before .before .before .before .before .range-end .ensures) (c .before .before .before .l .given .1) in
+    let l = c .before .before .before in
+    let k = first l in
+    let v = numbered-value (k .before .before .number-first .ensures) (k .k .given .1) in
+    let w = numbered-value (l .before .before .range-end .ensures) (l .l .given .1) in
     record { answer = parenthesis-shut _ (v .0) (w .0) (sym (c .before .alone .ensures) ∙ c .if1 .taken); small = (v .1 .2, w .1 .2) }
 
 returns-4 : tie.Need-returns-4
 returns-4 c =
-    let v = numbered-value (c .before .before .before .before .before .before .before .before .before .number-first .ensures) (c .before .before .before .before .before .before .before .k .given .1) in
-    let w = numbered-value (c .before .before .before .before .before .range-end .ensures) (c .before .before .before .l .given .1) in
+    let l = c .before .before .before in
+    let k = first l in
+    let v = numbered-value (k .before .before .number-first .ensures) (k .k .given .1) in
+    let w = numbered-value (l .before .before .range-end .ensures) (l .l .given .1) in
     record { answer = parenthesis-open _ (v .0) (w .0) (sym (c .before .alone .ensures) ∙ c .if1 .left); small = tt }
 
 pub parenthesis-spec : {M : Type 1} → statement M

@@ -7,6 +7,9 @@ use borrow.Author.Needs.{needs}
 use Rattle.formats.proofs.pieces.text_piece.Statement.{statement}
 use Rattle.formats.proofs.pieces.text_piece.Tie as tie
 
+abbrev start : tie.After-no-apostrophe → tie.Start
+start c = c .before .before .before .before .before .before
+
 sub-last : tie.Need-sub-last
 sub-last c = search needs
 
@@ -36,7 +39,7 @@ no-apostrophe-requires c κs = search needs
 
 returns-4 : tie.Need-returns-4
 returns-4 c =
-    let a = c .before .before .before .before .before .before .before .args in
+    let a = start (c .before) .args in
     record {
       answer =
           text-is (a .f .now) (a .at) (a .upto) (omega arith) (omega arith) (c .before .before .before .before .if1 .left) (sym (c .before .no-apostrophe .ensures) ∙ c .if4 .taken) (omega arith) (c .before .before .if3 .left);
@@ -45,7 +48,7 @@ returns-4 c =
 
 returns-5 : tie.Need-returns-5
 returns-5 c =
-    let a = c .before .before .before .before .before .before .before .args in
+    let a = start (c .before) .args in
     pieced-bad (text-broken (a .f .now) (a .at) (a .upto) (omega arith) (omega arith) (c .before .before .before .before .if1 .left) (sym (c .before .no-apostrophe .ensures) ∙ c .if4 .left))
 
 pub text-piece-spec : {M : Type 1} → statement M

@@ -34,24 +34,22 @@ is-last-requires c κs = step-known (c .before .before .before .next .ensures) _
 
 returns-2 : tie.Need-returns-2 Inv-loop μ-loop
 returns-2 c =
-    let n = c .before .before .before .before .before .next .ensures in
-    good-last n _ _ (c .before .before .before .stop .given .1) (sym (c .before .is-last .ensures) ∙ c .if2 .taken) ∙ c .before .before .before .before .before .before .loop .inv .1
+    let t = c .before .before .before in
+    let n = t .before .before in
+    good-last (n .next .ensures) _ _ (t .stop .given .1) (sym (c .before .is-last .ensures) ∙ c .if2 .taken) ∙ n .before .loop .inv .1
 
 add-at : tie.Need-add-at Inv-loop μ-loop
-add-at c =
-    let k = step-known (c .before .before .before .before .before .next .ensures) _ _ (c .before .before .before .stop .given .1) in
-    omega (arith, k)
+add-at c = let t = c .before .before .before in omega (arith, step-known (t .before .before .next .ensures) _ _ (t .stop .given .1))
 
 loop-less : tie.Need-loop-less Inv-loop μ-loop
-loop-less c =
-    let k = step-known (c .before .before .before .before .before .next .ensures) _ _ (c .before .before .before .stop .given .1) in
-    omega (arith, k)
+loop-less c = let t = c .before .before .before in omega (arith, step-known (t .before .before .next .ensures) _ _ (t .stop .given .1))
 
 loop-again : tie.Need-loop-again Inv-loop μ-loop
 loop-again c =
-    let n = c .before .before .before .before .before .next .ensures in
-    let q = c .before .before .before .stop .given .1 in
-    (omega (arith, step-known n _ _ q), good-more n _ _ q (sym (c .before .is-last .ensures) ∙ c .if2 .left) ∙ c .before .before .before .before .before .before .loop .inv .1)
+    let t = c .before .before .before in
+    let n = t .before .before in
+    let q = t .stop .given .1 in
+    (omega (arith, step-known (n .next .ensures) _ _ q), good-more (n .next .ensures) _ _ q (sym (c .before .is-last .ensures) ∙ c .if2 .left) ∙ n .before .loop .inv .1)
 
 enum-told : tie.Need-enum-told Inv-loop μ-loop
 enum-told c = search needs

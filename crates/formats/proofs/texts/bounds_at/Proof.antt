@@ -1,4 +1,4 @@
--- `formats::texts::bounds_at` meets its contract: the text ends where the code looks for its end, and stands where its bytes without spaces do.
+-- `formats::texts::bounds_at` meets its contract: the text ends at the place that was found, and its bytes without spaces are those between the bounds.
 use native.Mathlib.Omega.{arith}
 use Rattle.formats.proofs.Joins.{pending-none, pending-some, trim-at}
 use borrow.Author.Needs.{needs}

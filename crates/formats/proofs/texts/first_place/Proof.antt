@@ -1,4 +1,4 @@
--- `formats::texts::first_place` meets its contract: what is left begins, behind its spaces, where the whole does.
+-- `formats::texts::first_place` meets its contract: after their spaces, what is left and the whole begin at the same place.
 use mathlib.Core.Path.{_≡_, refl, sym, _∙_}
 use Prim.Native.Nat.{_≤_, _-_}
 use native.Mathlib.Omega.{arith}

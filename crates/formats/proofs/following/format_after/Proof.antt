@@ -1,12 +1,25 @@
--- `formats::following::format_behind` meets its contract, by what follows: nothing, a format, neither, or what may not.
+-- `formats::following::format_after` meets its contract, by what follows: nothing, a format, neither, or what may not.
+use mathlib.Core.Path.{_≡_}
 use native.Mathlib.Omega.{arith}
+use lib.ListN.{getD}
+use Rattle.rules.specs.Characters.{period}
 use Rattle.formats.proofs.Answers.{small-length, small-format}
 use Rattle.formats.proofs.Joins.{bounded-as, bounded-end}
 use Rattle.formats.proofs.Trailers.{bounded-first}
 use Rattle.formats.proofs.StepLaws.{stepped-at, stepped-bad, first-period, first-comma, format-first, format-format, format-length, format-bad, name-given-length, name-given-both}
 use borrow.Author.Needs.{needs}
-use Rattle.formats.proofs.following.format_behind.Statement.{statement}
-use Rattle.formats.proofs.following.format_behind.Tie as tie
+use Rattle.formats.proofs.following.format_after.Statement.{statement}
+use Rattle.formats.proofs.following.format_after.Tie as tie
+
+-- What follows the comma was found, after a name with its length.
+abbrev start : tie.After-bounds-at → tie.Start
+start c = c .before .before .before .before .before .before .before
+
+comma : (c : tie.After-bounds-at) → getD (start c .args .f .now) (start c .args .end) 0 ≡ period → ⊥
+comma c = c .before .before .before .if1 .left
+
+abbrev sized : tie.After-bounds-at → tie.After-with-length
+sized c = c .before .before .before .before .before
 
 with-length-requires : tie.Need-with-length-requires
 with-length-requires c κs = search needs
@@ -63,39 +76,42 @@ enum-told-3 c = search needs
 
 returns-3 : tie.Need-returns-3
 returns-3 c from h =
-    let s = c .before .before .before .before .before .before .before .before .before .before .before .before in
+    let b = c .before .before .before .before .before in
+    let s = start b in
     let a = s .args in
-    let w = c .before .before .before .before .before .bounds-at .ensures in
+    let w = b .bounds-at .ensures in
+    let e = sized b .with-length .ensures in
     let t = rw (c .before .before .next .given .1) at (c .before .before .before .before .trailer-at .ensures) in
-    let e = c .before .before .before .before .before .before .before .before .before .before .with-length .ensures in
-    stepped-at (format-format (a .f .now) (a .end) (a .n) (c .before .before .before .before .before .before .before .before .if1 .left) _ (a .size) _ (bounded-as w t))
-    (name-given-both (a .f .now) (a .n) e (c .with-format .ensures))
+    stepped-at (format-format (a .f .now) (a .end) (a .n) (comma b) _ (a .size) _ (bounded-as w t)) (name-given-both (a .f .now) (a .n) e (c .with-format .ensures))
     (omega (arith, w .from, w .order, w .upto)) (bounded-end w t) (rw (c .with-format .ensures, e) (small-format (small-length (s .pre .1) (s .pre .3)) _))
 
 returns-4 : tie.Need-returns-4
 returns-4 c from h =
-    let s = c .before .before .before .before .before .before .before .before .before .before in
+    let b = c .before .before .before in
+    let s = start b in
     let a = s .args in
-    let e = c .before .before .before .before .before .before .before .before .with-length .ensures in
+    let e = sized b .with-length .ensures in
     let t = rw (c .enum-told .given .1) at (c .before .before .trailer-at .ensures) in
-    let first = first-comma (a .f .now) (a .end) (c .before .before .before .before .before .before .if1 .left) (bounded-first (c .before .before .before .bounds-at .ensures) t) in
+    let first = first-comma (a .f .now) (a .end) (comma b) (bounded-first (b .bounds-at .ensures) t) in
     stepped-at (format-first (a .f .now) (a .end) (a .n) (a .size) first) (name-given-length (a .f .now) (a .n) e (s .pre .2))
     (omega arith) (s .pre .0) (rw e (small-length (s .pre .1) (s .pre .3)))
 
 returns-5 : tie.Need-returns-5
 returns-5 c from h =
-    let a = c .before .before .before .before .before .before .before .before .before .before .args in
+    let b = c .before .before .before in
+    let a = start b .args in
     let t = rw (c .enum-told2 .given .1) at (c .before .before .trailer-at .ensures) in
-    stepped-bad (format-length (a .f .now) (a .end) (a .n) (c .before .before .before .before .before .before .if1 .left) _ (a .size) _ (bounded-as (c .before .before .before .bounds-at .ensures) (t .0)))
+    stepped-bad (format-length (a .f .now) (a .end) (a .n) (comma b) _ (a .size) _ (bounded-as (b .bounds-at .ensures) (t .0)))
 
 returns-6 : tie.Need-returns-6
 returns-6 c from h =
-    let a = c .before .before .before .before .before .before .before .before .before .before .args in
+    let b = c .before .before .before in
+    let a = start b .args in
     let t = rw (c .enum-told3 .given .1) at (c .before .before .trailer-at .ensures) in
-    stepped-bad (format-bad (a .f .now) (a .end) (a .n) (c .before .before .before .before .before .before .if1 .left) (a .size) (bounded-as (c .before .before .before .bounds-at .ensures) t))
+    stepped-bad (format-bad (a .f .now) (a .end) (a .n) (comma b) (a .size) (bounded-as (b .bounds-at .ensures) t))
 
-pub format-behind-spec : {M : Type 1} → statement M
-format-behind-spec =
+pub format-after-spec : {M : Type 1} → statement M
+format-after-spec =
     tie.close
     (tie.spec
     with-length-requires

@@ -1,13 +1,22 @@
--- `formats::following::length_behind` meets its contract, by what follows the name: nothing, a length, a format, neither, or what may not.
-use mathlib.Core.Path.{sym}
+-- `formats::following::length_after` meets its contract, by what follows the name: nothing, a length, a format, neither, or what may not.
+use mathlib.Core.Path.{_≡_}
 use native.Mathlib.Omega.{arith}
+use lib.ListN.{getD}
+use Rattle.rules.specs.Characters.{period}
 use Rattle.formats.proofs.Answers.{small-format}
 use Rattle.formats.proofs.Joins.{bounded-as, bounded-end}
 use Rattle.formats.proofs.Trailers.{bounded-first}
 use Rattle.formats.proofs.StepLaws.{stepped-at, stepped-from, stepped-bad, first-period, first-comma, name-first, name-length, name-format, name-bad, name-given-neither, name-given-format}
 use borrow.Author.Needs.{needs}
-use Rattle.formats.proofs.following.length_behind.Statement.{statement}
-use Rattle.formats.proofs.following.length_behind.Tie as tie
+use Rattle.formats.proofs.following.length_after.Statement.{statement}
+use Rattle.formats.proofs.following.length_after.Tie as tie
+
+-- What follows the comma was found.
+abbrev start : tie.After-bounds-at → tie.Start
+start c = c .before .before .before .before .before .before
+
+comma : (c : tie.After-bounds-at) → getD (start c .args .f .now) (start c .args .end) 0 ≡ period → ⊥
+comma c = c .before .before .before .if1 .left
 
 shared-slice-read-if1 : tie.Need-shared-slice-read-if1
 shared-slice-read-if1 c = search needs
@@ -45,11 +54,12 @@ trailer-at-requires c κs = search needs
 enum-known-next : tie.Need-enum-known-next
 enum-known-next c = search needs
 
-format-behind-requires : tie.Need-format-behind-requires
-format-behind-requires c κs =
-    let s = c .before .before .before .before .before .before .before .before .before .before in
+format-after-requires : tie.Need-format-after-requires
+format-after-requires c κs =
+    let b = c .before .before .before .before in
+    let s = start b in
     let t = rw (c .before .next .given .1) at (c .before .before .before .trailer-at .ensures) in
-    (bounded-end (c .before .before .before .before .bounds-at .ensures) (t .0), s .pre .1, s .pre .3, t .1)
+    (bounded-end (b .bounds-at .ensures) (t .0), s .pre .1, s .pre .3, t .1)
 
 enum-known-next-2 : tie.Need-enum-known-next-2
 enum-known-next-2 c = search needs
@@ -65,38 +75,41 @@ enum-told-2 c = search needs
 
 returns-3 : tie.Need-returns-3
 returns-3 c from h =
-    let a = c .before .before .before .before .before .before .before .before .before .before .before .args in
-    let w = c .before .before .before .before .before .bounds-at .ensures in
+    let b = c .before .before .before .before .before in
+    let a = start b .args in
+    let w = b .bounds-at .ensures in
     let t = rw (c .before .before .next .given .1) at (c .before .before .before .before .trailer-at .ensures) in
-    stepped-from (name-length (a .f .now) (a .end) (a .n) (c .before .before .before .before .before .before .before .before .if1 .left) _ _ _ _ (bounded-as w (t .0))) (c .format-behind .ensures from (omega (arith, w .from, w .order, w .upto)))
+    stepped-from (name-length (a .f .now) (a .end) (a .n) (comma b) _ _ _ _ (bounded-as w (t .0))) (c .format-after .ensures from (omega (arith, w .from, w .order, w .upto)))
 
 returns-4 : tie.Need-returns-4
 returns-4 c from h =
-    let s = c .before .before .before .before .before .before .before .before .before .before .before in
+    let b = c .before .before .before .before .before in
+    let s = start b in
     let a = s .args in
-    let w = c .before .before .before .before .before .bounds-at .ensures in
+    let w = b .bounds-at .ensures in
     let t = rw (c .before .before .next2 .given .1) at (c .before .before .before .before .trailer-at .ensures) in
-    stepped-at (name-format (a .f .now) (a .end) (a .n) (c .before .before .before .before .before .before .before .before .if1 .left) _ _ _ _ (bounded-as w t))
-    (name-given-format (a .f .now) (a .n) (c .with-format .ensures) (s .pre .2))
+    stepped-at (name-format (a .f .now) (a .end) (a .n) (comma b) _ _ _ _ (bounded-as w t)) (name-given-format (a .f .now) (a .n) (c .with-format .ensures) (s .pre .2))
     (omega (arith, w .from, w .order, w .upto)) (bounded-end w t) (rw (c .with-format .ensures) (small-format (s .pre .1) _))
 
 returns-5 : tie.Need-returns-5
 returns-5 c from h =
-    let s = c .before .before .before .before .before .before .before .before .before in
+    let b = c .before .before .before in
+    let s = start b in
     let a = s .args in
     let t = rw (c .enum-told .given .1) at (c .before .before .trailer-at .ensures) in
-    let first = first-comma (a .f .now) (a .end) (c .before .before .before .before .before .before .if1 .left) (bounded-first (c .before .before .before .bounds-at .ensures) t) in
+    let first = first-comma (a .f .now) (a .end) (comma b) (bounded-first (b .bounds-at .ensures) t) in
     stepped-at (name-first (a .f .now) (a .end) (a .n) _ _ first) (name-given-neither (a .f .now) (a .n) (s .pre .2) (s .pre .3))
     (omega arith) (s .pre .0) (s .pre .1)
 
 returns-6 : tie.Need-returns-6
 returns-6 c from h =
-    let a = c .before .before .before .before .before .before .before .before .before .args in
+    let b = c .before .before .before in
+    let a = start b .args in
     let t = rw (c .enum-told2 .given .1) at (c .before .before .trailer-at .ensures) in
-    stepped-bad (name-bad (a .f .now) (a .end) (a .n) (c .before .before .before .before .before .before .if1 .left) _ _ (bounded-as (c .before .before .before .bounds-at .ensures) t))
+    stepped-bad (name-bad (a .f .now) (a .end) (a .n) (comma b) _ _ (bounded-as (b .bounds-at .ensures) t))
 
-pub length-behind-spec : {M : Type 1} → statement M
-length-behind-spec =
+pub length-after-spec : {M : Type 1} → statement M
+length-after-spec =
     tie.close
     (tie.spec
     shared-slice-read-if1
@@ -108,7 +121,7 @@ length-behind-spec =
     bounds-at-requires
     trailer-at-requires
     enum-known-next
-    format-behind-requires
+    format-after-requires
     enum-known-next-2
     with-format-requires
     enum-told
