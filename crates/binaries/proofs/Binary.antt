@@ -21,7 +21,7 @@ use Rattle.words.specs.declared.Word.{Word}
 use Rattle.words.specs.declared.Word.the-variants.{Number, Outside}
 use Rattle.words.proofs.NormalForm.{is-normal-form}
 
--- Carried from B to B a value is written as it is meant.
+-- Carried from B to B, a value is written as the number that it means.
 carried-is : (n : ℕ) (s : Bytes) → carried binary binary n s ≡ normal binary n (number false (spelled 256 s 0))
 unfolding carried converted meaning conversion in-range
 carried-is n s = refl

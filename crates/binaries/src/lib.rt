@@ -19,7 +19,7 @@ fn is_zero(b: u8) -> bool
     b == 0
 }
 
-// Whether the number of s fits n bytes: all before the last n are zeros.
+// Whether the number of s fits n bytes: whether all bytes before the last n are zeros.
 pub fn binary_fits(s: &[u8], n: usize) -> bool
     ensures { λ r. ⌜ r ≡ is-done (carried binary binary n (now (s .entry))) ⌝ }
 {
@@ -58,7 +58,7 @@ fn wide(x: u8) -> u64
     x as u64
 }
 
-// The word that the number of s is.
+// The number of s, if it is within the conversion ranges.
 pub fn binary_word(s: &[u8]) -> Word
     ensures { λ r. ⌜ r ≡ word-of (value-of (meaning binary (now (s .entry)))) ⌝ }
 {

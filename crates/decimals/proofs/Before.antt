@@ -1,4 +1,4 @@
--- The bytes before the last of a value have the digits before its last, and are all zeros where the magnitude is a digit.
+-- The bytes before the last of a value have the digits before its last, and are all zeros where the magnitude has one digit.
 use mathlib.Core.Path.{_≡_, refl, sym, _∙_, ap}
 use mathlib.Core.Bool.{Bool, true, false, not, _&&_}
 use mathlib.Core.List.{[], _∷_, _++_}

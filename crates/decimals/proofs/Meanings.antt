@@ -9,6 +9,8 @@ use lib.ListN.{length, take, getD}
 use borrow.Author.Tests.{le-leb, lt-leb, eq-eqb, ne-eqb}
 use Rattle.rules.specs.Outcome.{done, refused, is-done}
 use Rattle.rules.specs.Lists.{Bytes, all, spelled, but-last, last}
+use Rattle.rules.specs.Numbers.{refusal-number}
+use Rattle.rules.specs.declared.Refusal.the-variants.{BadValue}
 use Rattle.rules.specs.Values.{signed, halves, accepted-plus, accepted-minus, sign-means, decimal, meaning}
 use Rattle.rules.proofs.Bools.{and-regrouped, and-crossed}
 use Rattle.rules.proofs.Done.{is-done-then, is-done-after}
@@ -22,7 +24,7 @@ sign-is-done : (s : ℕ) → is-done (sign-means s) ≡ is-sign s
 unfolding sign-means is-sign
 sign-is-done s = go (accepted-plus s) (accepted-minus s)
   where
-    go : (a b : Bool) → is-done {A = Bool} (elim a [ true ↦ done false | false ↦ elim b [ true ↦ done true | false ↦ refused 8 ] ]) ≡ (a || b)
+    go : (a b : Bool) → is-done {A = Bool} (elim a [ true ↦ done false | false ↦ elim b [ true ↦ done true | false ↦ refused (refusal-number BadValue) ] ]) ≡ (a || b)
     go true b = refl
     go false true = refl
     go false false = refl
@@ -30,7 +32,7 @@ sign-is-done s = go (accepted-plus s) (accepted-minus s)
 decimal-is-done : (ds : List ℕ) (s : ℕ) → is-done (decimal ds s) ≡ (all (λ d. leb d 9) ds && is-sign s)
 unfolding decimal
 decimal-is-done ds s =
-    is-done-after (all (λ d. leb d 9) ds) 8 _
+    is-done-after (all (λ d. leb d 9) ds) (refusal-number BadValue) _
     ∙ ap (λ t. all (λ d. leb d 9) ds && t) (is-done-then (sign-means s) (λ below. signed below (spelled 10 ds 0)) ∙ sign-is-done s)
 
 packed-scan : (bs : Bytes) → (all (λ d. leb d 9) (but-last (halves bs)) && is-sign (last (halves bs))) ≡ value-bytes true bs
@@ -50,7 +52,7 @@ pub value-scan : (p : Bool) (bs : Bytes) → is-done (meaning (decimal-format p)
 unfolding decimal-format meaning
 value-scan true bs = decimal-is-done (but-last (halves bs)) (last (halves bs)) ∙ packed-scan bs
 value-scan false bs =
-    is-done-after (all (λ b. eqb (b / 16) 0xF) (but-last bs)) 8 (λ _. decimal (map (λ b. b % 16) bs) (last bs / 16))
+    is-done-after (all (λ b. eqb (b / 16) 0xF) (but-last bs)) (refusal-number BadValue) (λ _. decimal (map (λ b. b % 16) bs) (last bs / 16))
     ∙ ap (λ t. all (λ b. eqb (b / 16) 0xF) (but-last bs) && t) (decimal-is-done (map (λ b. b % 16) bs) (last bs / 16))
     ∙ unpacked-scan bs
 

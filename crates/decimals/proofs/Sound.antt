@@ -1,4 +1,4 @@
--- The facts of a P or U value, from its having a meaning.
+-- What holds of a P or U value, from the fact that it has a meaning.
 use mathlib.Core.Path.{_≡_, refl, sym, _∙_, ap}
 use mathlib.Core.Bool.{Bool, true, false, _&&_, false≢true}
 use mathlib.Core.List.{List, [], _∷_, _++_, map}
@@ -10,6 +10,8 @@ use borrow.Author.Tests.{eqb-true, ne-eqb}
 use Rattle.rules.specs.Outcome.{Outcome, done, refused, is-done}
 use Rattle.rules.specs.Limits.{longest-alpha}
 use Rattle.rules.specs.Lists.{Bytes, all, spelled, but-last, last}
+use Rattle.rules.specs.Numbers.{refusal-number}
+use Rattle.rules.specs.declared.Refusal.the-variants.{BadValue}
 use Rattle.rules.specs.Values.{Value, number, signed, halves, pairs, zoned, accepted-plus, accepted-minus, sign-means, decimal, meaning}
 use Rattle.rules.proofs.Steps.{by-test, true-T, T-true, and-left, and-right, not-done, from-bind, from-need, done-inj}
 use Rattle.rules.proofs.Done.{done-some}
@@ -30,7 +32,7 @@ sign-done : (s : ℕ) (m : Bool) → sign-means s ≡ done m → m ≡ accepted-
 unfolding sign-means
 sign-done s m e = go (accepted-plus s) (accepted-minus s) (plus-not-minus s) e
   where
-    go : (a b : Bool) → (a ≡ true → b ≡ false) → _≡_ {A = Outcome Bool} (elim a [ true ↦ done false | false ↦ elim b [ true ↦ done true | false ↦ refused 8 ] ]) (done m) → m ≡ b
+    go : (a b : Bool) → (a ≡ true → b ≡ false) → _≡_ {A = Outcome Bool} (elim a [ true ↦ done false | false ↦ elim b [ true ↦ done true | false ↦ refused (refusal-number BadValue) ] ]) (done m) → m ≡ b
     go true b k e = let f = k refl in cc
     go false true k e = cc
     go false false k e = absurd (not-done e)
@@ -39,7 +41,7 @@ decimal-done : (ds : List ℕ) (s : ℕ) (v : Value) {C : Type 0} → decimal ds
     → (T (all (λ d. leb d 9) ds) → v ≡ number (accepted-minus s && ltb 0 (spelled 10 ds 0)) (spelled 10 ds 0) → C) → C
 unfolding decimal signed
 decimal-done ds s v e k =
-    from-need (all (λ d. leb d 9) ds) 8 _ e λ t f.
+    from-need (all (λ d. leb d 9) ds) (refusal-number BadValue) _ e λ t f.
     from-bind (sign-means s) _ f λ m g h.
     k t (sym (done-inj h) ∙ ap (λ b. number (b && ltb 0 (spelled 10 ds 0)) (spelled 10 ds 0)) (sign-done s m g))
 
@@ -101,7 +103,7 @@ sound-as true bs v o e =
     decimal-done (but-last (halves bs)) (last (halves bs)) v e λ t f.
     record { some = o; nines = T-true _ t; means = e ∙ ap (λ (w : Value). done w) f; whole = packed-whole bs o }
 sound-as false bs v o e =
-    from-need (all (λ b. eqb (b / 16) 0xF) (but-last bs)) 8 _ e λ z g.
+    from-need (all (λ b. eqb (b / 16) 0xF) (but-last bs)) (refusal-number BadValue) _ e λ z g.
     decimal-done (map (λ b. b % 16) bs) (last bs / 16) v g λ t f.
     record { some = o; nines = T-true _ t; means = e ∙ ap (λ (w : Value). done w) f; whole = unpacked-whole bs z }
 

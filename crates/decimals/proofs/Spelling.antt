@@ -43,7 +43,7 @@ module _ {p : Bool} {s : Bytes} {i x : ℕ} (w : Spelling p s i x) where
       let l = length-digits-of p s in
       sym (spelled-end 10 (digits-of p s) i x (omega arith)) ∙ w .rest
 
--- ---- a byte a turn, of P two digits
+-- ---- a byte a turn; a byte of P has two digits
 
 pub unpacked-turn : {s : Bytes} {x : ℕ} (i : ℕ) → Spelling false s i x → i < length s → Spelling false s (i + 1) (x * 10 + getD s i 0 % 16)
 unfolding places

@@ -1,4 +1,4 @@
-// The bytes before the last, from those of a value: copied, or from U to P and from P to U.
+// The digits of a value before its last: copied within a format, packed from U to P, unpacked from P to U.
 ghost use mathlib.Core.Path.{_≡_};
 ghost use mathlib.Core.Bool.{true, false};
 ghost use Prim.Native.Nat.{_+_, _-_, _*_, _/_, _%_, _≤_, _<_};
@@ -11,7 +11,7 @@ ghost use Rattle.decimals.specs.Decimals.{decimal-format, magnitude-of, 
 ghost use Rattle.decimals.specs.Conversion.{first-spelled};
 use super::digits;
 
-// The bytes before the last of n, from a value in the same format: the last of its own bytes, or zeros and then all of them.
+// Copies the bytes of a value before its last to the n − 1 bytes from the place at: the last of them, or zeros and then all.
 fn copy_digits(s: &[u8], packed: bool, n: usize, out: &mut [u8], at: usize)
     requires { ⌜ (is-done (meaning (decimal-format packed) (now s)) ≡ true) × (0 < n) × (at + n ≤ length (now out)) ⌝ }
     ensures { λ _. ⌜ now (out .exit) ≡ splice at (front packed (n - 1) (magnitude-of packed (now (s .entry)) / 10)) (now (out .entry)) ⌝ }
@@ -25,7 +25,7 @@ fn copy_digits(s: &[u8], packed: bool, n: usize, out: &mut [u8], at: usize)
     }
 }
 
-// The place k before j, or the first.
+// j − k, or 0 where k is greater.
 fn back(j: usize, k: usize) -> usize
     ensures { λ r. ⌜ r ≡ j - k ⌝ }
 {
@@ -43,7 +43,7 @@ fn last_pair(s: &[u8], j: usize) -> u8
     if j == 1 { s[0] % 16 } else { 0 }
 }
 
-// The digits of U before the last, to the bytes before the last of n of P.
+// Packs the digits of U before the last into the n − 1 bytes from the place at.
 fn pack_digits(s: &[u8], n: usize, out: &mut [u8], at: usize)
     requires { ⌜ Readable false (now s) × (0 < n) × (at + n ≤ length (now out)) ⌝ }
     ensures { λ _. ⌜ now (out .exit) ≡ splice at (front true (n - 1) (magnitude-of false (now (s .entry)) / 10)) (now (out .entry)) ⌝ }
@@ -69,7 +69,7 @@ fn last_half(s: &[u8], j: usize) -> u8
     if j % 2 == 0 { b % 16 } else { b / 16 }
 }
 
-// The digits of P before the last, to the bytes before the last of n of U.
+// Unpacks the digits of P before the last into the n − 1 bytes from the place at.
 fn unpack_digits(s: &[u8], n: usize, out: &mut [u8], at: usize)
     requires { ⌜ Readable true (now s) × (0 < n) × (at + n ≤ length (now out)) ⌝ }
     ensures { λ _. ⌜ now (out .exit) ≡ splice at (front false (n - 1) (magnitude-of true (now (s .entry)) / 10)) (now (out .entry)) ⌝ }
@@ -83,7 +83,7 @@ fn unpack_digits(s: &[u8], n: usize, out: &mut [u8], at: usize)
     }
 }
 
-// The digits of the value s before the last, to the bytes before the last of n.
+// Writes the digits of the value s before the last to the n − 1 bytes from the place at.
 pub fn carry_digits(s: &[u8], packed: bool, target: bool, n: usize, out: &mut [u8], at: usize)
     requires { ⌜ (is-done (meaning (decimal-format packed) (now s)) ≡ true) × (length (now s) ≤ longest-alpha) × (0 < n) × (at + n ≤ length (now out)) ⌝ }
     ensures { λ _. ⌜ now (out .exit) ≡ splice at (front target (n - 1) (magnitude-of packed (now (s .entry)) / 10)) (now (out .entry)) ⌝ }

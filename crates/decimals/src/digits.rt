@@ -16,7 +16,7 @@ pub fn digit_count(packed: bool, n: usize) -> usize
     if packed { 2 * n - 1 } else { n }
 }
 
-// A byte before the last with zeros for digits.
+// A byte before the last whose digits are zeros.
 pub fn zero_byte(packed: bool) -> u8
     ensures { λ r. ⌜ r ≡ inner-written packed 0 ⌝ }
 {
@@ -32,7 +32,7 @@ pub fn last_digit(s: &[u8], packed: bool) -> u8
     if packed { b / 16 } else { b % 16 }
 }
 
-// Whether the first n bytes have zeros for digits.
+// Whether the digits of the first n bytes are zeros; from the right, where another digit is found sooner.
 pub fn zeros_before(s: &[u8], packed: bool, n: usize) -> bool
     requires { ⌜ n ≤ length (now s) ⌝ }
     ensures { λ r. ⌜ r ≡ all (λ b. eqb b (inner-written packed 0)) (take n (now (s .entry))) ⌝ }
@@ -63,7 +63,7 @@ fn unpacked_zeros(s: &[u8], k: usize) -> bool
     true
 }
 
-// Likewise of P, of which a byte holds two.
+// The same of P, where a byte holds two digits.
 fn packed_zeros(s: &[u8], k: usize) -> bool
     requires { ⌜ Readable true (now s) × (k ≤ places true (length (now s))) ⌝ }
     ensures { λ r. ⌜ r ≡ ltb (magnitude-of true (now (s .entry))) (10 ^ (places true (length (now (s .entry))) - k)) ⌝ }

@@ -1,5 +1,5 @@
 // Formats P and U: is it a value, is it in normal form, does it fit, and its bytes, between P and U and to and from numbers.
-// `packed` selects the format of a value, P where it is true, else U; `target` likewise that of the bytes to write.
+// `packed` says that a value is P and not U; `target` says the same of the bytes to write.
 // A loop over the bytes of P and its twin over those of U are two functions, so that no turn of a loop asks which format it is.
 ghost use mathlib.Core.Path.{_≡_};
 ghost use mathlib.Core.Bool.{true, false};

@@ -29,7 +29,7 @@ fn packed_number(s: &[u8]) -> u64
     x * 10 + (s[n] / 16) as u64
 }
 
-// Likewise of U, a digit a byte.
+// The same of U, a digit a byte.
 fn unpacked_number(s: &[u8]) -> u64
     requires { ⌜ Readable false (now s) ⌝ }
     ensures { λ r. ⌜ Reckoned false (now (s .entry)) r ⌝ }
@@ -47,7 +47,7 @@ fn unpacked_number(s: &[u8]) -> u64
     x
 }
 
-// The magnitude of either, or a number that is too great as the magnitude is.
+// The magnitude of a value of either format; if it is too great for a word, a number that is too great as well.
 pub fn reckoned(s: &[u8], packed: bool) -> u64
     requires { ⌜ Readable packed (now s) ⌝ }
     ensures { λ r. ⌜ Reckoned packed (now (s .entry)) r ⌝ }

@@ -81,7 +81,7 @@ pub fn zoned_digits(s: &[u8], n: usize) -> bool
     true
 }
 
-// The sign's half byte.
+// The half byte that holds the sign.
 pub fn sign(s: &[u8], packed: bool) -> u8
     requires { ⌜ 0 < length (now s) ⌝ }
     ensures { λ r. ⌜ r ≡ sign-half packed (now (s .entry)) ⌝ }

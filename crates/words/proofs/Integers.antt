@@ -1,4 +1,4 @@
--- The laws of ℤ that the functions over i32 want: the only place that computes with ℤ.
+-- The laws of ℤ that the functions over i32 need: the only place that computes with ℤ.
 use mathlib.Core.Path.{_≡_, refl, sym, ap, subst, _∙_}
 use mathlib.Core.Bool.{true, false, not}
 use Prim.Native.Nat.{ℕ, zero, suc, _+_, _-_, _<_, _≤_}

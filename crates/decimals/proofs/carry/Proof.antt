@@ -8,6 +8,9 @@ use borrow.Author.Needs.{needs}
 use Rattle.decimals.proofs.carry.Statement.{statement}
 use Rattle.decimals.proofs.carry.Tie as tie
 
+abbrev start : tie.After-last-written → tie.Start
+start w = w .before .before .before .before .before
+
 last-digit-requires : tie.Need-last-digit-requires
 last-digit-requires c κs =
     let a = c .before .before in
@@ -32,7 +35,7 @@ slice-write-out c = search needs
 
 carry-digits-requires : tie.Need-carry-digits-requires
 carry-digits-requires c κs =
-    let a = c .before .before .before .before .before .before in
+    let a = start (c .before) in
     (carried-value _ _ (a .args .n) (a .args .s .now) (a .pre .0), a .pre .1, a .pre .2, simp length-set (a .pre .4))
 
 same-length : tie.Need-same-length
@@ -41,7 +44,7 @@ same-length c = c .before .before .carry-digits .kept .1 .1 .1 .1 .0 ∙ simp le
 returns : tie.Need-returns
 returns c =
     let w = c .before .before .before .before in
-    let a = w .before .before .before .before .before in
+    let a = start w in
     let s = a .args .s .now in
     let p = a .args .packed in
     let t = a .args .target in

@@ -1,4 +1,4 @@
--- `words::from_bits` meets its contract: bits from 2,147,483,648 on are a number below zero.
+-- `words::from_bits` meets its contract: bits with the sign bit are those of a number below zero.
 use Prim.Native.Nat.{_-_}
 use native.Mathlib.Omega.{arith}
 use Rattle.words.proofs.Integers.{high, back-negsuc}

@@ -1,4 +1,4 @@
--- `words::unminus` meets its contract: x + 1 and its negation fit where x is below zero, −2,147,483,648 included.
+-- `words::unminus` meets its contract: x + 1 and its negation fit where x is below zero, for the lowest x too.
 use Rattle.words.proofs.Integers.{unminus-add, unminus-sub, unminus-read, unminus-fits}
 use Rattle.words.proofs.unminus.Statement.{statement}
 use Rattle.words.proofs.unminus.Tie as tie
