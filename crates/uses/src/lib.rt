@@ -14,7 +14,7 @@ ghost use lib.ListN.{length, getD};
 ghost use Rattle.rules.specs.Outcome.{is-done};
 ghost use Rattle.rules.specs.Format.{elements};
 ghost use Rattle.rules.specs.Use.{in-order, spread};
-ghost use Rattle.tables.specs.Entries.{letter-number, Valid, entries-of, blank, is-group, is-multiple};
+ghost use Rattle.tables.specs.Entries.{Valid, entries-of, blank, is-group, is-multiple};
 ghost use Rattle.formats.specs.Elements.{range};
 ghost use Rattle.uses.specs.Meant.{occurrences, bracket, spread-of, ranged, Spread-inside, Format-in-effect, Length-in-effect, Asks, Settles, field-use, group-use, count-use, series-use, stored-span, field-span, Means, Name-means, Count-means, Series-means, Span-held, Span-known, indexes-kept, Remembered, Tested, uses-of};
 ghost use Rattle.uses.specs.Ahead.{Nexts};
@@ -185,27 +185,13 @@ fn spread(inside: bool, multiple: bool, last: usize, n: Named) -> Spreads
     spread_outside(multiple, last, n)
 }
 
-// The number of a format letter; 5 for G and W.
-fn format_number(letter: u8) -> usize
-    ensures { λ r. ⌜ r ≡ letter-number letter ⌝ }
-{
-    match letter {
-        0xc1 => kinds::ALPHA,
-        0xc2 => kinds::BINARY,
-        0xc6 => kinds::FIXED,
-        0xd7 => kinds::PACKED,
-        0xe4 => kinds::UNPACKED,
-        _ => 5,
-    }
-}
-
-// The letter's, or the field's own.
+// The letter's, which is no format's for G and W; or the field's own.
 fn format_in_effect(format: usize, given: Named) -> usize
     requires { ⌜ format < 5 ⌝ }
     ensures { λ r. ⌜ Format-in-effect format given r ⌝ }
 {
     if given.lettered {
-        return format_number(given.letter);
+        return kinds::format_number(given.letter);
     }
     format
 }

@@ -1,4 +1,4 @@
--- `uses::format_in_effect` meets its contract: the letter's number, or the field's. Assumes nothing.
+-- `uses::format_in_effect` meets its contract: the letter's number, or the field's.
 use mathlib.Core.Path.{ap, sym, _∙_}
 use Rattle.uses.specs.Meant.{numbered}
 use Rattle.uses.proofs.Effects.{letters, own-format}
@@ -10,7 +10,7 @@ format-number-requires : tie.Need-format-number-requires
 format-number-requires c κs = search needs
 
 returns : tie.Need-returns
-returns c = λ f e. rw (c .before .if1 .taken) (letters f _ ∙ sym (ap numbered (c .format-number .ensures)))
+returns c = λ f e. rw (c .before .if1 .taken) (letters f _ ∙ sym (ap numbered (c .format-number .ensures .0)))
 
 returns-2 : tie.Need-returns-2
 returns-2 c = λ f e. rw (c .if1 .left) (own-format f _ (c .before .pre) e)
