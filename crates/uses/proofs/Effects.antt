@@ -13,7 +13,7 @@ use Rattle.kinds.specs.Formats.{format-at, letter-number, number-of}
 use Rattle.kinds.proofs.Letters.{number-back, number-small, letter-some, letter-none}
 use Rattle.rules.proofs.Steps.{by-option, from-need, done-inj, not-done, T-true}
 use Rattle.tables.proofs.Bools.{and-both}
-use Rattle.uses.specs.Meant.{numbered}
+use Rattle.uses.specs.Effect.{numbered}
 
 pub numbered-known : (k : ℕ) → k < 5 → numbered k ≡ some (format-at k)
 unfolding numbered

@@ -1,4 +1,4 @@
--- An entry as a field, the fields of a group by the entries behind it, and those of a series. Assumes nothing.
+-- An entry as a field, the fields of a group by the entries behind it, and those of a series.
 use mathlib.Core.Path.{_≡_, refl, sym, ap, _∙_}
 use mathlib.Core.Bool.{Bool, true, false, not, _&&_}
 use mathlib.Core.List.{List, [], _∷_, map}
