@@ -7,6 +7,7 @@ use native.Mathlib.Omega.{arith}
 use lib.Dec.{eqb, leb, leb·zero}
 use lib.ListN.{getD}
 use borrow.Author.Tests.{eq-eqb, ne-eqb, le-leb, lt-leb}
+use Rattle.rules.specs.Limits.{formats, longest-alpha, longest-binary, longest-packed, longest-unpacked}
 use Rattle.rules.specs.Values.{Format, allowed, conversion, converts, never, every, word, natural}
 use Rattle.rules.specs.Values as Rules
 use Rattle.buffer.proofs.Cases.{by-order}
@@ -19,7 +20,7 @@ abbrev pub least : List ℕ
 least = 0 ∷ 1 ∷ 2 ∷ 1 ∷ 1 ∷ []
 
 abbrev pub greatest : List ℕ
-greatest = 253 ∷ 126 ∷ 4 ∷ 15 ∷ 29 ∷ []
+greatest = longest-alpha ∷ longest-binary ∷ 4 ∷ longest-packed ∷ longest-unpacked ∷ []
 
 -- Within the two lengths of its format; F has 2 and 4 alone.
 Within : ℕ → Type 0
@@ -35,21 +36,21 @@ two-or-four n =
     (five (λ m. (eqb m 2 || eqb m 4) ≡ (leb 2 m && (leb m 4 && not (eqb m 3)))) refl refl refl refl refl n)
     (λ h. rw (ne-eqb n 2 (λ e. omega arith), ne-eqb n 4 (λ e. omega arith), le-leb 2 n (omega arith), lt-leb n 4 (omega arith)))
 
-within : (k : ℕ) → k < 5 → Within k
+within : (k : ℕ) → k < formats → Within k
 unfolding Within allowed format-at
 within =
     five Within
-    (λ n. rw (leb·zero n) (and-true (leb n 253)))
-    (λ n. ap (λ b. leb 1 n && b) (and-true (leb n 126)))
+    (λ n. rw (leb·zero n) (and-true (leb n longest-alpha)))
+    (λ n. ap (λ b. leb 1 n && b) (and-true (leb n longest-binary)))
     two-or-four
-    (λ n. ap (λ b. leb 1 n && b) (and-true (leb n 15)))
-    (λ n. ap (λ b. leb 1 n && b) (and-true (leb n 29)))
+    (λ n. ap (λ b. leb 1 n && b) (and-true (leb n longest-packed)))
+    (λ n. ap (λ b. leb 1 n && b) (and-true (leb n longest-unpacked)))
 
-pub allowed-is : (k : ℕ) → k < 5 → (n : ℕ) → allowed (format-at k) n ≡ (leb (getD least k 0) n && (leb n (getD greatest k 0) && not (eqb k 2 && eqb n 3)))
+pub allowed-is : (k : ℕ) → k < formats → (n : ℕ) → allowed (format-at k) n ≡ (leb (getD least k 0) n && (leb n (getD greatest k 0) && not (eqb k 2 && eqb n 3)))
 unfolding Within
 allowed-is k h n = within k h n
 
-module _ (k n : ℕ) (f : k < 5) where
+module _ (k n : ℕ) (f : k < formats) where
   pub too-short : n < getD least k 0 → false ≡ allowed (format-at k) n
   too-short h = rw (allowed-is k f n, lt-leb (getD least k 0) n h)
 
@@ -74,15 +75,15 @@ table =
     ∷ []
 
 Row : ℕ → Type 0
-Row r = (k : ℕ) → k < 5 → kind-of (getD (getD table r []) k Never) ≡ conversion (format-at r) (format-at k)
+Row r = (k : ℕ) → k < formats → kind-of (getD (getD table r []) k Never) ≡ conversion (format-at r) (format-at k)
 
-rows : (r : ℕ) → r < 5 → Row r
+rows : (r : ℕ) → r < formats → Row r
 unfolding Row conversion format-at
 rows =
     five Row (five _ refl refl refl refl refl) (five _ refl refl refl refl refl) (five _ refl refl refl refl refl)
     (five _ refl refl refl refl refl) (five _ refl refl refl refl refl)
 
-pub converts-at : (r k : ℕ) → r < 5 → k < 5 → kind-of (getD (getD table r []) k Never) ≡ conversion (format-at r) (format-at k)
+pub converts-at : (r k : ℕ) → r < formats → k < formats → kind-of (getD (getD table r []) k Never) ≡ conversion (format-at r) (format-at k)
 unfolding Row
 converts-at r k h l = rows r h k l
 

@@ -1,8 +1,10 @@
-// The formats by their numbers, 0 A, 1 B, 2 F, 3 P, 4 U: which lengths they have, and which convert.
+// The formats by their numbers, 0 A, 1 B, 2 F, 3 P, 4 U: their letters, which lengths they have, and which convert.
+use rules::FORMATS;
 ghost use mathlib.Core.Path.{_≡_};
-ghost use Prim.Native.Nat.{_<_};
+ghost use Prim.Native.Nat.{_<_, _≤_};
+ghost use Rattle.rules.specs.Limits.{formats};
 ghost use Rattle.rules.specs.Values as Rules;
-ghost use Rattle.kinds.specs.Formats.{format-at, kind-of, is-every, is-natural};
+ghost use Rattle.kinds.specs.Formats.{format-at, letter-number, kind-of, is-every, is-natural};
 
 pub const ALPHA: usize = 0;
 
@@ -14,14 +16,34 @@ pub const PACKED: usize = 3;
 
 pub const UNPACKED: usize = 4;
 
-// The least and greatest lengths of each format.
-const LEAST: [usize; 5] = [0, 1, 2, 1, 1];
+// The number of a format letter, being A, B, F, P or U; FORMATS for any other.
+pub fn format_number(letter: u8) -> usize
+    ensures { λ r. ⌜ (r ≡ letter-number letter) × (r ≤ formats) ⌝ }
+{
+    match letter {
+        0xc1 => ALPHA,
+        0xc2 => BINARY,
+        0xc6 => FIXED,
+        0xd7 => PACKED,
+        0xe4 => UNPACKED,
+        _ => FORMATS,
+    }
+}
 
-const GREATEST: [usize; 5] = [253, 126, 4, 15, 29];
+// The least and greatest lengths of each format.
+const LEAST: [usize; FORMATS] = [0, 1, 2, 1, 1];
+
+const GREATEST: [usize; FORMATS] = [
+    rules::LONGEST_ALPHA,
+    rules::LONGEST_BINARY,
+    4,
+    rules::LONGEST_PACKED,
+    rules::LONGEST_UNPACKED,
+];
 
 // Whether a format has values of a length.
 pub fn allowed(format: usize, size: usize) -> bool
-    requires { ⌜ format < 5 ⌝ }
+    requires { ⌜ format < formats ⌝ }
     ensures { λ r. ⌜ r ≡ Rules.allowed (format-at format) size ⌝ }
 {
     if size < LEAST[format] {
@@ -53,7 +75,7 @@ const WORD: Kind = Kind::Word;
 const NATURAL: Kind = Kind::Natural;
 
 // Row the field's format, column the format in effect.
-const CONVERTS: [[Kind; 5]; 5] = [
+const CONVERTS: [[Kind; FORMATS]; FORMATS] = [
     [EVERY, NEVER, NEVER, NEVER, NEVER],
     [NEVER, EVERY, NATURAL, NATURAL, NATURAL],
     [NEVER, NATURAL, EVERY, WORD, WORD],
@@ -63,7 +85,7 @@ const CONVERTS: [[Kind; 5]; 5] = [
 
 // Which values convert from a format to another.
 pub fn conversion(row: usize, column: usize) -> Kind
-    requires { ⌜ (row < 5) × (column < 5) ⌝ }
+    requires { ⌜ (row < formats) × (column < formats) ⌝ }
     ensures { λ r. ⌜ kind-of r ≡ Rules.conversion (format-at row) (format-at column) ⌝ }
 {
     CONVERTS[row][column]
@@ -71,7 +93,7 @@ pub fn conversion(row: usize, column: usize) -> Kind
 
 // Whether any do.
 pub fn converts(row: usize, column: usize) -> bool
-    requires { ⌜ (row < 5) × (column < 5) ⌝ }
+    requires { ⌜ (row < formats) × (column < formats) ⌝ }
     ensures { λ r. ⌜ r ≡ Rules.converts (format-at row) (format-at column) ⌝ }
 {
     let kind = conversion(row, column);
@@ -83,7 +105,7 @@ pub fn converts(row: usize, column: usize) -> bool
     }
 }
 
-// Whether all do, of a kind.
+// Whether the kind is Every.
 pub fn is_every(kind: Kind) -> bool
     ensures { λ r. ⌜ r ≡ is-every (kind-of kind) ⌝ }
 {
@@ -95,7 +117,7 @@ pub fn is_every(kind: Kind) -> bool
     }
 }
 
-// Whether those of a word that are not below zero do, of a kind.
+// Whether the kind is Natural.
 pub fn is_natural(kind: Kind) -> bool
     ensures { λ r. ⌜ r ≡ is-natural (kind-of kind) ⌝ }
 {

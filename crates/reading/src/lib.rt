@@ -728,7 +728,7 @@ fn put_element(
     places: &[u16; records::DIRECTORY],
     f: &[u8],
     e: Element,
-    last: &mut [u8; uses::INDEXES],
+    last: &mut [uses::Index; uses::INDEXES],
     state: Standing,
     out: &mut [u8],
     end: usize,
@@ -770,7 +770,7 @@ pub fn scan(
     if rules::LONGEST_FORMAT < f.len() {
         return Next::Refused(3);
     }
-    let mut last = [0u8; uses::INDEXES];
+    let mut last: [uses::Index; uses::INDEXES] = [0; uses::INDEXES];
     let mut state = Standing::At(0);
     let mut at = 0;
     loop {

@@ -20,7 +20,7 @@ use Rattle.buffer.proofs.Laws.{splice-nil, splice-rest, length-splice}
 use Rattle.rules.proofs.Steps.{by-test, not-both, and-right, T-true, true-T}
 use Rattle.buffer.proofs.Cases.{by-order}
 use Rattle.values.proofs.Nulls.{null-0, null-size}
-use Rattle.tables.proofs.Rows.{Sound}
+use Rattle.tables.proofs.EntryBytes.{Sound}
 use Rattle.records.specs.Empty.{empty-entry, empty-from, null-row}
 
 -- A field and a group by their numbers.

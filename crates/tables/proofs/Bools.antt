@@ -1,4 +1,4 @@
--- Tests joined by and and or. Assumes nothing.
+-- Tests joined by and and or.
 use mathlib.Core.Path.{_≡_, refl, sym}
 use mathlib.Core.Bool.{Bool, true, false, _&&_, _||_}
 use Prim.Native.Nat.{ℕ}

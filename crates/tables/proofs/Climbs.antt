@@ -1,4 +1,4 @@
--- The way from an entry back to its entry of level 1: what holds at each step of it, and at its end. Assumes nothing.
+-- The way from an entry back to its entry of level 1: what holds at each step of it, and at its end.
 use mathlib.Core.Path.{_≡_, refl, sym, _∙_}
 use mathlib.Core.Bool.{true, false}
 use mathlib.Core.List.{List}
@@ -11,7 +11,7 @@ use Rattle.rules.specs.Table.{Entry, levels, group}
 use Rattle.tables.specs.Entries.{blank, is-periodic}
 use Rattle.tables.specs.Places.{inside-at, Home}
 use Rattle.tables.specs.Groups.{run-below}
-use Rattle.tables.proofs.Rows.{Sound}
+use Rattle.tables.proofs.EntryBytes.{Sound}
 use Rattle.tables.proofs.Nesting.{run-more, inside-up, inside-one, periodic-what, first-level}
 
 pub record Climb (es : List Entry) (i j : ℕ) : Type 0 where

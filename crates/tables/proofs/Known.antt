@@ -1,4 +1,4 @@
--- What a valid table says of its entries, as callers have it: a table's bytes, and entry numbers. Assumes nothing.
+-- What a valid table says of its entries, as callers have it: a table's bytes, and entry numbers.
 use mathlib.Core.Path.{_≡_, refl, ap, subst, _∙_}
 use mathlib.Core.Bool.{Bool, true, false}
 use mathlib.Core.List.{_∷_}
@@ -17,7 +17,8 @@ use Rattle.tables.specs.Groups.{group-end}
 use Rattle.tables.proofs.Names.{one-name, find-name}
 use Rattle.tables.proofs.Nesting.{level-range, group-next, run-short}
 use Rattle.tables.proofs.Partings.{parts-periodic, parts-members}
-use Rattle.tables.proofs.Rows.{Sound, number-back, number-small}
+use Rattle.kinds.proofs.Letters.{number-back, number-small}
+use Rattle.tables.proofs.EntryBytes.{Sound}
 use Rattle.tables.proofs.Bools.{clash}
 use Rattle.tables.proofs.Tables.{valid-levels, valid-names, valid-sound}
 

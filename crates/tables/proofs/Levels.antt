@@ -1,4 +1,4 @@
--- Levels and names, an entry at a time: what `levels` and `differ` answer of the first entry and the rest. Assumes nothing.
+-- Levels and names, an entry at a time: what `levels` and `differ` answer of the first entry and the rest.
 use mathlib.Core.Path.{_≡_, refl, sym, _∙_}
 use mathlib.Core.Bool.{Bool, true, false, not, _&&_}
 use mathlib.Core.List.{List, [], _∷_}
@@ -10,7 +10,8 @@ use lib.Seq.{drop-cons}
 use Rattle.rules.specs.Lists.{all}
 use Rattle.rules.specs.Values.{alpha}
 use Rattle.rules.specs.Table.{What, field, group, Entry, levels, differ, names}
-use Rattle.tables.specs.Entries.{is-group, follows, unused, blank}
+use Rattle.tables.specs.Entries.{is-group, blank}
+use Rattle.tables.specs.Validity.{follows, unused}
 
 -- all that `levels` asks of the entry before is whether it is a group
 abbrev pub mark : Bool → What

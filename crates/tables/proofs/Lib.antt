@@ -1,5 +1,5 @@
 pub mod Bools
-pub mod Rows
+pub mod EntryBytes
 pub mod Levels
 pub mod Marks
 pub mod Tables

@@ -1,5 +1,5 @@
 -- The names of entries by their marks: equal names have equal marks, so a name whose mark is not set is new, and names of which each
--- is new differ. Assumes nothing.
+-- is new differ.
 use mathlib.Core.Path.{_≡_, sym, subst, _∙_}
 use mathlib.Core.Bool.{Bool, true, false}
 use mathlib.Core.List.{List, [], _∷_}
@@ -13,7 +13,8 @@ use Rattle.buffer.proofs.Cases.{by-order}
 use Rattle.rules.specs.Lists.{Bytes}
 use Rattle.rules.specs.Table.{Entry, name-of, differ, names}
 use Rattle.rules.proofs.Steps.{by-test}
-use Rattle.tables.specs.Entries.{blank, read-entries, Right, unused, mark-of, Named-before}
+use Rattle.tables.specs.Entries.{blank}
+use Rattle.tables.specs.Validity.{read-entries, Right, unused, mark-of, Named-before}
 use Rattle.tables.proofs.Bools.{clash}
 use Rattle.tables.proofs.Levels.{unused-nil, unused-cons, differ-nil, differ-cons}
 use Rattle.tables.proofs.Names.{one-name}

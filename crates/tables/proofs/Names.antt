@@ -1,4 +1,4 @@
--- Names differ, so an entry is found by its name, and by no other's. Assumes nothing.
+-- Names differ, so an entry is found by its name, and by no other's.
 use mathlib.Core.Path.{_≡_, refl, sym, ap, subst, _∙_}
 use mathlib.Core.Bool.{Bool, true, not}
 use mathlib.Core.List.{List, [], _∷_}
@@ -13,7 +13,8 @@ use lib.Seq.{drop-cons}
 use Rattle.rules.specs.Outcome.{done, refused}
 use Rattle.rules.specs.Table.{Entry, differ, names, is-inside}
 use Rattle.rules.specs.Use.{find, find-from}
-use Rattle.tables.specs.Entries.{blank, unused}
+use Rattle.tables.specs.Entries.{blank}
+use Rattle.tables.specs.Validity.{unused}
 use Rattle.tables.specs.Places.{inside-before, inside-at, found-at}
 use Rattle.tables.proofs.Levels.{unused-cons, differ-cons}
 use Rattle.tables.proofs.Bools.{and-both}

@@ -1,4 +1,4 @@
--- Levels by entry number, and the run of entries below a group: its length, its fields' numbers, and that it lies in a periodic group where the group does. Assumes nothing.
+-- Levels by entry number, and the run of entries below a group: its length, its fields' numbers, and that it lies in a periodic group where the group does.
 use mathlib.Core.Path.{_≡_, refl, sym, ap, subst, _∙_}
 use mathlib.Core.Bool.{Bool, true, false, _||_}
 use mathlib.Core.List.{List, [], _∷_, _++_, map}
@@ -14,12 +14,13 @@ use Rattle.rules.specs.Limits.{deepest-level}
 use Rattle.rules.specs.Table.{What, field, group, Field, Entry, levels, inside-of, fields-below}
 use Rattle.rules.proofs.Steps.{by-test}
 use Rattle.buffer.proofs.Cases.{by-order}
-use Rattle.tables.specs.Entries.{blank, is-group, is-periodic, follows}
+use Rattle.tables.specs.Entries.{blank, is-group, is-periodic}
+use Rattle.tables.specs.Validity.{follows}
 use Rattle.tables.specs.Places.{inside-before, inside-at}
 use Rattle.tables.specs.Groups.{run-below, group-end, numbers-below, with-number, with-field, field-by, field-at}
 use Rattle.tables.proofs.Levels.{mark, levels-cons, levels-nil}
 use Rattle.tables.proofs.Bools.{clash, and-true, and-false, or-false, and-both}
-use Rattle.tables.proofs.Rows.{Sound}
+use Rattle.tables.proofs.EntryBytes.{Sound}
 
 -- ---- levels
 

@@ -1,4 +1,4 @@
--- The parts of a table from entry i on: a periodic group with its members, a field alone, another group nothing. Assumes nothing.
+-- The parts of a table from entry i on: a periodic group with its members, a field alone, another group nothing.
 use mathlib.Core.Path.{_≡_, refl, sym, ap, subst, _∙_}
 use mathlib.Core.Bool.{Bool, true, false}
 use mathlib.Core.List.{List, [], _∷_}
@@ -14,7 +14,7 @@ use Rattle.buffer.proofs.Cases.{by-order}
 use Rattle.tables.specs.Entries.{blank}
 use Rattle.tables.specs.Places.{inside-before, inside-at}
 use Rattle.tables.specs.Groups.{run-below, group-end}
-use Rattle.tables.proofs.Rows.{Sound}
+use Rattle.tables.proofs.EntryBytes.{Sound}
 use Rattle.tables.proofs.Nesting.{end-start, run-nil, run-deeper, run-ends}
 
 parts-nil : (b : Bool) → parts-from b [] ≡ []

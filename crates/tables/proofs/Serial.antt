@@ -1,5 +1,5 @@
 -- A series, an entry at a time: when `fields-to` is done, and that its fields are those from the first entry to the last.
--- Assumes nothing.
+--
 use mathlib.Core.Path.{_≡_, refl, sym, ap, subst, _∙_}
 use mathlib.Core.Bool.{Bool, true, false, not}
 use mathlib.Core.List.{List, [], _∷_}
@@ -19,7 +19,7 @@ use Rattle.tables.specs.Entries.{blank, is-group, is-multiple, is-period
 use Rattle.tables.specs.Groups.{with-field, fields-in, Spanned}
 use Rattle.tables.proofs.Bools.{clash}
 use Rattle.tables.proofs.Names.{one-name}
-use Rattle.tables.proofs.Rows.{is-done-then}
+use Rattle.tables.proofs.EntryBytes.{is-done-then}
 
 -- ---- the first entry of those of a series, by what it is
 module _ (n m l : ℕ) (es : List Entry) where

@@ -1,4 +1,4 @@
--- What a table's being valid means, and what it says of its entries. Assumes nothing.
+-- What a table's being valid means, and what it says of its entries.
 use mathlib.Core.Path.{_≡_, refl, sym, ap, subst, _∙_}
 use mathlib.Core.Bool.{Bool, true, false, _&&_}
 use mathlib.Core.List.{List}
@@ -14,10 +14,11 @@ use Rattle.rules.specs.Lists.{Bytes, same}
 use Rattle.rules.specs.Values.{alpha, binary, fixed, packed, unpacked}
 use Rattle.rules.specs.Table.{What, field, group, Entry, entries, levels, differ, names, table-head, table}
 use Rattle.rules.proofs.Steps.{by-test, from-bind, from-need}
-use Rattle.tables.specs.Entries.{listed, Valid, entries-of, read-entries, blank, format-at, format-number, decoded, what-by, entry-of, row-of, bytes-at, Right, headed, group-number, is-group}
+use Rattle.tables.specs.Entries.{listed, Has-entry, Valid, entries-of, blank, format-at, format-number, decoded, what-by, entry-of, entry-of-bytes, bytes-at, group-number, is-group}
+use Rattle.tables.specs.Validity.{read-entries, Right, headed}
 use Rattle.tables.proofs.Bools.{clash, and-true, and-both, and-four}
-use Rattle.tables.specs.declared.Entry.{Entry as Row}
-use Rattle.tables.proofs.Rows.{Sound, Made, entries-length, entry-made}
+use Rattle.tables.specs.declared.Entry.{Entry as Decoded}
+use Rattle.tables.proofs.EntryBytes.{Sound, Made, entries-length, entry-made}
 
 done-listed : (m : Outcome (List Entry)) → is-done m ≡ true → m ≡ done (listed m)
 done-listed (done es) e = refl
@@ -32,7 +33,7 @@ module _ (n : ℕ) (t : Bytes) (v : Right n t) where
   pub read-count : length (read-entries n t) ≡ n
   read-count = entries-length n (drop 6 t) (read-entries n t) read .0
 
-  pub read-reach : (i : ℕ) → i < n → i * 6 + 12 ≤ length t
+  pub read-reach : (i : ℕ) → i < n → Has-entry t i
   read-reach i h = omega (arith, entries-length n (drop 6 t) (read-entries n t) read .1, length-drop 6 t)
 
   read-length : 1 ≤ n → length t ≡ n * 6 + 6
@@ -43,11 +44,11 @@ module _ (n : ℕ) (t : Bytes) (v : Right n t) where
       let e : i * 6 + 6 ≡ 6 + i * 6 = omega arith in
       rw (e, ← drop-drop (i * 6) 6 t) (entry-made n (drop 6 t) (read-entries n t) i read h)
 
-  pub read-row : (i : ℕ) → i < n → row-of (bytes-at t i) ≡ decoded (getD (read-entries n t) i blank)
-  read-row i h = read-made i h .row
+  pub read-decoded : (i : ℕ) → i < n → entry-of-bytes (bytes-at t i) ≡ decoded (getD (read-entries n t) i blank)
+  read-decoded i h = read-made i h .read
 
-  pub read-name : (i : ℕ) → i < n → row-of (bytes-at t i) .name ≡ getD (read-entries n t) i blank .name
-  read-name i h = ap (λ (r : Row). r .name) (read-row i h)
+  pub read-name : (i : ℕ) → i < n → entry-of-bytes (bytes-at t i) .name ≡ getD (read-entries n t) i blank .name
+  read-name i h = ap (λ (r : Decoded). r .name) (read-decoded i h)
 
 pub is-group-number : (w : What) → eqb (format-number w) group-number ≡ is-group w
 is-group-number (field alpha n m) = refl
@@ -165,14 +166,14 @@ module _ (t : Bytes) (v : Valid t) where
     below : i < getD t 5 0
     below = omega (arith, valid-count)
 
-    pub valid-reach : i * 6 + 12 ≤ length t
+    pub valid-reach : Has-entry t i
     valid-reach = read-reach (getD t 5 0) t (tabled t v .right) i below
 
     pub valid-made : Made (bytes-at t i) (getD (entries-of t) i blank)
     valid-made = subst (λ (es : List Entry). Made (bytes-at t i) (getD es i blank)) (sym same-entries) (read-made (getD t 5 0) t (tabled t v .right) i below)
 
-    pub valid-row : row-of (bytes-at t i) ≡ decoded (getD (entries-of t) i blank)
-    valid-row = valid-made .row
+    pub valid-decoded : entry-of-bytes (bytes-at t i) ≡ decoded (getD (entries-of t) i blank)
+    valid-decoded = valid-made .read
 
     -- a field's length is one that its format allows, and a periodic group has level 1
     pub valid-sound : Sound (getD (entries-of t) i blank .level) (getD (entries-of t) i blank .what)

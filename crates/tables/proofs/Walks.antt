@@ -1,4 +1,4 @@
--- What a walk over the entries below a group leaves, at each of its ends. Assumes nothing.
+-- What a walk over the entries below a group leaves, at each of its ends.
 use mathlib.Core.Path.{_≡_, refl, sym, ap, _∙_}
 use mathlib.Core.Bool.{true, false}
 use mathlib.Core.List.{List, [], _∷_, map}
@@ -10,7 +10,7 @@ use Rattle.rules.specs.Table.{Entry}
 use Rattle.buffer.proofs.Laws.{splice-nil, splice-then, set-splice, take-splice}
 use Rattle.tables.specs.Entries.{blank, is-group}
 use Rattle.tables.specs.Groups.{run-below, numbers-below, field-at, Expanded, Fields-of}
-use Rattle.tables.specs.declared.Expansion.{Expansion}
+use Rattle.tables.specs.declared.groups.Expansion.{Expansion}
 use Rattle.tables.proofs.Nesting.{run-short, run-more, run-stop, run-none, numbers-short, numbers-stop, numbers-none, numbers-field, numbers-group, run-then, numbers-then, numbers-fields}
 
 module _ (es : List Entry) (level at count : ℕ) (before : List ℕ) where

@@ -11,8 +11,8 @@ use Rattle.rules.specs.Outcome.{done, is-done}
 use Rattle.rules.specs.Use.{fields-to}
 use Rattle.buffer.specs.Splice.{splice}
 use Rattle.tables.specs.Entries.{blank, group-number}
-use Rattle.tables.specs.declared.Entry.{Entry as Row}
-use Rattle.tables.specs.declared.Expansion.{Expansion}
+use Rattle.tables.specs.declared.Entry.{Entry as Decoded}
+use Rattle.tables.specs.declared.groups.Expansion.{Expansion}
 
 -- How many entries there are before the next that is not deeper than a level.
 unfoldable pub run-below : ℕ → List Entry → ℕ
@@ -67,8 +67,8 @@ pub record Fields-of (es : List Entry) (i : ℕ) (before after : List ℕ) (r : 
   pub fields : map (field-at es) (take r after) ≡ fields-below (getD es i blank .level) (drop (i + 1) es)
 
 -- Whether an entry can stand in a group that is named: a group, or a field neither MU nor of variable length.
-unfoldable pub plain-row : Row → Bool
-plain-row r = eqb (r .format) group-number || (not (r .multiple) && leb 1 (r .size))
+unfoldable pub plain-entry : Decoded → Bool
+plain-entry r = eqb (r .format) group-number || (not (r .multiple) && leb 1 (r .size))
 
 -- What is said of the series from entry i to entry j: whether it is one, and that its fields are those of the entries from i to j.
 pub record Spanned (es : List Entry) (i j : ℕ) (r : Bool) : Type 0 where

@@ -1,3 +1,4 @@
 pub mod Entries
+pub mod Validity
 pub mod Places
 pub mod Groups

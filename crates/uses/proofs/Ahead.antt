@@ -1,4 +1,4 @@
--- The uses of the elements of a format, one at a time: a step of the code takes the first of those that are left. Assumes nothing.
+-- The uses of the elements of a format, one at a time: a step of the code takes the first of those that are left.
 use mathlib.Core.Path.{_≡_, refl, sym, ap, subst, _∙_}
 use mathlib.Core.Bool.{true, false}
 use mathlib.Core.List.{List, [], _∷_}

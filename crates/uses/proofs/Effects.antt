@@ -1,4 +1,4 @@
--- The format and the length in effect, by the code's numbers and tests. Assumes nothing.
+-- The format and the length in effect, by the code's numbers and tests.
 use mathlib.Core.Path.{_≡_, refl, sym, ap, _∙_}
 use mathlib.Core.Bool.{true, false, _&&_}
 use mathlib.Core.Option.{Option, none, some}
@@ -6,15 +6,14 @@ use Prim.Native.Nat.{ℕ, _<_, _≤_}
 use native.Mathlib.Omega.{arith}
 use borrow.Author.Tests.{lt-ltb, le-ltb}
 use Rattle.rules.specs.Outcome.{done, refused}
-use Rattle.rules.specs.Values.{Format, alpha, binary, fixed, packed, unpacked, allowed, converts}
+use Rattle.rules.specs.Values.{allowed, converts}
 use Rattle.rules.specs.Table.{Field, format-of}
 use Rattle.rules.specs.Use.{format-in-effect, length-in-effect, Asked, asked}
-use Rattle.kinds.specs.Formats.{format-at}
-use Rattle.tables.specs.Entries.{letter-number, number-of}
-use Rattle.tables.proofs.Rows.{letter-some, letter-none}
+use Rattle.kinds.specs.Formats.{format-at, letter-number, number-of}
+use Rattle.kinds.proofs.Letters.{number-back, number-small, letter-some, letter-none}
 use Rattle.rules.proofs.Steps.{by-option, from-need, done-inj, not-done, T-true}
 use Rattle.tables.proofs.Bools.{and-both}
-use Rattle.uses.specs.Meant.{numbered}
+use Rattle.uses.specs.Effect.{numbered}
 
 pub numbered-known : (k : ℕ) → k < 5 → numbered k ≡ some (format-at k)
 unfolding numbered
@@ -24,26 +23,10 @@ pub numbered-none : (k : ℕ) → 5 ≤ k → numbered k ≡ none
 unfolding numbered
 numbered-none k h = rw (le-ltb k 5 h)
 
-pub number-small : (f : Format) → number-of f < 5
-number-small alpha = omega arith
-number-small binary = omega arith
-number-small fixed = omega arith
-number-small packed = omega arith
-number-small unpacked = omega arith
-
--- A field's own format has its number.
-pub own-number : (f : Format) → format-at (number-of f) ≡ f
-unfolding format-at
-own-number alpha = refl
-own-number binary = refl
-own-number fixed = refl
-own-number packed = refl
-own-number unpacked = refl
-
 letter-numbered : (b : ℕ) → format-of b ≡ numbered (letter-number b)
 letter-numbered b = by-option (format-of b)
     (λ f e. let n = letter-some b f e in
-    e ∙ ap some (sym (own-number f)) ∙ sym (ap numbered n ∙ numbered-known (number-of f) (number-small f)))
+    e ∙ ap some (sym (number-back f)) ∙ sym (ap numbered n ∙ numbered-known (number-of f) (number-small f)))
     (λ e. e ∙ sym (ap numbered (letter-none b e) ∙ numbered-none 5 (omega arith)))
 
 module _ (f : Field) where

@@ -1,4 +1,4 @@
--- An entry as a field, the fields of a group by the entries behind it, and those of a series. Assumes nothing.
+-- An entry as a field, the fields of a group by the entries behind it, and those of a series.
 use mathlib.Core.Path.{_≡_, refl, sym, ap, _∙_}
 use mathlib.Core.Bool.{Bool, true, false, not, _&&_}
 use mathlib.Core.List.{List, [], _∷_, map}
@@ -20,7 +20,7 @@ use Rattle.tables.specs.Groups.{run-below, group-end, field-by, field-at, with-
 use Rattle.tables.proofs.Bools.{clash}
 use Rattle.tables.proofs.Nesting.{below-deeper, below-ends, below-nil, run-nil, run-deeper, run-ends, run-short}
 use Rattle.uses.specs.Meant.{fields-from}
-use Rattle.uses.proofs.Effects.{own-number, number-small}
+use Rattle.kinds.proofs.Letters.{number-back, number-small}
 
 -- What a field's entry says of it.
 multiple-by : (n : ℕ) (w : What) → field-by n w .multiple ≡ is-multiple w
@@ -35,7 +35,7 @@ size-by n (group p) = refl
 
 format-by : (n : ℕ) (w : What) → is-group w ≡ false → (field-by n w .format ≡ format-at (format-number w)) × (format-number w < 5)
 unfolding field-by
-format-by n (field f s m) e = (sym (own-number f), number-small f)
+format-by n (field f s m) e = (sym (number-back f), number-small f)
 format-by n (group p) e = clash e
 
 module _ (es : List Entry) (i : ℕ) where

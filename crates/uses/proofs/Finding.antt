@@ -1,4 +1,4 @@
--- What an element means, by the entries that its names find. Assumes nothing.
+-- What an element means, by the entries that its names find.
 use mathlib.Core.Path.{_≡_, refl, sym, _∙_}
 use mathlib.Core.Bool.{Bool, true, false}
 use mathlib.Core.List.{List, [], _∷_}

@@ -1,4 +1,4 @@
--- The spans kept in an area: one that is kept behind others leaves those as they are, and names what it named. Assumes nothing.
+-- The spans kept in an area: one that is kept behind others leaves those as they are, and names what it named.
 use mathlib.Core.Path.{_≡_, refl, sym, ap, _∙_}
 use mathlib.Core.Bool.{Bool, true, false, _||_}
 use mathlib.Core.List.{List, [], _∷_}

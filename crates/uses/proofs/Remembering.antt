@@ -1,4 +1,4 @@
--- The last index so far of each entry, behind a span. Assumes nothing.
+-- The last index so far of each entry, behind a span.
 use mathlib.Core.Path.{_≡_, refl, sym, ap, _∙_}
 use mathlib.Core.Bool.{Bool, true, false}
 use mathlib.Core.List.{List, [], _∷_, map}

@@ -1,4 +1,4 @@
--- A format read once: an occurrence is named twice where an element that is left meets a span kept, or one that is left as well. Assumes nothing.
+-- A format read once: an occurrence is named twice where an element that is left meets a span kept, or one that is left as well.
 use mathlib.Core.Path.{_≡_, refl, sym, ap, _∙_}
 use mathlib.Core.Bool.{Bool, true, false, _||_}
 use mathlib.Core.List.{List, [], _∷_}

@@ -1,4 +1,4 @@
--- The use rules of fields, groups, counts and series, by the tests that the code makes. Assumes nothing.
+-- The use rules of fields, groups, counts and series, by the tests that the code makes.
 use mathlib.Core.Path.{_≡_, refl, sym, ap, _∙_}
 use mathlib.Core.Bool.{Bool, true, false}
 use mathlib.Core.List.{List, [], _∷_, map}
@@ -24,10 +24,12 @@ use Rattle.tables.specs.Places.{inside-at, found-at}
 use Rattle.tables.specs.Groups.{field-at, fields-in, group-end}
 use Rattle.tables.proofs.Bools.{clash}
 use Rattle.formats.specs.declared.Named.{Named}
-use Rattle.uses.specs.Meant.{occurrences, bracket, length-given, letter-given, spread-of, asked-at, fields-from, Settles, field-use, group-use, series-use, field-span, stored-span}
-use Rattle.uses.specs.declared.Ranges.{Ranges}
-use Rattle.uses.specs.declared.Spreads.the-variants as spreads
-use Rattle.uses.specs.declared.Effect.the-variants as effect
+use Rattle.uses.specs.Spread.{occurrences, bracket, spread-of}
+use Rattle.uses.specs.Effect.{length-given, letter-given, asked-at}
+use Rattle.uses.specs.Meant.{fields-from, Settles, field-use, group-use, series-use, field-span, stored-span}
+use Rattle.uses.specs.declared.spread.Ranges.{Ranges}
+use Rattle.uses.specs.declared.spread.Spreads.the-variants as spreads
+use Rattle.uses.specs.declared.effect.Effect.the-variants as effect
 use Rattle.uses.specs.declared.Use.the-variants as code
 use Rattle.uses.specs.declared.Meant.the-variants as meant
 use Rattle.uses.proofs.Spreading.{one-ordered, upto-one, value-one}

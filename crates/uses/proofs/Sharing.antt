@@ -1,4 +1,4 @@
--- Two spans of entries have a field in common where one entry of both is a field: names differ. Assumes nothing.
+-- Two spans of entries have a field in common where one entry of both is a field: names differ.
 use mathlib.Core.Path.{_≡_, refl, sym, ap, subst, _∙_}
 use mathlib.Core.Bool.{Bool, true, false, _&&_, _||_}
 use mathlib.Core.List.{List, [], _∷_}

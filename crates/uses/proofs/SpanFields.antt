@@ -1,4 +1,4 @@
--- The items of a span, for code that walks them: its fields an entry at a time. The laws of ranges in `rules` do the rest. Assumes nothing.
+-- The items of a span, for code that walks them: its fields an entry at a time. The laws of ranges in `rules` do the rest.
 use mathlib.Core.Path.{_≡_, refl, sym, _∙_}
 use mathlib.Core.Bool.{Bool, true, false}
 use mathlib.Core.List.{List, [], _∷_, map}

@@ -1,4 +1,4 @@
--- The use rules of indexes, by the tests that the code makes. Assumes nothing.
+-- The use rules of indexes, by the tests that the code makes.
 use mathlib.Core.Path.{_≡_, refl, ap}
 use mathlib.Core.Bool.{Bool, true, false, _&&_}
 use mathlib.Core.Option.{Option, none, some}
@@ -11,7 +11,7 @@ use Rattle.rules.specs.Format.{Range}
 use Rattle.rules.specs.Use.{Spread, just, in-order, spread}
 use Rattle.rules.proofs.Steps.{from-need, done-inj, not-done}
 use Rattle.tables.proofs.Bools.{and-true, and-both}
-use Rattle.uses.specs.Meant.{ranged}
+use Rattle.uses.specs.Spread.{ranged}
 
 -- Two ranges are in order, or one of them is not.
 module _ (os vs : Range) (bare : Bool) where

@@ -1,4 +1,4 @@
--- The use rules over the elements of a format, one at a time: the elements that are left are refused as the whole is. Assumes nothing.
+-- The use rules over the elements of a format, one at a time: the elements that are left are refused as the whole is.
 use mathlib.Core.Path.{_≡_, refl, sym, ap, subst, _∙_}
 use mathlib.Core.Bool.{true, false}
 use mathlib.Core.List.{List, [], _∷_}

@@ -1,3 +1,5 @@
+pub mod Spread
+pub mod Effect
 pub mod Meant
 pub mod Ahead
 pub mod Twice

@@ -1,22 +1,19 @@
 -- What the code's uses mean in the words of `rules`.
 use mathlib.Core.Path.{_≡_}
-use mathlib.Core.Bool.{Bool, true, false, cond, _&&_}
+use mathlib.Core.Bool.{Bool, true, false}
 use mathlib.Core.List.{List, [], _∷_, map}
-use mathlib.Core.Option.{Option, some, none}
 use Prim.Native.Nat.{ℕ, suc, _-_, _+_, _<_, _≤_}
-use lib.Dec.{ltb}
 use lib.ListN.{length, take, drop, getD}
-use Rattle.rules.specs.Outcome.{Outcome, done, refused, _>>=_, need}
-use Rattle.rules.specs.Limits.{most-entries, highest-index, longest-text}
+use Rattle.rules.specs.Outcome.{Outcome, done, refused, _>>=_}
+use Rattle.rules.specs.Limits.{formats, most-entries, highest-index, longest-text}
 use Rattle.rules.specs.Numbers.{refusal-number}
 use Rattle.rules.specs.declared.Refusal.{Refusal}
-use Rattle.rules.specs.declared.Refusal.the-variants.{UseRule}
 use Rattle.rules.specs.Lists.{Bytes, all, filter}
-use Rattle.rules.specs.Values.{Format, allowed, converts}
+use Rattle.rules.specs.Values.{allowed, converts}
 use Rattle.rules.specs.Table.{Field, Entry, group}
-use Rattle.rules.specs.Format.{Range, elements}
+use Rattle.rules.specs.Format.{elements}
 use Rattle.rules.specs.Use as rules
-use Rattle.rules.specs.Use.{Asked, Spread, plain, as-stored, in-order, spread, Indexes, last-index, format-in-effect, length-in-effect, asked, use-of}
+use Rattle.rules.specs.Use.{Asked, plain, as-stored, in-order, Indexes, last-index, use-of}
 use Rattle.kinds.specs.Formats.{format-at}
 use Rattle.tables.specs.Entries.{blank, is-group, is-multiple, is-periodic}
 use Rattle.tables.specs.Places.{inside-at, found-at, Home}
@@ -27,6 +24,8 @@ use Rattle.formats.specs.declared.Named.{Named}
 use Rattle.formats.specs.declared.Count.{Count}
 use Rattle.formats.specs.declared.Element.{Element}
 use Rattle.formats.specs.declared.Element.the-variants as element
+use Rattle.uses.specs.Spread.{occurrences, bracket}
+use Rattle.uses.specs.Effect.{length-given, letter-given}
 use Rattle.uses.specs.declared.Span.{Span}
 use Rattle.uses.specs.declared.Use.{Use}
 use Rattle.uses.specs.declared.Use.the-variants as code
@@ -34,64 +33,7 @@ use Rattle.uses.specs.declared.Meant.{Meant}
 use Rattle.uses.specs.declared.Meant.the-variants as meant
 use Rattle.uses.specs.declared.Verdict.{Verdict}
 use Rattle.uses.specs.declared.Verdict.the-variants as verdict
-use Rattle.uses.specs.declared.Ranges.{Ranges}
-use Rattle.uses.specs.declared.Spreads.{Spreads}
-use Rattle.uses.specs.declared.Spreads.the-variants as spreads
-use Rattle.uses.specs.declared.Effect.{Effect}
-use Rattle.uses.specs.declared.Effect.the-variants as effect
-
--- What may stand behind a name.
-abbrev pub occurrences : Named → Option Range
-occurrences n = optional (n .indexed) (range (n .from) (n .upto))
-
-abbrev pub bracket : Named → Option Range
-bracket n = optional (n .bracketed) (range (n .first) (n .last))
-
-abbrev pub length-given : Named → Option ℕ
-length-given n = optional (n .sized) (n .length)
-
-abbrev pub letter-given : Named → Option ℕ
-letter-given n = optional (n .lettered) (n .letter)
-
--- The occurrences and the values that an element means.
-abbrev pub spread-of : Spreads → Outcome Spread
-spread-of (spreads.Over r) = done (record { occurrences = range (r .from) (r .upto); values = range (r .«value_from») (r .«value_upto»); bare = r .bare })
-spread-of spreads.Broken = refused (refusal-number UseRule)
-
--- In a periodic group, whatever the last index of a field is.
-abbrev pub Spread-inside : Bool → Named → Spreads → Type 0
-Spread-inside mu n r = (last : ℕ) → spread-of r ≡ spread true mu last (occurrences n) (bracket n)
-
--- Some occurrences and values, where both ranges are in order.
-unfoldable pub ranged : Range → Range → Bool → Outcome Spread
-ranged os vs bare = do
-  _ ← need (in-order os && in-order vs) (refusal-number UseRule)
-  done (record { occurrences = os; values = vs; bare = bare })
-
--- A format by the code's number; none from 5 on.
-unfoldable pub numbered : ℕ → Option Format
-numbered k = cond (ltb k 5) (some (format-at k)) none
-
--- The format in effect has the number k, for any field of a format.
-abbrev pub Format-in-effect : ℕ → Named → ℕ → Type 0
-Format-in-effect g x k = (f : Field) → f .format ≡ format-at g → format-in-effect f (letter-given x) ≡ numbered k
-
-abbrev pub Length-in-effect : ℕ → Named → ℕ → Type 0
-Length-in-effect s x k = (f : Field) → f .size ≡ s → length-in-effect f (length-given x) ≡ k
-
--- A field at the format and the length in effect.
-abbrev pub asked-at : Field → Effect → Outcome Asked
-asked-at f (effect.At g n) = done (record { field = f; format = format-at g; size = n })
-asked-at f effect.Broken = refused (refusal-number UseRule)
-
-abbrev pub known-format : Effect → Type 0
-known-format (effect.At g n) = g < 5
-known-format effect.Broken = Unit {0}
-
--- The same, of any field of a format and a standard length.
-pub record Asks (g n : ℕ) (x : Named) (r : Effect) : Type 0 where
-  pub answer : (f : Field) → f .format ≡ format-at g → f .size ≡ n → asked-at f r ≡ asked f (length-given x) (letter-given x)
-  pub known : known-format r
+use Rattle.uses.specs.declared.spread.Ranges.{Ranges}
 
 -- The fields among the entries from one number up to another.
 unfoldable pub fields-from : List Entry → ℕ → ℕ → List Field
@@ -122,7 +64,7 @@ outcome-of es f (meant.Refused x) = refused (refusal-number x)
 pub record One-field (es : List Entry) (s : Span) : Type 0 where
   pub next : s .end ≡ s .first + 1
   pub field : is-group (getD es (s .first) blank .what) ≡ false
-  pub format : s .format < 5
+  pub format : s .format < formats
   pub allowed : allowed (format-at (s .format)) (s .size) ≡ true
   pub converts : converts (field-at es (s .first) .format) (format-at (s .format)) ≡ true
 
@@ -159,7 +101,7 @@ abbrev pub Meant-held : List Entry → Bytes → Meant → Type 0
 Meant-held es f (meant.As u) = Use-held es f u
 Meant-held es f (meant.Refused x) = Unit {0}
 
--- The rules' outcome is met, where no byte of the format matters.
+-- The answer is the rules' outcome, whatever the format's bytes are.
 pub record Settles (es : List Entry) (o : Outcome rules.Use) (r : Meant) : Type 0 where
   pub answer : (f : Bytes) → outcome-of es f r ≡ o
   pub held : (f : Bytes) → Meant-held es f r
@@ -207,7 +149,7 @@ field-span i r format size = record {
   bare = r .bare;
 }
 
--- How many numbers are kept: an index for each entry, and behind them where the next name is looked for first.
+-- How many numbers are kept: an index for each entry, and after them where the next name is looked for first.
 abbrev pub indexes-kept : ℕ
 indexes-kept = most-entries + 1
 
@@ -215,7 +157,7 @@ indexes-kept = most-entries + 1
 abbrev pub Remembers : List Entry → List ℕ → Indexes → Type 0
 Remembers es last ls = (i : ℕ) → i < length es → getD last i 0 ≡ last-index (getD es i blank .name) ls
 
--- What an element means, behind the indexes so far.
+-- What an element means, after the indexes so far.
 pub record Means (es : List Entry) (last : List ℕ) (e : Element) (r : Meant) : Type 0 where
   pub answer : (f : Bytes) (ls : Indexes) → Remembers es last ls → outcome-of es f r ≡ use-of es ls (element-of f e)
   pub held : (f : Bytes) → sound f e → Meant-held es f r
@@ -230,7 +172,7 @@ Count-means es c r = (last : List ℕ) → Means es last (element.Count c) r
 abbrev pub Series-means : List Entry → ℕ → ℕ → Meant → Type 0
 Series-means es n m r = (last : List ℕ) → Means es last (element.Series n m) r
 
--- A use's span is as it is known.
+-- The span of a use, if it has one, is well formed.
 abbrev pub Span-known : List Entry → Use → Type 0
 Span-known es (code.Blanks n) = Unit {0}
 Span-known es (code.Text from upto) = Unit {0}
@@ -238,7 +180,7 @@ Span-known es (code.GroupCount i) = Unit {0}
 Span-known es (code.ValueCount i k) = Unit {0}
 Span-known es (code.Values s) = Span-held es s
 
--- The indexes behind a use.
+-- The indexes after a use.
 pub record Remembered (es : List Entry) (u : Use) (before after : List ℕ) : Type 0 where
   pub same : length after ≡ length before
   pub indexes : (f : Bytes) (ls : Indexes) → Remembers es before ls → Remembers es after (rules.indexes-after (use-meant es f u) ls)

@@ -1,10 +1,11 @@
 // Refusal 6: whether two elements of a format name an occurrence in common. Six numbers are kept of each element that names any: its
 // entries, its occurrences and its values, each from and up to. So an element is read once, and compared with all that are kept.
-use super::INDEXES;
-use super::Span;
-use super::Turn;
-use super::Use;
-use super::next_use;
+use crate::INDEXES;
+use crate::Index;
+use crate::Span;
+use crate::Turn;
+use crate::Use;
+use crate::elements;
 ghost use mathlib.Core.Path.{_≡_};
 ghost use Prim.Native.Nat.{_+_, _*_, _≤_, max, min};
 ghost use lib.ListN.{length, getD};
@@ -13,7 +14,10 @@ ghost use Rattle.rules.specs.Update.{meet, share};
 ghost use Rattle.tables.specs.Entries.{Valid, entries-of};
 ghost use Rattle.formats.specs.Elements.{range};
 ghost use Rattle.uses.specs.Meant.{Span-held, Span-known};
-ghost use Rattle.uses.specs.Twice.{stored-fields, Kept-ends, Kept-alike, Met, numbers, Small-span, small, Keeps-use, Named-twice};
+ghost use Rattle.uses.specs.Twice.{stored-fields, numbers-kept, Kept-ends, Kept-alike, Met, numbers, Small-span, small, Keeps-use, Named-twice};
+
+// How many numbers are kept of a span.
+const NUMBERS: usize = 6;
 
 // The longest of the formats whose spans are kept in the smaller area. An element takes a byte at least, so that there is room for all.
 const SHORT: usize = 64;
@@ -58,8 +62,8 @@ fn share_entries(t: &[u8], first: usize, end: usize, low: usize, high: usize) ->
 }
 
 // Whether the span kept at a place and another name an occurrence in common.
-fn kept_alike(t: &[u8], kept: &[u8], at: usize, s: Span) -> bool
-    requires { ⌜ Valid (now t) × (at + 6 ≤ length (now kept)) × (getD (now kept) (at + 1) 0 ≤ length (entries-of (now t))) × Span-held (entries-of (now t)) s ⌝ }
+fn kept_alike(t: &[u8], kept: &[Index], at: usize, s: Span) -> bool
+    requires { ⌜ Valid (now t) × (at + numbers-kept ≤ length (now kept)) × (getD (now kept) (at + 1) 0 ≤ length (entries-of (now t))) × Span-held (entries-of (now t)) s ⌝ }
     ensures { λ r. ⌜ Kept-alike (entries-of (now (t .entry))) (now (kept .entry)) at s r ⌝ }
 {
     if meet(kept[at + 2] as usize, kept[at + 3] as usize, s.from, s.upto) {
@@ -76,14 +80,14 @@ fn kept_alike(t: &[u8], kept: &[u8], at: usize, s: Span) -> bool
 }
 
 // Whether one of the spans kept names an occurrence that another names.
-fn span_met(t: &[u8], kept: &[u8], count: usize, s: Span) -> bool
-    requires { ⌜ Valid (now t) × (6 * count ≤ length (now kept)) × Kept-ends (entries-of (now t)) (now kept) count × Span-held (entries-of (now t)) s ⌝ }
+fn span_met(t: &[u8], kept: &[Index], count: usize, s: Span) -> bool
+    requires { ⌜ Valid (now t) × (numbers-kept * count ≤ length (now kept)) × Kept-ends (entries-of (now t)) (now kept) count × Span-held (entries-of (now t)) s ⌝ }
     ensures { λ r. ⌜ Met (entries-of (now (t .entry))) (now (kept .entry)) count (Use.Values s) r ⌝ }
 {
     let mut i = count;
     while 0 < i {
         i -= 1;
-        if kept_alike(t, kept, 6 * i, s) {
+        if kept_alike(t, kept, NUMBERS * i, s) {
             return true;
         }
     }
@@ -91,8 +95,8 @@ fn span_met(t: &[u8], kept: &[u8], count: usize, s: Span) -> bool
 }
 
 // Whether one of the spans kept names an occurrence that a use names. Counts, spaces and text name nothing.
-fn met_before(t: &[u8], kept: &[u8], count: usize, u: Use) -> bool
-    requires { ⌜ Valid (now t) × (6 * count ≤ length (now kept)) × Kept-ends (entries-of (now t)) (now kept) count × Span-known (entries-of (now t)) u ⌝ }
+fn met_before(t: &[u8], kept: &[Index], count: usize, u: Use) -> bool
+    requires { ⌜ Valid (now t) × (numbers-kept * count ≤ length (now kept)) × Kept-ends (entries-of (now t)) (now kept) count × Span-known (entries-of (now t)) u ⌝ }
     ensures { λ r. ⌜ Met (entries-of (now (t .entry))) (now (kept .entry)) count u r ⌝ }
 {
     match u {
@@ -104,26 +108,26 @@ fn met_before(t: &[u8], kept: &[u8], count: usize, u: Use) -> bool
     }
 }
 
-fn keep_span(kept: &mut [u8], at: usize, s: Span)
-    requires { ⌜ (at + 6 ≤ length (now kept)) × Small-span s ⌝ }
+fn keep_span(kept: &mut [Index], at: usize, s: Span)
+    requires { ⌜ (at + numbers-kept ≤ length (now kept)) × Small-span s ⌝ }
     ensures { λ _. ⌜ now (kept .exit) ≡ sets (now (kept .entry)) at (numbers s) ⌝ }
 {
-    kept[at] = s.first as u8;
-    kept[at + 1] = s.end as u8;
-    kept[at + 2] = s.from as u8;
-    kept[at + 3] = s.upto as u8;
-    kept[at + 4] = s.value_from as u8;
-    kept[at + 5] = s.value_upto as u8;
+    kept[at] = s.first as Index;
+    kept[at + 1] = s.end as Index;
+    kept[at + 2] = s.from as Index;
+    kept[at + 3] = s.upto as Index;
+    kept[at + 4] = s.value_from as Index;
+    kept[at + 5] = s.value_upto as Index;
 }
 
-// Keeps the span of a use behind the others, and says how many there are then.
-fn keep(kept: &mut [u8], count: usize, u: Use) -> usize
-    requires { ⌜ (6 * count + 6 ≤ length (now kept)) × small u ⌝ }
+// Keeps the span of a use after the others, and says how many there are then.
+fn keep(kept: &mut [Index], count: usize, u: Use) -> usize
+    requires { ⌜ (numbers-kept * count + numbers-kept ≤ length (now kept)) × small u ⌝ }
     ensures { λ r. ⌜ Keeps-use u count (now (kept .entry)) r (now (kept .exit)) ⌝ }
 {
     match u {
         Use::Values(s) => {
-            keep_span(kept, 6 * count, s);
+            keep_span(kept, NUMBERS * count, s);
             count + 1
         }
         Use::Blanks(_) => count,
@@ -134,15 +138,15 @@ fn keep(kept: &mut [u8], count: usize, u: Use) -> usize
 }
 
 // Whether a format names an occurrence twice, with an area to keep the spans of its elements in.
-fn named_twice_by(t: &[u8], f: &[u8], kept: &mut [u8]) -> bool
-    requires { ⌜ Valid (now t) × (6 * length (now f) ≤ length (now kept)) ⌝ }
+fn named_twice_by(t: &[u8], f: &[u8], kept: &mut [Index]) -> bool
+    requires { ⌜ Valid (now t) × (numbers-kept * length (now f) ≤ length (now kept)) ⌝ }
     ensures { λ r. ⌜ Named-twice (entries-of (now (t .entry))) (now (f .entry)) r ⌝ }
 {
-    let mut last = [0u8; INDEXES];
+    let mut last: [Index; INDEXES] = [0; INDEXES];
     let mut at = 0;
     let mut count = 0;
     loop {
-        match next_use(t, f, at, &mut last) {
+        match elements::next_use(t, f, at, &mut last) {
             Turn::More(u, next) => {
                 if met_before(t, kept, count, u) {
                     return true;
@@ -166,11 +170,12 @@ pub fn named_twice(t: &[u8], f: &[u8]) -> bool
     ensures { λ r. ⌜ Named-twice (entries-of (now (t .entry))) (now (f .entry)) r ⌝ }
 {
     if f.len() <= SHORT {
-        let mut kept = [0u8; 6 * SHORT];
+        let mut kept: [Index; NUMBERS * SHORT] = [0; NUMBERS * SHORT];
         return named_twice_by(t, f, &mut kept);
     }
     if f.len() <= rules::LONGEST_FORMAT {
-        let mut kept = [0u8; 6 * rules::LONGEST_FORMAT];
+        let mut kept: [Index; NUMBERS * rules::LONGEST_FORMAT] = [0; NUMBERS
+            * rules::LONGEST_FORMAT];
         return named_twice_by(t, f, &mut kept);
     }
     false

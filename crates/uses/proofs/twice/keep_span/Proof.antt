@@ -1,4 +1,4 @@
--- `twice::keep_span` meets its contract: six bytes are set, one behind the other. Assumes nothing.
+-- `uses::twice::keep_span` meets its contract: six numbers are set, one after the other.
 use lib.ListN.{length-set}
 use Rattle.uses.proofs.Keeping.{six-sets}
 use borrow.Author.Needs.{needs}
@@ -7,6 +7,9 @@ use Rattle.uses.proofs.twice.keep_span.Tie as tie
 
 cast-kept : tie.Need-cast-kept
 cast-kept c = search needs
+
+mul-kept : tie.Need-mul-kept
+mul-kept c = search needs
 
 slice-write-kept : tie.Need-slice-write-kept
 slice-write-kept c = search needs
@@ -17,6 +20,9 @@ cast-kept-2 c = search needs
 add-kept : tie.Need-add-kept
 add-kept c = search needs
 
+mul-kept-2 : tie.Need-mul-kept-2
+mul-kept-2 c = search needs
+
 slice-write-kept-2 : tie.Need-slice-write-kept-2
 slice-write-kept-2 c = simp length-set (search needs)
 
@@ -25,6 +31,9 @@ cast-kept-3 c = search needs
 
 add-kept-2 : tie.Need-add-kept-2
 add-kept-2 c = search needs
+
+mul-kept-3 : tie.Need-mul-kept-3
+mul-kept-3 c = search needs
 
 slice-write-kept-3 : tie.Need-slice-write-kept-3
 slice-write-kept-3 c = simp length-set (search needs)
@@ -35,6 +44,9 @@ cast-kept-4 c = search needs
 add-kept-3 : tie.Need-add-kept-3
 add-kept-3 c = search needs
 
+mul-kept-4 : tie.Need-mul-kept-4
+mul-kept-4 c = search needs
+
 slice-write-kept-4 : tie.Need-slice-write-kept-4
 slice-write-kept-4 c = simp length-set (search needs)
 
@@ -44,6 +56,9 @@ cast-kept-5 c = search needs
 add-kept-4 : tie.Need-add-kept-4
 add-kept-4 c = search needs
 
+mul-kept-5 : tie.Need-mul-kept-5
+mul-kept-5 c = search needs
+
 slice-write-kept-5 : tie.Need-slice-write-kept-5
 slice-write-kept-5 c = simp length-set (search needs)
 
@@ -52,6 +67,9 @@ cast-kept-6 c = search needs
 
 add-kept-5 : tie.Need-add-kept-5
 add-kept-5 c = search needs
+
+mul-kept-6 : tie.Need-mul-kept-6
+mul-kept-6 c = search needs
 
 slice-write-kept-6 : tie.Need-slice-write-kept-6
 slice-write-kept-6 c = simp length-set (search needs)
@@ -69,21 +87,27 @@ keep-span-spec =
     tie.close
     (tie.spec
     cast-kept
+    mul-kept
     slice-write-kept
     cast-kept-2
     add-kept
+    mul-kept-2
     slice-write-kept-2
     cast-kept-3
     add-kept-2
+    mul-kept-3
     slice-write-kept-3
     cast-kept-4
     add-kept-3
+    mul-kept-4
     slice-write-kept-4
     cast-kept-5
     add-kept-4
+    mul-kept-5
     slice-write-kept-5
     cast-kept-6
     add-kept-5
+    mul-kept-6
     slice-write-kept-6
     same-length
     returns)

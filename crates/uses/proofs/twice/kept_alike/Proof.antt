@@ -1,4 +1,4 @@
--- `twice::kept_alike` meets its contract: both pairs of ranges meet, and then the fields do. Assumes nothing.
+-- `uses::twice::kept_alike` meets its contract: both pairs of ranges meet, and then the fields do.
 use Prim.Native.Nat.{_+_}
 use native.Mathlib.Omega.{arith}
 use Rattle.uses.proofs.Sharing.{ranges-meet, values-apart, occurrences-apart}
@@ -9,6 +9,9 @@ use Rattle.uses.proofs.twice.kept_alike.Tie as tie
 add-meet : tie.Need-add-meet
 add-meet c = search needs
 
+mul-meet : tie.Need-mul-meet
+mul-meet c = search needs
+
 shared-slice-read-meet : tie.Need-shared-slice-read-meet
 shared-slice-read-meet c = search needs
 
@@ -17,6 +20,9 @@ cast-meet c = omega (arith, c .shared-slice-known3 .given (c .before .before .be
 
 add-meet-2 : tie.Need-add-meet-2
 add-meet-2 c = search needs
+
+mul-meet-2 : tie.Need-mul-meet-2
+mul-meet-2 c = search needs
 
 shared-slice-read-meet-2 : tie.Need-shared-slice-read-meet-2
 shared-slice-read-meet-2 c = search needs
@@ -30,6 +36,9 @@ meet-requires c κs = search needs
 add-meet-3 : tie.Need-add-meet-3
 add-meet-3 c = search needs
 
+mul-meet-3 : tie.Need-mul-meet-3
+mul-meet-3 c = search needs
+
 shared-slice-read-meet-3 : tie.Need-shared-slice-read-meet-3
 shared-slice-read-meet-3 c = search needs
 
@@ -38,6 +47,9 @@ cast-meet-3 c = omega (arith, c .shared-slice-known5 .given (c .before .before .
 
 add-meet-4 : tie.Need-add-meet-4
 add-meet-4 c = search needs
+
+mul-meet-4 : tie.Need-mul-meet-4
+mul-meet-4 c = search needs
 
 shared-slice-read-meet-4 : tie.Need-shared-slice-read-meet-4
 shared-slice-read-meet-4 c = search needs
@@ -48,6 +60,9 @@ cast-meet-4 c = omega (arith, c .shared-slice-known6 .given (c .before .before .
 meet-requires-2 : tie.Need-meet-requires-2
 meet-requires-2 c κs = search needs
 
+mul-share-entries : tie.Need-mul-share-entries
+mul-share-entries c = search needs
+
 shared-slice-read-share-entries : tie.Need-shared-slice-read-share-entries
 shared-slice-read-share-entries c = search needs
 
@@ -56,6 +71,9 @@ cast-share-entries c = omega (arith, c .shared-slice-known7 .given (c .before .b
 
 add-share-entries : tie.Need-add-share-entries
 add-share-entries c = search needs
+
+mul-share-entries-2 : tie.Need-mul-share-entries-2
+mul-share-entries-2 c = search needs
 
 shared-slice-read-share-entries-2 : tie.Need-shared-slice-read-share-entries-2
 shared-slice-read-share-entries-2 c = search needs
@@ -86,22 +104,28 @@ kept-alike-spec =
     tie.close
     (tie.spec
     add-meet
+    mul-meet
     shared-slice-read-meet
     cast-meet
     add-meet-2
+    mul-meet-2
     shared-slice-read-meet-2
     cast-meet-2
     meet-requires
     add-meet-3
+    mul-meet-3
     shared-slice-read-meet-3
     cast-meet-3
     add-meet-4
+    mul-meet-4
     shared-slice-read-meet-4
     cast-meet-4
     meet-requires-2
+    mul-share-entries
     shared-slice-read-share-entries
     cast-share-entries
     add-share-entries
+    mul-share-entries-2
     shared-slice-read-share-entries-2
     cast-share-entries-2
     share-entries-requires

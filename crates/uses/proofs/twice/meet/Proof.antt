@@ -1,4 +1,4 @@
--- `twice::meet` meets its contract: each range begins before the other ends. Assumes nothing.
+-- `uses::twice::meet` meets its contract: each range begins before the other ends.
 use borrow.Author.Tests.{le-leb, lt-leb}
 use Rattle.rules.specs.Update.{meet}
 use Rattle.uses.proofs.twice.meet.Statement.{statement}

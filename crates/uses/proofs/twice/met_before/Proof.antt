@@ -1,4 +1,4 @@
--- `twice::met_before` meets its contract: a span is compared, and one item names nothing. Assumes nothing.
+-- `uses::twice::met_before` meets its contract: a span is compared, and one item names nothing.
 use mathlib.Core.Path.{sym, subst}
 use Rattle.tables.specs.Entries.{entries-of}
 use Rattle.uses.specs.Meant.{Span-known}

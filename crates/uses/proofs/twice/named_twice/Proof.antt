@@ -1,4 +1,4 @@
--- `twice::named_twice` meets its contract: there is room for the spans of a format that is not too long. Assumes nothing.
+-- `uses::twice::named_twice` meets its contract: there is room for the spans of a format that is not too long.
 use Rattle.uses.proofs.Seen.{too-long}
 use borrow.Author.Needs.{needs}
 use Rattle.uses.proofs.twice.named_twice.Statement.{statement}

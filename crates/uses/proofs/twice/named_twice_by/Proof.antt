@@ -1,4 +1,4 @@
--- `twice::named_twice_by` meets its contract: the elements that are left, and the spans kept, answer as all elements do. Assumes nothing.
+-- `uses::twice::named_twice_by` meets its contract: the elements that are left, and the spans kept, answer as all elements do.
 use mathlib.Core.Path.{_≡_, refl, _∙_}
 use Prim.Native.Nat.{_-_}
 use native.Mathlib.Omega.{arith}

@@ -1,4 +1,4 @@
--- `twice::share_entries` meets its contract: the entries of both spans are groups up to one that is a field. Assumes nothing.
+-- `uses::twice::share_entries` meets its contract: the entries of both spans are groups up to one that is a field.
 use mathlib.Core.Path.{sym, _∙_}
 use Prim.Native.Nat.{_-_}
 use native.Mathlib.Omega.{arith}

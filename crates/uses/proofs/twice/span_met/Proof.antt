@@ -1,4 +1,4 @@
--- `twice::span_met` meets its contract: the spans that are left answer as all do. Assumes nothing.
+-- `uses::twice::span_met` meets its contract: the spans that are left answer as all do.
 use mathlib.Core.Path.{_≡_, refl, _∙_}
 use Prim.Native.Nat.{_≤_, _-_}
 use native.Mathlib.Omega.{arith}

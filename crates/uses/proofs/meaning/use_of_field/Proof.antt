@@ -1,0 +1,112 @@
+-- `uses::meaning::use_of_field` meets its contract: its ranges, then its length and format.
+use mathlib.Core.Path.{_≡_, sym, ap, subst, _∙_}
+use native.Mathlib.Omega.{arith}
+use Rattle.rules.specs.Use.{spread, asked}
+use Rattle.tables.specs.Entries.{entries-of}
+use Rattle.tables.specs.Places.{inside-at}
+use Rattle.tables.specs.Groups.{field-at}
+use Rattle.tables.specs.declared.Entry.{Entry}
+use Rattle.tables.proofs.Tables.{valid-most}
+use Rattle.kinds.specs.Formats.{format-at}
+use Rattle.uses.specs.Spread.{spread-of, occurrences, bracket}
+use Rattle.uses.specs.Effect.{asked-at, known-format, length-given, letter-given}
+use Rattle.uses.proofs.Fields.{multiple-at, size-at, format-of-field}
+use Rattle.uses.proofs.Settling.{refuse, field-as, field-astray, field-unfit}
+use borrow.Author.Needs.{needs}
+use Rattle.uses.proofs.meaning.use_of_field.Statement.{statement}
+use Rattle.uses.proofs.meaning.use_of_field.Tie as tie
+
+-- What the two calls say, over the entries.
+spread-known : (c : tie.After-spread)
+    → (let a = c .before .before .before .before .args in
+    spread-of (c .spread .result) ≡ spread (inside-at (entries-of (a .t .now)) (a .i)) (field-at (entries-of (a .t .now)) (a .i) .multiple) (a .last) (occurrences (a .n)) (bracket (a .n)))
+spread-known c =
+    let a = c .before .before .before .before .args in
+    rw (← c .before .inside .ensures, multiple-at (entries-of (a .t .now)) (a .i), ← ap (λ (r : Entry). r .multiple) (c .before .before .entry-at .ensures)) (c .spread .ensures)
+
+asked-known : (c : tie.After-asked)
+    → (let a = c .before .before .before .before .before .before .before .args in
+    asked-at (field-at (entries-of (a .t .now)) (a .i)) (c .asked .result) ≡ asked (field-at (entries-of (a .t .now)) (a .i)) (length-given (a .n)) (letter-given (a .n)))
+asked-known c =
+    let s = c .before .before .before .before .before .before .before in
+    let e = c .before .before .before .before .before .entry-at .ensures in
+    let g = format-of-field (entries-of (s .args .t .now)) (s .args .i) (s .pre .2) in
+    c .asked .ensures .answer (field-at (entries-of (s .args .t .now)) (s .args .i))
+    (g .0 ∙ ap format-at (sym (c .before .before .byte .ensures .0 ∙ ap (λ (r : Entry). r .format) e)))
+    (size-at (entries-of (s .args .t .now)) (s .args .i) ∙ sym (c .before .byte2 .ensures .0 ∙ ap (λ (r : Entry). r .size) e))
+
+entry-at-requires : tie.Need-entry-at-requires
+entry-at-requires c κs = search needs
+
+inside-requires : tie.Need-inside-requires
+inside-requires c κs = search needs
+
+spread-requires : tie.Need-spread-requires
+spread-requires c κs = search needs
+
+byte-requires : tie.Need-byte-requires
+byte-requires c κs = search needs
+
+byte-requires-2 : tie.Need-byte-requires-2
+byte-requires-2 c κs = search needs
+
+asked-requires : tie.Need-asked-requires
+asked-requires c κs =
+    let s = c .before .before .before .before .before .before in
+    let e = c .before .before .before .before .entry-at .ensures in
+    omega (arith, c .before .byte .ensures .0, ap (λ (r : Entry). r .format) e, format-of-field (entries-of (s .args .t .now)) (s .args .i) (s .pre .2) .1)
+
+enum-known-s : tie.Need-enum-known-s
+enum-known-s c = search needs
+
+enum-known-a : tie.Need-enum-known-a
+enum-known-a c = search needs
+
+one-field-requires : tie.Need-one-field-requires
+one-field-requires c κs = let s = c .before .before .before .before .before .before .before .before .before .before .before .before .before in omega (arith, valid-most (s .args .t .now) (s .pre .0))
+
+enum-told : tie.Need-enum-told
+enum-told c = search needs
+
+enum-told-2 : tie.Need-enum-told-2
+enum-told-2 c = search needs
+
+returns : tie.Need-returns
+returns c =
+    let s = c .before .before .before .before .before .before .before .before .before .before .before .before .before .before in
+    rw (c .one-field .ensures)
+    (field-as (entries-of (s .args .t .now)) (s .args .i) (s .args .last) (s .args .n) (s .pre .1) (s .pre .2) _ _ _
+    (sym (ap spread-of (c .before .before .before .before .before .s .given .1)) ∙ spread-known (c .before .before .before .before .before .before .before .before .before .before))
+    (sym (ap (asked-at (field-at (entries-of (s .args .t .now)) (s .args .i))) (c .before .before .a .given .1)) ∙ asked-known (c .before .before .before .before .before .before .before))
+    (subst known-format (c .before .before .a .given .1) (c .before .before .before .before .before .before .before .asked .ensures .known)))
+
+returns-2 : tie.Need-returns-2
+returns-2 c =
+    let s = c .before .before .before .before .before .before .before .before .before .before .before .before in
+    refuse _ _ (field-unfit (field-at (entries-of (s .args .t .now)) (s .args .i)) _ _ _ _ _ _ _
+    (sym (spread-known (c .before .before .before .before .before .before .before .before)) ∙ ap spread-of (c .before .before .before .s .given .1))
+    (sym (asked-known (c .before .before .before .before .before)) ∙ ap (asked-at (field-at (entries-of (s .args .t .now)) (s .args .i))) (c .enum-told .given .1)))
+
+returns-3 : tie.Need-returns-3
+returns-3 c =
+    let s = c .before .before .before .before .before .before .before .before .before in
+    refuse _ _ (field-astray (field-at (entries-of (s .args .t .now)) (s .args .i)) _ _ _ _ _ _ (sym (spread-known (c .before .before .before .before .before)) ∙ ap spread-of (c .enum-told2 .given .1)))
+
+pub use-of-field-spec : {M : Type 1} → statement M
+use-of-field-spec =
+    tie.close
+    (tie.spec
+    entry-at-requires
+    inside-requires
+    spread-requires
+    byte-requires
+    byte-requires-2
+    asked-requires
+    enum-known-s
+    enum-known-a
+    one-field-requires
+    enum-told
+    enum-told-2
+    returns
+    returns-2
+    returns-3)
