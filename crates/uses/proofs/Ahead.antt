@@ -13,6 +13,7 @@ use Rattle.rules.specs.Table.{Entry}
 use Rattle.rules.specs.Format as rules
 use Rattle.rules.specs.Format.{elements}
 use Rattle.rules.specs.Use.{Use as Meaning, Indexes, indexes-after, use-of, uses}
+use Rattle.rules.specs.declared.Refusal.{Refusal}
 use Rattle.rules.proofs.Steps.{from-bind, done-inj, not-done}
 use Rattle.formats.specs.Elements.{element-of}
 use Rattle.formats.specs.Syntax.{parsed, element-before as put, elements-behind, Stepped}
@@ -54,7 +55,7 @@ no-uses es ls us e = sym (done-inj e)
 module _ {es : List Entry} {f : Bytes} {at : ℕ} {element-before : List ℕ} where
   -- An element before those that are left.
   module _ (e : Element) (us : List Meaning) (w : Ahead es f element-before at us) (xs : List rules.Element) (q : element-of f e ∷ xs ≡ w .left) where
-    first-refused : (n : ℕ) → Means es element-before e (meant.Refused n) → ⊥
+    first-refused : (n : Refusal) → Means es element-before e (meant.Refused n) → ⊥
     first-refused n m =
         from-uses es (w .indexes) (element-of f e) xs us (subst (λ ys. uses es (w .indexes) ys ≡ done us) (sym q) (w .meant)) λ v vs p r s.
         not-done (m .answer f (w .indexes) (w .remembers) ∙ p)
@@ -70,7 +71,7 @@ module _ {es : List Entry} {f : Bytes} {at : ℕ} {element-before : List ℕ} wh
   next-bad s = record { same = refl; known = tt; answer = λ us w. not-done (sym (s .answer) ∙ w .parsed) }
 
   module _ {e : Element} {stop : ℕ} (s : Stepped f at (parsed (drop at f)) (step.At e stop)) where
-    pub next-refused : {n : ℕ} → Means es element-before e (meant.Refused n) → Nexts es f at element-before element-before Refused
+    pub next-refused : {n : Refusal} → Means es element-before e (meant.Refused n) → Nexts es f at element-before element-before Refused
     next-refused {n} m = record {
       same = refl;
       known = tt;

@@ -14,6 +14,7 @@ use Rattle.rules.specs.Table.{What, field, group, Entry, is-inside}
 use Rattle.rules.specs.Format as rules
 use Rattle.rules.specs.Format.{Range}
 use Rattle.rules.specs.Use.{Use, Found, Indexes, last-index, find, find-from, use-of, use-of-group, use-of-field, use-of-count, use-of-series}
+use Rattle.rules.specs.declared.Refusal.the-variants.{UnknownName}
 use Rattle.rules.proofs.Steps.{by-test, done-inj, not-done}
 use Rattle.tables.specs.Entries.{blank, is-group}
 use Rattle.tables.specs.Places.{inside-at, found-at}
@@ -71,7 +72,7 @@ module _ (n : ℕ) (es : List Entry) where
 
 -- A name.
 module _ (es : List Entry) (last : List ℕ) (n : Named) where
-  pub name-nothing : find (n .name) es ≡ refused 4 → Means es last (element.Named n) (meant.Refused 4)
+  pub name-nothing : find (n .name) es ≡ refused 4 → Means es last (element.Named n) (meant.Refused UnknownName)
   name-nothing e = record { answer = λ f ls m. sym (named-nothing (n .name) es ls _ _ _ _ e); held = λ f s. omega arith }
 
   module _ (i : ℕ) (e : find (n .name) es ≡ done (found-at es i)) (r : Meant) where
@@ -114,7 +115,7 @@ module _ (n : ℕ) (es : List Entry) (ls : Indexes) where
   last-nothing m i e q = rw (e, q)
 
 module _ (es : List Entry) (c : Count) where
-  pub counted-nothing : find (c .name) es ≡ refused 4 → (last : List ℕ) → Means es last (element.Count c) (meant.Refused 4)
+  pub counted-nothing : find (c .name) es ≡ refused 4 → (last : List ℕ) → Means es last (element.Count c) (meant.Refused UnknownName)
   counted-nothing e last = record { answer = λ f ls m. count-nothing (c .name) es ls _ e; held = λ f s. omega arith }
 
   pub counted-as : (i : ℕ) → find (c .name) es ≡ done (found-at es i) → (r : Meant) → Settles es (count-use es i c) r
@@ -122,11 +123,11 @@ module _ (es : List Entry) (c : Count) where
   counted-as i e r s last = record { answer = λ f ls m. s .answer f ∙ count-of (c .name) es ls _ i e; held = λ f z. s .held f }
 
 module _ (es : List Entry) (n m : ℕ) where
-  pub no-first : find n es ≡ refused 4 → (last : List ℕ) → Means es last (element.Series n m) (meant.Refused 4)
+  pub no-first : find n es ≡ refused 4 → (last : List ℕ) → Means es last (element.Series n m) (meant.Refused UnknownName)
   no-first e last = record { answer = λ f ls z. first-nothing n es ls m e; held = λ f s. omega arith }
 
   module _ (i : ℕ) (e : find n es ≡ done (found-at es i)) where
-    pub no-last : find m es ≡ refused 4 → (last : List ℕ) → Means es last (element.Series n m) (meant.Refused 4)
+    pub no-last : find m es ≡ refused 4 → (last : List ℕ) → Means es last (element.Series n m) (meant.Refused UnknownName)
     no-last q last = record { answer = λ f ls z. last-nothing n es ls m i e q; held = λ f s. omega arith }
 
     pub series-to : (j : ℕ) → find m es ≡ done (found-at es j) → (r : Meant) → Settles es (series-use es i j) r

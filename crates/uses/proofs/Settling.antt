@@ -15,6 +15,7 @@ use Rattle.rules.specs.Table.{What, field, group, Field, Entry, fields-below}
 use Rattle.rules.specs.Format.{Range}
 use Rattle.rules.specs.Use as rules
 use Rattle.rules.specs.Use.{Found, Spread, Asked, spread, asked, plain, just, as-stored, in-order, fields-to, use-of-field, use-of-group, use-of-count, use-of-series, values, one, group-count, value-count}
+use Rattle.rules.specs.declared.Refusal.the-variants.{UseRule}
 use Rattle.rules.proofs.Steps.{T-true}
 use Rattle.rules.proofs.Uses.{spread-in-order}
 use Rattle.tables.specs.Entries.{Valid, entries-of, blank, is-group, is-multiple, is-periodic}
@@ -33,7 +34,7 @@ use Rattle.uses.proofs.Together.{field-periodic, group-some, group-begi
 use Rattle.uses.proofs.Effects.{asked-right}
 use Rattle.uses.proofs.Fields.{group-fields, group-upto, plain-none-multiple, series-none-multiple, series-five}
 
-pub refuse : (es : List Entry) (o : Outcome rules.Use) → o ≡ refused 5 → Settles es o (meant.Refused 5)
+pub refuse : (es : List Entry) (o : Outcome rules.Use) → o ≡ refused 5 → Settles es o (meant.Refused UseRule)
 refuse es o e = record { answer = λ f. sym e; held = λ f. omega arith }
 
 -- A field.

@@ -14,6 +14,8 @@ use Rattle.rules.specs.Format as rules
 use Rattle.rules.specs.Format.{elements}
 use Rattle.rules.specs.Use as rules-use
 use Rattle.rules.specs.Use.{Indexes, last-index, indexes-after, use-of, uses}
+use Rattle.rules.specs.Numbers.{refusal-number}
+use Rattle.rules.specs.declared.Refusal.{Refusal}
 use Rattle.rules.proofs.Steps.{from-bind, from-need, done-inj, not-done}
 use Rattle.tables.proofs.Bools.{clash}
 use Rattle.formats.specs.Elements.{element-of, sound}
@@ -89,8 +91,9 @@ module _ (es : List Entry) (f : Bytes) where
 
     -- The first element, and those behind it.
     module _ (e : Element) (stop : ℕ) (p : parsed (drop at f) ≡ by-step f (At e stop)) where
-      pub testing-refused : (n : ℕ) → Means es last e (meant.Refused n) → sound f e → Tested (uses-of es f) n
-      testing-refused n k z =
+      pub testing-refused : (x : Refusal) → Means es last e (meant.Refused x) → sound f e → Tested (uses-of es f) (refusal-number x)
+      testing-refused x k z =
+          let n = refusal-number x in
           from-bind (elements-behind f stop) _ (sym p ∙ w .parsed) λ ys g q.
           w .rest n (subst (λ xs. Tested (uses es (w .indexes) xs) n) (done-inj q)
           (first-refused es (w .indexes) (element-of f e) ys n (sym (k .answer f (w .indexes) (w .remembers))) (k .held f z)))

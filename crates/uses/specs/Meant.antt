@@ -14,6 +14,7 @@ use Rattle.rules.specs.Table.{Field, Entry, group}
 use Rattle.rules.specs.Format.{Range, elements}
 use Rattle.rules.specs.Use as rules
 use Rattle.rules.specs.Use.{Asked, Spread, plain, as-stored, in-order, spread, Indexes, last-index, format-in-effect, length-in-effect, asked, use-of}
+use Rattle.rules.specs.Numbers.{refusal-number}
 use Rattle.kinds.specs.Formats.{format-at}
 use Rattle.tables.specs.Entries.{blank, is-group, is-multiple, is-periodic}
 use Rattle.tables.specs.Places.{inside-at, found-at, Home}
@@ -111,7 +112,7 @@ use-meant es f (code.Values s) =
 
 abbrev pub outcome-of : List Entry → Bytes → Meant → Outcome rules.Use
 outcome-of es f (meant.As u) = done (use-meant es f u)
-outcome-of es f (meant.Refused n) = refused n
+outcome-of es f (meant.Refused x) = refused (refusal-number x)
 
 -- A span of one field, at a length and a format that are right for it.
 pub record One-field (es : List Entry) (s : Span) : Type 0 where
@@ -152,7 +153,7 @@ Use-held es f (code.Values s) = Span-held es s
 
 abbrev pub Meant-held : List Entry → Bytes → Meant → Type 0
 Meant-held es f (meant.As u) = Use-held es f u
-Meant-held es f (meant.Refused n) = 0 < n
+Meant-held es f (meant.Refused x) = 0 < refusal-number x
 
 -- The rules' outcome is met, where no byte of the format matters.
 pub record Settles (es : List Entry) (o : Outcome rules.Use) (r : Meant) : Type 0 where

@@ -5,6 +5,7 @@ use formats::Count;
 use formats::Element;
 use formats::Named;
 use formats::syntax::Step;
+use rules::Refusal;
 use tables::Found;
 ghost use mathlib.Core.Path.{_≡_};
 ghost use mathlib.Core.Bool.{true, false};
@@ -51,7 +52,7 @@ pub enum Use {
 
 pub enum Meant {
     As(Use),
-    Refused(u8),
+    Refused(Refusal),
 }
 
 // The use of an element and the place where the next element begins, the use of the last element, or no use.
@@ -277,9 +278,9 @@ fn use_of_field(t: &[u8], i: usize, last: usize, n: Named) -> Meant
     match s {
         Spreads::Over(ranges) => match a {
             Effect::At(format, size) => Meant::As(Use::Values(one_field(i, ranges, format, size))),
-            Effect::Broken => Meant::Refused(5),
+            Effect::Broken => Meant::Refused(Refusal::UseRule),
         },
-        Spreads::Broken => Meant::Refused(5),
+        Spreads::Broken => Meant::Refused(Refusal::UseRule),
     }
 }
 
@@ -289,10 +290,10 @@ fn use_of_group(t: &[u8], i: usize, n: Named) -> Meant
     ensures { λ r. ⌜ Settles (entries-of (now (t .entry))) (group-use (entries-of (now (t .entry))) i n) r ⌝ }
 {
     if n.sized {
-        return Meant::Refused(5);
+        return Meant::Refused(Refusal::UseRule);
     }
     if n.lettered {
-        return Meant::Refused(5);
+        return Meant::Refused(Refusal::UseRule);
     }
     if tables::plain_group(t, i) {
         let s = spread(tables::inside(t, i), false, 0, n);
@@ -302,10 +303,10 @@ fn use_of_group(t: &[u8], i: usize, n: Named) -> Meant
                 tables::group_end(t, i),
                 ranges,
             ))),
-            Spreads::Broken => Meant::Refused(5),
+            Spreads::Broken => Meant::Refused(Refusal::UseRule),
         };
     }
-    Meant::Refused(5)
+    Meant::Refused(Refusal::UseRule)
 }
 
 // The count of the MU field of entry i.
@@ -320,10 +321,10 @@ fn use_of_value_count(t: &[u8], i: usize, c: Count) -> Meant
                 return Meant::As(Use::ValueCount(i, k));
             }
         }
-        return Meant::Refused(5);
+        return Meant::Refused(Refusal::UseRule);
     }
     if c.indexed {
-        return Meant::Refused(5);
+        return Meant::Refused(Refusal::UseRule);
     }
     Meant::As(Use::ValueCount(i, 1))
 }
@@ -338,11 +339,11 @@ fn use_of_count(t: &[u8], i: usize, c: Count) -> Meant
     }
     if tables::periodic_at(t, i) {
         if c.indexed {
-            return Meant::Refused(5);
+            return Meant::Refused(Refusal::UseRule);
         }
         return Meant::As(Use::GroupCount(i));
     }
-    Meant::Refused(5)
+    Meant::Refused(Refusal::UseRule)
 }
 
 // The series from entry i to entry j.
@@ -351,10 +352,10 @@ fn use_of_series(t: &[u8], i: usize, j: usize) -> Meant
     ensures { λ r. ⌜ Settles (entries-of (now (t .entry))) (series-use (entries-of (now (t .entry))) i j) r ⌝ }
 {
     if tables::group_at(t, i) {
-        return Meant::Refused(5);
+        return Meant::Refused(Refusal::UseRule);
     }
     if tables::inside(t, i) {
-        return Meant::Refused(5);
+        return Meant::Refused(Refusal::UseRule);
     }
     if tables::series(t, i, j) {
         return Meant::As(Use::Values(stored(
@@ -369,7 +370,7 @@ fn use_of_series(t: &[u8], i: usize, j: usize) -> Meant
             },
         )));
     }
-    Meant::Refused(5)
+    Meant::Refused(Refusal::UseRule)
 }
 
 // A name, behind the last index so far of each entry. A format mostly names fields in table order, so the entry behind the one that was
@@ -386,7 +387,7 @@ fn use_of_name(t: &[u8], last: &[u8; INDEXES], n: Named) -> Meant
             }
             use_of_field(t, i, byte(last[i]), n)
         }
-        Found::Nothing => Meant::Refused(4),
+        Found::Nothing => Meant::Refused(Refusal::UnknownName),
     }
 }
 
@@ -397,7 +398,7 @@ fn use_of_counted(t: &[u8], c: Count) -> Meant
     let found = tables::find(t, c.name);
     match found {
         Found::At(i) => use_of_count(t, i, c),
-        Found::Nothing => Meant::Refused(4),
+        Found::Nothing => Meant::Refused(Refusal::UnknownName),
     }
 }
 
@@ -410,9 +411,9 @@ fn use_of_names(t: &[u8], from: u16, upto: u16) -> Meant
     match first {
         Found::At(i) => match last {
             Found::At(j) => use_of_series(t, i, j),
-            Found::Nothing => Meant::Refused(4),
+            Found::Nothing => Meant::Refused(Refusal::UnknownName),
         },
-        Found::Nothing => Meant::Refused(4),
+        Found::Nothing => Meant::Refused(Refusal::UnknownName),
     }
 }
 
@@ -509,8 +510,8 @@ pub fn test(t: &[u8], f: &[u8]) -> u8
                         remember(t, &mut last, u);
                         at = stop + 1;
                     }
-                    Meant::Refused(n) => {
-                        return n;
+                    Meant::Refused(x) => {
+                        return rules::refusal_number(x);
                     }
                 }
             }

@@ -70,12 +70,16 @@ loop-again c =
 enum-known-m-2 : tie.Need-enum-known-m-2 Inv-loop μ-loop
 enum-known-m-2 c = search needs
 
+refusal-number-requires : tie.Need-refusal-number-requires Inv-loop μ-loop
+refusal-number-requires c κs = search needs
+
 returns-2 : tie.Need-returns-2 Inv-loop μ-loop
 returns-2 c =
-    let a = c .before .before .before .before .before .before .before .before .before .before .before .before .args in
-    let n = step-as (c .before .before .before .before .before .before .e .given .1) (c .before .before .before .before .before .before .before .before .next .ensures) in
-    let m = means-as (c .before .m2 .given .1) (c .before .before .before .use-of .ensures) in
-    testing-refused (entries-of (a .t .now)) (a .f .now) (c .before .before .before .before .before .before .before .before .before .loop .inv .2) _ (c .before .before .before .before .before .before .e .given .0 .1 .0) (n .answer) _ m (n .place .2)
+    let a = c .before .before .before .before .before .before .before .before .before .before .before .before .before .args in
+    let n = step-as (c .before .before .before .before .before .before .before .e .given .1) (c .before .before .before .before .before .before .before .before .before .next .ensures) in
+    let m = means-as (c .before .before .m2 .given .1) (c .before .before .before .before .use-of .ensures) in
+    rw (c .refusal-number .ensures)
+    (testing-refused (entries-of (a .t .now)) (a .f .now) (c .before .before .before .before .before .before .before .before .before .before .loop .inv .2) _ (c .before .before .before .before .before .before .before .e .given .0 .1 .0) (n .answer) _ m (n .place .2))
 
 enum-told : tie.Need-enum-told Inv-loop μ-loop
 enum-told c = search needs
@@ -104,6 +108,7 @@ test-spec =
     loop-less
     loop-again
     enum-known-m-2
+    refusal-number-requires
     returns-2
     enum-told
     returns-3)
