@@ -1,4 +1,4 @@
--- `reading::put_element` meets its contract: by what the element means, what is left behind it ends and writes as it does with it. Assumes nothing.
+-- `reading::put_element` meets its contract: by what the element means, what is left behind it ends and writes as it does with it.
 use mathlib.Core.Path.{_≡_, refl, sym, _∙_}
 use native.Mathlib.Omega.{arith}
 use Rattle.tables.specs.Entries.{entries-of}
@@ -37,7 +37,7 @@ put-use-requires : tie.Need-put-use-requires
 put-use-requires c κs =
     let s = c .before .before .before .before .before .before .before .before .before .before .before .before .before .before .before .before .before in
     let m = means-as (c .before .before .before .before .before .before .before .u .given .1) (c .before .before .before .before .before .before .before .before .before .use-of .ensures) in
-    (s .pre .0, m .held (s .args .f .now) (s .pre .1), s .pre .3, at-fits (c .before .before .state .given .1) (s .pre .4), s .pre .5)
+    (s .pre .0, m .held (s .args .f .now) (s .pre .1), s .pre .3, (at-fits (c .before .before .state .given .1) (s .pre .4 .0), s .pre .4 .1))
 
 stands-requires : tie.Need-stands-requires
 stands-requires c κs = search needs
@@ -58,7 +58,7 @@ returns-3 : tie.Need-returns-3
 returns-3 c =
     let s = c .before .before .before .before .before .before .before .before .before .before .before .before .before .before .before .before .before .before .before .before .before in
     let m = means-as (c .before .before .before .before .before .before .before .before .before .before .before .u .given .1) (c .before .before .before .before .before .before .before .before .before .before .before .before .before .use-of .ensures) in
-    puts-as (c .before .before .before .before .before .before .state .given .1) (c .stands .ensures) (puts-items m (c .before .before .before .before .before .before .before .before .remember .ensures) _ _ (c .before .before .before .put-use .ensures) (s .pre .3) (at-fits (c .before .before .before .before .before .before .state .given .1) (s .pre .4)) (s .pre .5))
+    puts-as (c .before .before .before .before .before .before .state .given .1) (c .stands .ensures) (puts-items m (c .before .before .before .before .before .before .before .before .remember .ensures) _ _ (c .before .before .before .put-use .ensures) (s .pre .3) (at-fits (c .before .before .before .before .before .before .state .given .1) (s .pre .4 .0)) (s .pre .4 .1))
 
 returns-4 : tie.Need-returns-4
 returns-4 c =
