@@ -5,6 +5,7 @@
 // document 01 as `9 0 -`; to what is no such line it is `? 0 -`.
 use hexadecimal::NumberWord;
 use lines::Line;
+use rules::Refusal;
 use values::First;
 use values::Fit;
 ghost use mathlib.Core.Path.{_≡_};
@@ -13,19 +14,20 @@ ghost use mathlib.Core.Logic.{_⊎_};
 ghost use Prim.Native.Nat.{_+_, _*_, _≤_, _<_};
 ghost use lib.Dec.{ltb};
 ghost use lib.ListN.{length};
+ghost use Rattle.rules.specs.Limits.{formats, longest-alpha};
 ghost use Rattle.rules.specs.Values.{allowed};
 ghost use Rattle.kinds.specs.Formats.{format-at};
 ghost use Rattle.lines.specs.Placed.{Placed};
 ghost use Rattle.conversions.specs.Cases.{used, Conversion-areas};
 
-// How many bytes in front of room are the value, or the number of the refusal.
+// How many bytes in front of room are the value, or why it is refused.
 enum Reply {
     Done(usize),
-    Refused(u8),
+    Refused(Refusal),
     NoCase,
 }
 
-// The number of a format, which is 5 for what is none.
+// The number of a format; one more than the last for what is none.
 fn format_of(letter: u8) -> usize {
     match letter {
         b'A' => kinds::ALPHA,
@@ -34,15 +36,15 @@ fn format_of(letter: u8) -> usize {
         b'F' => kinds::FIXED,
         b'P' => kinds::PACKED,
         b'U' => kinds::UNPACKED,
-        _ => 5,
+        _ => rules::FORMATS,
     }
 }
 
 // Whether there is such a format, and it has values of a length.
 fn has_length(format: usize, size: usize) -> bool
-    ensures { λ r. ⌜ r ≡ (ltb format 5 && allowed (format-at format) size) ⌝ }
+    ensures { λ r. ⌜ r ≡ (ltb format formats && allowed (format-at format) size) ⌝ }
 {
-    if format < 5 {
+    if format < rules::FORMATS {
         return kinds::allowed(format, size);
     }
     false
@@ -55,7 +57,7 @@ fn null(format: usize, n: usize, room: &mut [u8]) -> Reply
     if has_length(format, n) {
         let size = values::null_length(format, n);
         if room.len() < size {
-            return Reply::Refused(7);
+            return Reply::Refused(Refusal::BeyondBuffer);
         }
         values::write_null(format, n, room, 0);
         return Reply::Done(size);
@@ -65,7 +67,7 @@ fn null(format: usize, n: usize, room: &mut [u8]) -> Reply
 
 // The content s of a value at another format and length.
 fn convert(s: &[u8], from: usize, to: usize, n: usize, room: &mut [u8]) -> Reply
-    requires { ⌜ (from < 5) × (allowed (format-at from) (length (now s)) ≡ true) ⌝ }
+    requires { ⌜ (from < formats) × (allowed (format-at from) (length (now s)) ≡ true) ⌝ }
     ensures { λ r. ⌜ used r ≤ length (now (room .entry)) ⌝ }
 {
     if has_length(to, n) {
@@ -74,9 +76,9 @@ fn convert(s: &[u8], from: usize, to: usize, n: usize, room: &mut [u8]) -> Reply
             Fit::Refused(k) => {
                 return Reply::Refused(k);
             }
-            Fit::Bytes(size) => {
+            Fit::Length(size) => {
                 if room.len() < size {
-                    return Reply::Refused(7);
+                    return Reply::Refused(Refusal::BeyondBuffer);
                 }
                 values::carry(s, from, to, n, room, 0);
                 return Reply::Done(size);
@@ -88,16 +90,16 @@ fn convert(s: &[u8], from: usize, to: usize, n: usize, room: &mut [u8]) -> Reply
 
 // The content s of a value, if it is in normal form.
 fn keep(s: &[u8], format: usize, size: usize, room: &mut [u8]) -> Reply
-    requires { ⌜ (format < 5) × (allowed (format-at format) size ≡ true) × (((size ≡ 0) × (length (now s) ≤ 253)) ⊎ (size ≡ length (now s))) ⌝ }
+    requires { ⌜ (format < formats) × (allowed (format-at format) size ≡ true) × (((size ≡ 0) × (length (now s) ≤ longest-alpha)) ⊎ (size ≡ length (now s))) ⌝ }
     ensures { λ r. ⌜ used r ≤ length (now (room .entry)) ⌝ }
 {
     if room.len() < s.len() {
-        return Reply::Refused(7);
+        return Reply::Refused(Refusal::BeyondBuffer);
     }
     if values::is_normal(s, format, size) {
         return Reply::Done(buffer::put(s, room, 0));
     }
-    Reply::Refused(2)
+    Reply::Refused(Refusal::BadRecord)
 }
 
 // What a value of a format and length gives, by its content.
@@ -109,7 +111,7 @@ fn answer_content(
     n: usize,
     room: &mut [u8],
 ) -> Reply
-    requires { ⌜ ((size ≡ 0) × (length (now s) ≤ 253)) ⊎ (size ≡ length (now s)) ⌝ }
+    requires { ⌜ ((size ≡ 0) × (length (now s) ≤ longest-alpha)) ⊎ (size ≡ length (now s)) ⌝ }
     ensures { λ r. ⌜ used r ≤ length (now (room .entry)) ⌝ }
 {
     if has_length(from, size) {
@@ -183,7 +185,7 @@ fn put(a: Reply, room: &[u8], out: &mut [u8]) -> usize
 {
     match a {
         Reply::Done(n) => protocol::put_answer(0, &room[..n], out, 0),
-        Reply::Refused(k) => protocol::put_answer(k, &room[..0], out, 0),
+        Reply::Refused(k) => protocol::put_answer(rules::refusal_number(k), &room[..0], out, 0),
         Reply::NoCase => protocol::put_no_call(out, 0),
     }
 }

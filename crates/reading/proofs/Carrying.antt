@@ -10,9 +10,11 @@ use Rattle.rules.specs.Outcome.{Outcome, done, is-done}
 use Rattle.rules.specs.Lists.{Bytes}
 use Rattle.rules.specs.Values.{allowed, meaning, carried, first-value}
 use Rattle.rules.specs.Record.{times, stored-value}
+use Rattle.rules.specs.declared.Refusal.{Refusal}
 use Rattle.rules.proofs.Steps.{from-done}
 use Rattle.kinds.specs.Formats.{format-at}
 use Rattle.values.specs.Places.{Located}
+use Rattle.values.specs.Fits.{Carriable}
 use Rattle.values.specs.declared.First.{First}
 use Rattle.values.specs.declared.First.the-variants.{Value, Refused as Bad}
 use Rattle.values.proofs.Meant.{form-means}
@@ -20,13 +22,13 @@ use Rattle.records.specs.Places.{Content-of}
 use Rattle.records.proofs.Cells.{times-first, times-none, value-first}
 use Rattle.records.proofs.Contents.{content-found, content-none}
 use Rattle.records.proofs.Normals.{first-at}
-use Rattle.reading.specs.Filling.{in-room, Filling, Going}
-use Rattle.reading.specs.Runs.{together, Wants, carried-to, Stand}
-use Rattle.reading.specs.declared.Next.{Next}
-use Rattle.reading.specs.declared.Next.the-variants.{At, Refused}
-use Rattle.reading.specs.declared.Wanted.{Wanted}
-use Rattle.reading.proofs.Going.{going-start, going-end, turn, turn-within, stop}
-use Rattle.reading.proofs.Together.{together-one}
+use Rattle.filling.specs.Filling.{in-room, Filling, Going, together}
+use Rattle.reading.specs.Cells.{Wants, carried-to, Stand}
+use Rattle.filling.specs.declared.Next.{Next}
+use Rattle.filling.specs.declared.Next.the-variants.{At, Refused}
+use Rattle.reading.specs.declared.cells.Wanted.{Wanted}
+use Rattle.filling.proofs.Going.{going-start, going-end, turn, turn-within, stop}
+use Rattle.filling.proofs.Together.{together-one}
 
 pub record Carrying (w : Wanted) (b : Bytes) (end n : ℕ) (us : List Bytes) (i q start at : ℕ) (write : Bool) (out₀ out : Bytes) : Type 0 where
   pub left : List Bytes
@@ -77,15 +79,18 @@ module _ {w : Wanted} (h : Wants w) {b : Bytes} {end n : ℕ} {us : List Bytes} 
           stand = (g .stand .0, rw (← behind) t);
         }
 
-    pub carry-none : {k : ℕ} → first ≡ Bad k → ⊥
+    pub carry-none : {k : Refusal} → first ≡ Bad k → ⊥
     carry-none e = next-there λ v mid vs l p t. content-none b q (w .standard) f (format-at (w .own)) v mid (h .standard) p e
 
   module _ {from next : ℕ} (x : Ahead w b (g .left) (n - (i + 1)) from next) where
-    pub value-long : allowed (format-at (w .own)) (length (take (next - from) (drop from b))) ≡ true
+    value-long : allowed (format-at (w .own)) (length (take (next - from) (drop from b))) ≡ true
     value-long =
         let y = x .content in
         let e : length (take (next - from) (drop from b)) ≡ next - from = simp (length-take, length-drop) (omega (arith, y .ordered, y .inside)) in
         ap (allowed (format-at (w .own))) e ∙ y .long
+
+    pub value-asked : Carriable (w .own) (w .format) (w .size) (take (next - from) (drop from b))
+    value-asked = record { source = h .own; target = h .format; size = value-long; length-there = h .size; value = x .means }
 
     module _ {out′ : Bytes} {m : Next} (f : Filling (in-room (end - at) (carried (format-at (w .own)) (format-at (w .format)) (w .size) (take (next - from) (drop from b)))) at write out out′ m) where
       put : Filling (together (end - at) (carried-to w (x .value) ∷ [])) at write out out′ m
@@ -107,7 +112,7 @@ module _ {w : Wanted} (h : Wants w) {b : Bytes} {end n : ℕ} {us : List Bytes} 
             going = t;
           }
 
-      pub carry-off : (k : ℕ) → m ≡ Refused k → Filling (together (end - start) (map (carried-to w) us)) start write out₀ out′ (Refused k)
+      pub carry-off : (k : Refusal) → m ≡ Refused k → Filling (together (end - start) (map (carried-to w) us)) start write out₀ out′ (Refused k)
       carry-off k e = stop end (carried-to w (x .value) ∷ []) (map (carried-to w) (x .others)) parted put (g .fits) (g .room) k e
 
   pub carry-end : n ≤ i → Filling (together (end - start) (map (carried-to w) us)) start write out₀ out (At at)

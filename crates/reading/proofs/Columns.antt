@@ -25,12 +25,13 @@ use Rattle.records.specs.Places.{Held, Cell-of}
 use Rattle.records.proofs.Placed.{cell-numbers}
 use Rattle.records.specs.declared.places.Cell.{Cell}
 use Rattle.records.specs.declared.places.Cell.the-variants.{At as Stands, Nothing as None}
-use Rattle.reading.specs.Filling.{Filling}
-use Rattle.reading.specs.Runs.{Fills, together, Wants, carried-to, wanted, wanted-at, Cell-holds, row-items}
-use Rattle.reading.specs.declared.Next.{Next}
-use Rattle.reading.specs.declared.Wanted.{Wanted}
-use Rattle.reading.proofs.Going.{filled-together}
-use Rattle.reading.proofs.Spans.{bounds}
+use Rattle.filling.specs.Filling.{Filling, together}
+use Rattle.reading.specs.Cells.{Wants, carried-to, wanted, wanted-at, Cell-holds}
+use Rattle.reading.specs.Spans.{Fills, row-items}
+use Rattle.filling.specs.declared.Next.{Next}
+use Rattle.reading.specs.declared.cells.Wanted.{Wanted}
+use Rattle.reading.proofs.Items.{filled-together}
+use Rattle.reading.proofs.SpanItems.{bounds}
 use Rattle.reading.proofs.Values.{name-at, own-small, own-allowed, own-format, own-size}
 
 map-run : {X Y : Type 0} (h : X → Y) (f : ℕ → X) (g : ℕ → Y) → ((k : ℕ) → h (f k) ≡ g k) → (i n : ℕ) → map h (run f i n) ≡ run g i n

@@ -20,9 +20,9 @@ use Rattle.uses.specs.declared.Use.{Use}
 use Rattle.uses.specs.declared.Use.the-variants.{Blanks, Text, GroupCount, ValueCount, Values}
 use Rattle.uses.proofs.SpanFields as fields
 use Rattle.records.specs.Places.{Held}
-use Rattle.reading.specs.Filling.{in-room, Filling}
-use Rattle.reading.specs.Runs.{Fills, span-items}
-use Rattle.reading.specs.declared.Next.{Next}
+use Rattle.filling.specs.Filling.{in-room, Filling}
+use Rattle.reading.specs.Spans.{Fills, span-items}
+use Rattle.filling.specs.declared.Next.{Next}
 use Rattle.reading.proofs.Running.{filled-one}
 use Rattle.reading.proofs.Unbare.{filled-bare}
 

@@ -18,8 +18,8 @@ use Rattle.records.specs.Walk.{rest-of, Walked, Ends}
 use Rattle.records.specs.declared.Reach.the-variants.{At}
 use Rattle.records.specs.declared.places.Cell.the-variants.{At as Stands}
 use Rattle.records.proofs.Cells.{times-first, times-length, counted-many, byte-there}
-use Rattle.reading.specs.Runs.{Wants, Cell-holds, existing, Exist}
-use Rattle.reading.specs.declared.Wanted.{Wanted}
+use Rattle.reading.specs.Cells.{Wants, Cell-holds, existing, Exist}
+use Rattle.reading.specs.declared.cells.Wanted.{Wanted}
 
 -- The first k of n, and those behind them.
 times-parts : {X C : Type 0} (one : Reader X) (n k : ℕ) (bs : Bytes) {rest : Bytes} {xs : List X} → k ≤ n → times n one bs ≡ done (xs, rest)

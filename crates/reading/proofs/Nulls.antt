@@ -8,12 +8,14 @@ use native.Mathlib.Omega.{arith}
 use lib.ListN.{length, take, drop, getD, replicate, length-take, length-drop, drop-of-length-le}
 use lib.Seq.{slice, slice-cons, getD-take}
 use Rattle.rules.specs.Outcome.{Outcome, done}
+use Rattle.rules.specs.Limits.{most-entries}
 use Rattle.rules.specs.Lists.{Bytes, join, run}
 use Rattle.rules.specs.Values.{allowed, null}
 use Rattle.rules.specs.Table.{Entry, Field, parts, fields-below}
 use Rattle.rules.specs.Record.{Record, values-at, value-at}
 use Rattle.rules.specs.Use.{as-stored}
 use Rattle.rules.specs.Services.{item-bytes, filled}
+use Rattle.rules.specs.declared.Refusal.{Refusal}
 use Rattle.rules.proofs.Ranges.{one-field}
 use Rattle.buffer.proofs.Laws.{take-splice}
 use Rattle.values.proofs.Meant.{null-carried}
@@ -30,13 +32,14 @@ use Rattle.uses.specs.declared.Span.{Span}
 use Rattle.uses.proofs.Fields.{group-fields}
 use Rattle.records.specs.Places.{Held, Piece-of}
 use Rattle.records.specs.declared.places.Content.the-variants.{Nothing}
-use Rattle.reading.specs.Filling.{in-room, Filling, Going}
-use Rattle.reading.specs.Runs.{Fills, together, Fields-numbered, nulls-of, row-items}
-use Rattle.reading.specs.declared.Next.{Next}
-use Rattle.reading.specs.declared.Next.the-variants.{At, Refused}
-use Rattle.reading.proofs.Going.{going-start, going-end, turn, turn-within, stop, filled-together}
-use Rattle.reading.proofs.Together.{together-copies}
-use Rattle.reading.proofs.Spans.{stored-items, row-once, each-field}
+use Rattle.filling.specs.Filling.{in-room, Filling, Going, together}
+use Rattle.reading.specs.Spans.{Fills, Fields-numbered, nulls-of, row-items}
+use Rattle.filling.specs.declared.Next.{Next}
+use Rattle.filling.specs.declared.Next.the-variants.{At, Refused}
+use Rattle.filling.proofs.Going.{going-start, going-end, turn, turn-within, stop}
+use Rattle.reading.proofs.Items.{filled-together}
+use Rattle.filling.proofs.Together.{together-copies}
+use Rattle.reading.proofs.SpanItems.{stored-items, row-once, each-field}
 use Rattle.reading.proofs.Values.{name-at, converts-itself, own-allowed, own-format, own-size}
 
 -- A loop over the numbers of fields: what is left of their nulls ends and writes as all of them do from the start.
@@ -82,7 +85,7 @@ module _ (t : Bytes) (v : Valid t) {fields : List ℕ} {n end k start at : ℕ} 
         let x = turn end own ahead left put (g .fits) (g .room) at′ p in
         rw (add-one k) (record { fits = turn-within end own ahead left put (g .fits) (g .room) at′ p .1; room = omega (arith, f .same, g .room); going = x })
 
-    pub null-off : (i : ℕ) → m ≡ Refused i → Filling (together (end - start) (nulls-of (map (field-at es) (take n fields)))) start write out₀ out′ (Refused i)
+    pub null-off : (i : Refusal) → m ≡ Refused i → Filling (together (end - start) (nulls-of (map (field-at es) (take n fields)))) start write out₀ out′ (Refused i)
     null-off i p = stop end own ahead left put (g .fits) (g .room) i p
 
 -- The numbers that the expansion of a group leaves are those of its fields: for a span in a periodic group, of the span's.
@@ -96,7 +99,7 @@ module _ (t : Bytes) (v : Valid t) (s : Span) (held : Span-held (entries-of t) s
   abbrev behind : List Entry
   behind = drop (i + 1) (entries-of t)
 
-  pub fields-few : n ≤ 64
+  pub fields-few : n ≤ most-entries
   fields-few = omega (arith, x .counted, numbers-short level (i + 1) behind, run-short level behind, length-drop (i + 1) (entries-of t), valid-most t v)
 
   module _ (standard : s .standard ≡ true) (inside : inside-at (entries-of t) (s .first) ≡ true) where

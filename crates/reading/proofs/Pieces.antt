@@ -34,12 +34,12 @@ use Rattle.records.specs.declared.paths.Path.{Path}
 use Rattle.records.specs.declared.places.Content.the-variants.{At as Lies}
 use Rattle.records.proofs.Cells.{counted-once, value-first}
 use Rattle.records.proofs.Strips.{first-own}
-use Rattle.reading.specs.Filling.{in-room, Filling}
-use Rattle.reading.specs.Runs.{Fills, together, Way, row-items}
-use Rattle.reading.specs.declared.Next.{Next}
-use Rattle.reading.proofs.Going.{filled-together}
-use Rattle.reading.proofs.Together.{together-done}
-use Rattle.reading.proofs.Spans.{stored-items, row-once, each-field}
+use Rattle.filling.specs.Filling.{in-room, Filling, together}
+use Rattle.reading.specs.Spans.{Fills, Way, row-items}
+use Rattle.filling.specs.declared.Next.{Next}
+use Rattle.reading.proofs.Items.{filled-together}
+use Rattle.filling.proofs.Together.{together-done}
+use Rattle.reading.proofs.SpanItems.{stored-items, row-once, each-field}
 use Rattle.reading.proofs.Values.{name-at}
 
 -- The field that an entry is, if it is one.

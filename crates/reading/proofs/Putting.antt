@@ -5,11 +5,10 @@ use mathlib.Core.List.{List}
 use Prim.Native.Nat.{ℕ, _≤_}
 use native.Mathlib.Omega.{arith}
 use lib.ListN.{length}
-use Rattle.rules.specs.Numbers.{refusal-number}
-use Rattle.rules.specs.declared.Refusal.{Refusal}
 use Rattle.rules.specs.Lists.{Bytes}
 use Rattle.rules.specs.Table.{Entry}
 use Rattle.rules.specs.Use.{indexes-after, items-of}
+use Rattle.rules.specs.declared.Refusal.{Refusal}
 use Rattle.rules.proofs.Steps.{not-both}
 use Rattle.formats.specs.Elements.{element-of}
 use Rattle.formats.specs.declared.Element.{Element}
@@ -17,10 +16,10 @@ use Rattle.records.specs.Places.{Holds}
 use Rattle.uses.specs.Meant.{use-meant, Means, Remembered}
 use Rattle.uses.specs.declared.Use.{Use}
 use Rattle.uses.specs.declared.Meant.the-variants as meant
-use Rattle.reading.specs.Runs.{Fills}
-use Rattle.reading.specs.Turns.{filled-upto, use-refused, standing-of, Puts}
-use Rattle.reading.specs.declared.Next.{Next}
-use Rattle.reading.specs.declared.Next.the-variants as next
+use Rattle.reading.specs.Spans.{Fills}
+use Rattle.reading.specs.Scan.{filled-upto, use-refused, standing-of, Puts}
+use Rattle.filling.specs.declared.Next.{Next}
+use Rattle.filling.specs.declared.Next.the-variants as next
 use Rattle.reading.specs.declared.Standing.{Standing}
 use Rattle.reading.specs.declared.Standing.the-variants.{At, NoItem, NoUse}
 use Rattle.reading.proofs.Turns.{passed, refused-use, used-behind, used-at, used-within, used-refused}
@@ -28,7 +27,7 @@ use Rattle.reading.proofs.Turns.{passed, refused-use, used-behind, used
 pub at-fits : {s : Standing} {p end : ℕ} → s ≡ At p → filled-upto s ≤ end → p ≤ end
 at-fits {end = end} e l = subst (λ (s : Standing). filled-upto s ≤ end) e l
 
-pub not-unused : (s : Standing) → use-refused s ≡ false → (k : ℕ) → s ≡ NoUse k → ⊥
+pub not-unused : (s : Standing) → use-refused s ≡ false → (k : Refusal) → s ≡ NoUse k → ⊥
 not-unused s h k e = not-both (sym h ∙ ap use-refused e)
 
 module _ {es : List Entry} {b : Bytes} {places : List ℕ} {f : Bytes} {end : ℕ} {write : Bool} {e : Element} {last : List ℕ} where
@@ -44,16 +43,16 @@ module _ {es : List Entry} {b : Bytes} {places : List ℕ} {f : Bytes} {end : �
   puts-unused (NoItem n) h = absurd (not-both h)
   puts-unused (NoUse n) h = record { fits = omega arith; same = refl; kept = refl; going = λ ls q. (ls, q, λ r k xs. passed es r end ls (element-of f e) xs n) }
 
-  pub puts-refused : (s : Standing) {out : Bytes} (x : Refusal) → Means es last e (meant.Refused x) → use-refused s ≡ false → Puts es b places f end write e last last s out out (NoUse (refusal-number x))
-  puts-refused s x m h = record {
+  pub puts-refused : (s : Standing) {out : Bytes} (n : Refusal) → Means es last e (meant.Refused n) → use-refused s ≡ false → Puts es b places f end write e last last s out out (NoUse n)
+  puts-refused s n m h = record {
     fits = omega arith;
     same = refl;
     kept = refl;
-    going = λ ls q. (ls, q, λ r k xs. refused-use es r end ls (element-of f e) xs (refusal-number x) (m .answer f ls q) s (not-unused s h) ls);
+    going = λ ls q. (ls, q, λ r k xs. refused-use es r end ls (element-of f e) xs n (m .answer f ls q) s (not-unused s h) ls);
   }
 
   module _ {last′ : List ℕ} {u : Use} (m : Means es last e (meant.As u)) (k : Remembered es u last last′) where
-    pub puts-behind : {out : Bytes} (n : ℕ) → Puts es b places f end write e last last′ (NoItem n) out out (NoItem n)
+    pub puts-behind : {out : Bytes} (n : Refusal) → Puts es b places f end write e last last′ (NoItem n) out out (NoItem n)
     puts-behind n = record {
       fits = omega arith;
       same = k .same;

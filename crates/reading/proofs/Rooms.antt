@@ -6,16 +6,13 @@ use native.Mathlib.Omega.{arith}
 use borrow.Author.Tests.{le-leb}
 use lib.Dec.{leb, leb→le}
 use lib.ListN.{length}
-use Rattle.rules.specs.Outcome.{Outcome, done, refused}
+use Rattle.rules.specs.Outcome.{done, refused}
 use Rattle.rules.specs.Lists.{Bytes}
 use Rattle.rules.specs.Table.{Part}
 use Rattle.rules.specs.Record.{Record}
 use Rattle.rules.specs.Use.{Item}
 use Rattle.rules.specs.Services.{item-bytes, filled}
-use Rattle.rules.proofs.Steps.{from-bind, from-need, not-done, by-test, by-outcome, true-T}
-
-refused-inj : {A : Type 0} {m n : ℕ} → _≡_ {A = Outcome A} (refused m) (refused n) → m ≡ n
-refused-inj p = cc
+use Rattle.rules.proofs.Steps.{from-bind, from-need, refused-inj, not-done, by-test, by-outcome, true-T}
 
 module _ (ps : List Part) (r : Record) where
   pub more-room : (room room′ : ℕ) (xs : List Item) (bs : Bytes) → room ≤ room′ → filled ps r room xs ≡ done bs → filled ps r room′ xs ≡ done bs

@@ -14,6 +14,7 @@ use Rattle.rules.specs.Table.{group, Entry, Field, parts}
 use Rattle.rules.specs.Record.{Record, group-count-at}
 use Rattle.rules.specs.Use.{Item}
 use Rattle.rules.specs.Services.{filled}
+use Rattle.rules.specs.declared.Refusal.{Refusal}
 use Rattle.rules.proofs.Ranges.{first-occurrence, no-occurrence, filled-append}
 use Rattle.rules.proofs.Steps.{by-test}
 use Rattle.formats.specs.Elements.{range}
@@ -25,14 +26,13 @@ use Rattle.records.specs.Where.{fields-of}
 use Rattle.records.specs.Paths.{Wide, Leads}
 use Rattle.records.specs.Places.{Held, Holds, values-of, Celled, Rows-of}
 use Rattle.records.specs.declared.paths.Path.{Path}
-use Rattle.reading.specs.Filling.{in-room, Filling}
-use Rattle.reading.specs.Runs.{Fills, together, row-items, span-items}
-use Rattle.reading.specs.Rows.{rows-items, Whole, Adjoin}
-use Rattle.reading.specs.declared.Next.{Next}
-use Rattle.reading.specs.declared.Next.the-variants.{At, Refused}
+use Rattle.filling.specs.Filling.{in-room, Filling, together}
+use Rattle.reading.specs.Spans.{Fills, row-items, span-items, rows-items, Whole, Adjoin}
+use Rattle.filling.specs.declared.Next.{Next}
+use Rattle.filling.specs.declared.Next.the-variants.{At, Refused}
 use Rattle.reading.proofs.Running.{Running, run-start, run-on, run-off, run-end}
-use Rattle.reading.proofs.Together.{together-done}
-use Rattle.reading.proofs.Spans.{bounds, row-once}
+use Rattle.filling.proofs.Together.{together-done}
+use Rattle.reading.proofs.SpanItems.{bounds, row-once}
 use Rattle.reading.proofs.Pieces.{row-single, row-filled}
 
 module _ (es : List Entry) (s : Span) where
@@ -139,6 +139,6 @@ module _ {es : List Entry} {b : Bytes} {places : List ℕ} {s : Span} (held : Sp
   pub rows-begun : (p : ℕ) → m ≡ At p → Running es b places end (span-items es s (s .from)) (span-items es s (s .from + n)) at p write out out′
   rows-begun p q = run-on start (rows-items es s (s .from) (s .from + n - 1)) (span-items es s (s .from + n)) split f p q
 
-  pub rows-refused : (k : ℕ) → m ≡ Refused k → Fills es b places (span-items es s (s .from)) at end write out out′ m
+  pub rows-refused : (k : Refusal) → m ≡ Refused k → Fills es b places (span-items es s (s .from)) at end write out out′ m
   rows-refused k q = subst (λ (o : Next). Fills es b places (span-items es s (s .from)) at end write out out′ o) (sym q)
       (run-off start (rows-items es s (s .from) (s .from + n - 1)) (span-items es s (s .from + n)) split f k q)

@@ -11,13 +11,15 @@ use Rattle.rules.specs.Table.{Part, Entry, parts}
 use Rattle.rules.specs.Record.{Record}
 use Rattle.rules.specs.Use.{Item}
 use Rattle.rules.specs.Services.{item-bytes, filled}
+use Rattle.rules.specs.declared.Refusal.{Refusal}
 use Rattle.records.specs.Places.{Held, Holds}
-use Rattle.reading.specs.Filling.{Filling, in-room, Going}
-use Rattle.reading.specs.Runs.{Fills, together}
-use Rattle.reading.specs.declared.Next.{Next}
-use Rattle.reading.specs.declared.Next.the-variants.{At, Refused}
-use Rattle.reading.proofs.Going.{going-start, going-end, turn, turn-within, stop, filled-together}
-use Rattle.reading.proofs.Together.{together-one}
+use Rattle.filling.specs.Filling.{Filling, in-room, Going, together}
+use Rattle.reading.specs.Spans.{Fills}
+use Rattle.filling.specs.declared.Next.{Next}
+use Rattle.filling.specs.declared.Next.the-variants.{At, Refused}
+use Rattle.filling.proofs.Going.{going-start, going-end, turn, turn-within, stop}
+use Rattle.reading.proofs.Items.{filled-together}
+use Rattle.filling.proofs.Together.{together-one}
 
 pub record Running (es : List Entry) (b : Bytes) (places : List ℕ) (end : ℕ) (whole rest : List Item) (start at : ℕ) (write : Bool) (out₀ out : Bytes) : Type 0 where
   pub holds : Holds es b places
@@ -68,7 +70,7 @@ module _ {es : List Entry} {b : Bytes} {places : List ℕ} {end : ℕ} {whole re
                 (sym (filled-together (parts es) r ys (end - at′))) (turn end _ _ (parted r p) (put r p) (g .fits) (g .room) at′ q);
           }
 
-      pub run-off : (k : ℕ) → n ≡ Refused k → Fills es b places whole start end write out₀ out′ (Refused k)
+      pub run-off : (k : Refusal) → n ≡ Refused k → Fills es b places whole start end write out₀ out′ (Refused k)
       run-off k q r p = stop end _ _ (parted r p) (put r p) (g .fits) (g .room) k q
 
   pub run-end : rest ≡ [] → Fills es b places whole start end write out₀ out (At at)

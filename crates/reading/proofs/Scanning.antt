@@ -16,6 +16,8 @@ use Rattle.rules.specs.Record.{Record}
 use Rattle.rules.specs.Format as rules
 use Rattle.rules.specs.Use.{Use as Meaning, Indexes, uses, items}
 use Rattle.rules.specs.Services.{filled}
+use Rattle.rules.specs.Numbers.{refusal-number}
+use Rattle.rules.specs.declared.Refusal.the-variants.{BadSyntax}
 use Rattle.formats.specs.Syntax.{parsed, elements-behind, element-before, Stepped}
 use Rattle.formats.specs.Elements.{element-of}
 use Rattle.formats.specs.declared.Element.{Element}
@@ -24,13 +26,14 @@ use Rattle.formats.proofs.StepLaws.{elements-parsed, elements-long, behind-last
 use Rattle.records.specs.Places.{Held, Holds}
 use Rattle.uses.specs.Meant.{indexes-kept, Remembers, uses-of}
 use Rattle.uses.proofs.Testing.{no-index, zeros}
-use Rattle.reading.specs.Filling.{Filling, Going}
-use Rattle.reading.specs.Turns.{filled-upto, answer-of, left-of, Puts, Scans}
-use Rattle.reading.specs.declared.Next.{Next}
-use Rattle.reading.specs.declared.Next.the-variants as next
+use Rattle.filling.specs.Filling.{Filling, Going}
+use Rattle.reading.specs.Scan.{filled-upto, answer-of, left-of, Puts, Scans}
+use Rattle.filling.specs.declared.Next.{Next}
+use Rattle.filling.specs.declared.Next.the-variants as next
 use Rattle.reading.specs.declared.Standing.{Standing}
 use Rattle.reading.specs.declared.Standing.the-variants.{At, NoItem, NoUse}
-use Rattle.reading.proofs.Going.{going-start, going-then, going-off, going-end, filled-together}
+use Rattle.filling.proofs.Going.{going-start, going-then, going-off, going-end}
+use Rattle.reading.proofs.Items.{filled-together}
 use Rattle.reading.proofs.Turns.{no-items, no-uses, left-bad}
 
 -- All that a format asks for in so much room.
@@ -42,9 +45,9 @@ unfolding uses-of left-of
 whole-left es f r end h = ap (λ o. o >>= uses es [] >>= λ us. filled (parts es) r end (items us)) (elements-parsed f h)
     ∙ ap (λ n. parsed f >>= uses es [] >>= λ us. filled (parts es) r n (items us)) (sym (sub-zero end))
 
-pub scan-long : (es : List Entry) (b : Bytes) (places : List ℕ) (f : Bytes) (end : ℕ) (write : Bool) (out : Bytes) → longest-format < length f → Scans es b places f end write out out (next.Refused 3)
+pub scan-long : (es : List Entry) (b : Bytes) (places : List ℕ) (f : Bytes) (end : ℕ) (write : Bool) (out : Bytes) → longest-format < length f → Scans es b places f end write out out (next.Refused BadSyntax)
 unfolding uses-of
-scan-long es b places f end write out h r p = going-off (going-start (whole es f r end) 0 write out) refl 3 (ap (λ o. o >>= uses es [] >>= λ us. filled (parts es) r end (items us)) (elements-long f h)) (λ w. refl)
+scan-long es b places f end write out h r p = going-off (going-start (whole es f r end) 0 write out) refl BadSyntax (ap (λ o. o >>= uses es [] >>= λ us. filled (parts es) r end (items us)) (elements-long f h)) (λ w. refl)
 
 -- The scan stands somewhere, with some elements left.
 pub record Scanning (es : List Entry) (b : Bytes) (places : List ℕ) (f : Bytes) (end : ℕ) (write : Bool) (out₀ : Bytes) (last : List ℕ) (xs : Outcome (List rules.Element)) (s : Standing) (out : Bytes) : Type 0 where
@@ -74,8 +77,8 @@ module _ {es : List Entry} {b : Bytes} {places : List ℕ} {f : Bytes} {end : �
     pub scan-as : (ys : Outcome (List rules.Element)) → xs ≡ ys → Scanning es b places f end write out₀ last ys s out
     scan-as ys e = subst (λ (o : Outcome (List rules.Element)). Scanning es b places f end write out₀ last o s out) e w
 
-    pub scan-bad : xs ≡ refused 3 → Scans es b places f end write out₀ out (next.Refused 3)
-    scan-bad e r p = going-off (w .going r p) refl 3 (ap (λ o. left-of es r end (w .indexes) o s) e ∙ left-bad es r end (w .indexes) s 3) (λ k. refl)
+    pub scan-bad : xs ≡ refused 3 → Scans es b places f end write out₀ out (next.Refused BadSyntax)
+    scan-bad e r p = going-off (w .going r p) refl BadSyntax (ap (λ o. left-of es r end (w .indexes) o s) e ∙ left-bad es r end (w .indexes) s 3) (λ k. refl)
 
   scan-on : {last last′ : List ℕ} {s s′ : Standing} {out out′ : Bytes} (e : Element) (xs : Outcome (List rules.Element))
       → Scanning es b places f end write out₀ last (element-before (element-of f e) xs) s out → Puts es b places f end write e last last′ s out out′ s′ → Scanning es b places f end write out₀ last′ xs s′ out′
@@ -94,7 +97,7 @@ module _ {es : List Entry} {b : Bytes} {places : List ℕ} {f : Bytes} {end : �
       (subst (λ (o : Outcome Bytes). Going (whole es f r end) o 0 p write out₀ out)
       (ap (λ o. o >>= λ us. filled (parts es) r (end - p) (items us)) (no-uses es (w .indexes)) ∙ ap (filled (parts es) r (end - p)) no-items ∙ filled-together (parts es) r [] (end - p))
       (w .going r h))
-  scan-end (NoItem n) w r h = going-off (w .going r h) refl n (ap (λ (o : Outcome (List Meaning)). o >>= λ us. refused n) (no-uses es (w .indexes))) (λ k. refl)
+  scan-end (NoItem n) w r h = going-off (w .going r h) refl n (ap (λ (o : Outcome (List Meaning)). o >>= λ us. refused (refusal-number n)) (no-uses es (w .indexes))) (λ k. refl)
   scan-end (NoUse n) w r h = going-off (w .going r h) refl n refl (λ k. refl)
 
   -- The element at a place is put.

@@ -12,15 +12,18 @@ use Rattle.rules.specs.Record.{Record}
 use Rattle.rules.specs.Format as rules
 use Rattle.rules.specs.Use.{Use as Meaning, Indexes, indexes-after, use-of, uses, Item, items-of, items}
 use Rattle.rules.specs.Services.{filled}
+use Rattle.rules.specs.declared.Refusal.{Refusal}
+use Rattle.rules.specs.Numbers.{refusal-number}
 use Rattle.rules.proofs.Steps.{by-outcome}
 use Rattle.formats.specs.Syntax.{element-before}
-use Rattle.reading.specs.Filling.{Filling, Going}
-use Rattle.reading.specs.Turns.{filled-upto, left-of}
-use Rattle.reading.specs.declared.Next.{Next}
-use Rattle.reading.specs.declared.Next.the-variants as next
+use Rattle.filling.specs.Filling.{Filling, Going}
+use Rattle.reading.specs.Scan.{filled-upto, left-of}
+use Rattle.filling.specs.declared.Next.{Next}
+use Rattle.filling.specs.declared.Next.the-variants as next
 use Rattle.reading.specs.declared.Standing.{Standing}
 use Rattle.reading.specs.declared.Standing.the-variants.{At, NoItem, NoUse}
-use Rattle.reading.proofs.Going.{put-before, going-start, going-on, going-both-off, items-on, put-off, put-unwritten, filled-on, filled-off, room-left}
+use Rattle.filling.proofs.Going.{outcome-before, going-start, going-on, going-both-off, put-off, put-unwritten, room-left}
+use Rattle.reading.proofs.Items.{items-on, filled-on, filled-off}
 
 pub no-items : items [] ≡ []
 unfolding items join
@@ -69,7 +72,7 @@ no-uses es ls = refl
 -- The items of a use before those of some more.
 module _ (ps : List Part) (r : Record) (room : ℕ) (u : Meaning) where
   used-on : (o : Outcome (List Meaning)) (a : Bytes) → filled ps r room (items-of u) ≡ done a
-      → (o >>= (λ us. done (u ∷ us)) >>= λ us. filled ps r room (items us)) ≡ put-before a (o >>= λ us. filled ps r (room - length a) (items us))
+      → (o >>= (λ us. done (u ∷ us)) >>= λ us. filled ps r room (items us)) ≡ outcome-before a (o >>= λ us. filled ps r (room - length a) (items us))
   used-on (done us) a h = ap (filled ps r room) (first-items u us) ∙ filled-on ps r room (items-of u) (items us) a h
   used-on (refused k) a h = refl
 
@@ -80,13 +83,9 @@ module _ (ps : List Part) (r : Record) (room : ℕ) (u : Meaning) where
 
 -- What is left, where something is refused.
 module _ (es : List Entry) (r : Record) (end : ℕ) (ls : Indexes) where
-  left-unused : (xs : Outcome (List rules.Element)) (n : ℕ) → left-of es r end ls xs (NoUse n) ≡ refused (unless xs n)
+  left-unused : (xs : Outcome (List rules.Element)) (n : Refusal) → left-of es r end ls xs (NoUse n) ≡ refused (unless xs (refusal-number n))
   unfolding left-of
-  left-unused xs n = refused-then xs n
-
-  left-unfilled : (xs : Outcome (List rules.Element)) (n : ℕ) → left-of es r end ls xs (NoItem n) ≡ refused (unless (xs >>= uses es ls) n)
-  unfolding left-of
-  left-unfilled xs n = refused-then (xs >>= uses es ls) n
+  left-unused xs n = refused-then xs (refusal-number n)
 
   pub left-bad : (s : Standing) (n : ℕ) → left-of es r end ls (refused n) s ≡ refused n
   unfolding left-of
@@ -97,21 +96,21 @@ module _ (es : List Entry) (r : Record) (end : ℕ) (ls : Indexes) where
   -- The element x comes first, and the elements xs behind it.
   module _ (x : rules.Element) (xs : Outcome (List rules.Element)) where
     -- One that is not looked at, since one before it is refused.
-    pub passed : (n : ℕ) {write : Bool} {out : Bytes} → Going (left-of es r end ls (element-before x xs) (NoUse n)) (left-of es r end ls xs (NoUse n)) 0 0 write out out
-    passed n = going-both-off (unless xs n) (left-unused (element-before x xs) n ∙ ap refused (unless-then xs (λ ys. x ∷ ys) n)) (left-unused xs n) refl (λ e. refl)
+    pub passed : (n : Refusal) {write : Bool} {out : Bytes} → Going (left-of es r end ls (element-before x xs) (NoUse n)) (left-of es r end ls xs (NoUse n)) 0 0 write out out
+    passed n = going-both-off (unless xs (refusal-number n)) (left-unused (element-before x xs) n ∙ ap refused (unless-then xs (λ ys. x ∷ ys) (refusal-number n))) (left-unused xs n) refl (λ e. refl)
 
     -- One that is refused.
-    module _ (n : ℕ) (h : refused n ≡ use-of es ls x) where
-      before-off : (s : Standing) → ((k : ℕ) → s ≡ NoUse k → ⊥) → left-of es r end ls (element-before x xs) s ≡ refused (unless xs n)
+    module _ (n : Refusal) (h : refused (refusal-number n) ≡ use-of es ls x) where
+      before-off : (s : Standing) → ((k : Refusal) → s ≡ NoUse k → ⊥) → left-of es r end ls (element-before x xs) s ≡ refused (unless xs (refusal-number n))
       unfolding left-of
-      before-off (At p) k = ap (λ o. o >>= λ us. filled (parts es) r (end - p) (items us)) (before-refused es ls x xs n h)
-      before-off (NoItem m) k = ap (λ (o : Outcome (List Meaning)). o >>= λ us. refused m) (before-refused es ls x xs n h)
+      before-off (At p) k = ap (λ o. o >>= λ us. filled (parts es) r (end - p) (items us)) (before-refused es ls x xs (refusal-number n) h)
+      before-off (NoItem m) k = ap (λ (o : Outcome (List Meaning)). o >>= λ us. refused (refusal-number m)) (before-refused es ls x xs (refusal-number n) h)
       before-off (NoUse m) k = absurd (k m refl)
 
-      pub refused-use : (s : Standing) → ((k : ℕ) → s ≡ NoUse k → ⊥) → (ls′ : Indexes) {write : Bool} {out : Bytes}
+      pub refused-use : (s : Standing) → ((k : Refusal) → s ≡ NoUse k → ⊥) → (ls′ : Indexes) {write : Bool} {out : Bytes}
           → Going (left-of es r end ls (element-before x xs) s) (left-of es r end ls′ xs (NoUse n)) (filled-upto s) 0 write out out
       unfolding left-of
-      refused-use s k ls′ = going-both-off (unless xs n) (before-off s k) (refused-then xs n) refl (λ e. refl)
+      refused-use s k ls′ = going-both-off (unless xs (refusal-number n)) (before-off s k) (refused-then xs (refusal-number n)) refl (λ e. refl)
 
     -- One that means u.
     module _ (u : Meaning) (h : done u ≡ use-of es ls x) where
@@ -119,9 +118,10 @@ module _ (es : List Entry) (r : Record) (end : ℕ) (ls : Indexes) where
       more = xs >>= uses es (indexes-after u ls)
 
       -- Behind an item that is refused.
-      pub used-behind : (n : ℕ) {write : Bool} {out : Bytes} → Going (left-of es r end ls (element-before x xs) (NoItem n)) (left-of es r end (indexes-after u ls) xs (NoItem n)) 0 0 write out out
+      pub used-behind : (n : Refusal) {write : Bool} {out : Bytes} → Going (left-of es r end ls (element-before x xs) (NoItem n)) (left-of es r end (indexes-after u ls) xs (NoItem n)) 0 0 write out out
       unfolding left-of
-      used-behind n =
+      used-behind k =
+          let n = refusal-number k in
           going-both-off (unless more n)
           (refused-then (element-before x xs >>= uses es ls) n ∙ ap (λ o. refused (unless o n)) (before-done es ls x xs u h) ∙ ap refused (unless-then more (λ us. u ∷ us) n))
           (refused-then more n) refl (λ e. refl)
@@ -134,13 +134,14 @@ module _ (es : List Entry) (r : Record) (end : ℕ) (ls : Indexes) where
         pub used-at : (p′ : ℕ) → m ≡ next.At p′ → Going (left-of es r end ls (element-before x xs) (At p)) (left-of es r end (indexes-after u ls) xs (At p′)) p p′ write out out′
         unfolding left-of
         used-at p′ q = items-on (parts es) r end (items-of u) g fits p′ q λ a k n l c.
-            let o = before-used p ∙ used-on (parts es) r (end - p) u more a k ∙ ap (λ w. put-before a (more >>= λ us. filled (parts es) r w (items us))) (room-left end p p′ (length a) n l) in
+            let o = before-used p ∙ used-on (parts es) r (end - p) u more a k ∙ ap (λ w. outcome-before a (more >>= λ us. filled (parts es) r w (items us))) (room-left end p p′ (length a) n l) in
             going-on (going-start (left-of es r end ls (element-before x xs) (At p)) p write out) (g .same) a (left-of es r end (indexes-after u ls) xs (At p′)) p′ o n (omega arith) c
 
-        pub used-refused : (k : ℕ) → m ≡ next.Refused k → Going (left-of es r end ls (element-before x xs) (At p)) (left-of es r end (indexes-after u ls) xs (NoItem k)) p 0 write out out′
+        pub used-refused : (k : Refusal) → m ≡ next.Refused k → Going (left-of es r end ls (element-before x xs) (At p)) (left-of es r end (indexes-after u ls) xs (NoItem k)) p 0 write out out′
         unfolding left-of
         used-refused k q =
-            going-both-off (unless more k) (before-used p ∙ used-off (parts es) r (end - p) u more k (put-off g k q)) (refused-then more k) (g .same) (put-unwritten g)
+            let n = refusal-number k in
+            going-both-off (unless more n) (before-used p ∙ used-off (parts es) r (end - p) u more n (put-off g k q)) (refused-then more n) (g .same) (put-unwritten g)
 
 -- Items end within their room.
 pub used-within : (es : List Entry) (r : Record) (end : ℕ) (xs : List Item) {p : ℕ} {write : Bool} {out out′ : Bytes} {m : Next} → Filling (filled (parts es) r (end - p) xs) p write out out′ m

@@ -5,6 +5,7 @@ use mathlib.Core.List.{List}
 use Prim.Native.Nat.{ℕ, _<_}
 use lib.ListN.{length, getD}
 use Rattle.rules.specs.Lists.{Bytes}
+use Rattle.rules.specs.Limits.{formats}
 use Rattle.rules.specs.Values.{Format, alpha, binary, fixed, packed, unpacked, conversion, allowed, converts}
 use Rattle.rules.specs.Table.{What, field, group, Entry}
 use Rattle.kinds.specs.Formats.{format-at}
@@ -33,7 +34,7 @@ converts-itself unpacked = refl
 
 module _ (t : Bytes) (v : Valid t) {i : ℕ} (known : i < length (entries-of t)) (single : is-group (getD (entries-of t) i blank .what) ≡ false)
     (e : Row) (q : e ≡ decoded (getD (entries-of t) i blank)) where
-  pub own-small : e .format < 5
+  pub own-small : e .format < formats
   own-small = rw q (field-known t v i known single .0)
 
   pub own-allowed : allowed (format-at (e .format)) (e .size) ≡ true

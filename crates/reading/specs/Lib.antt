@@ -1,4 +1,3 @@
-pub mod Filling
-pub mod Rows
-pub mod Runs
-pub mod Turns
+pub mod Cells
+pub mod Spans
+pub mod Scan

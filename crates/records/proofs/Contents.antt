@@ -1,37 +1,22 @@
 -- The content of a stored value: what is first found at its place is its content, so long as its format allows.
-use mathlib.Core.Path.{_≡_, refl, sym, _∙_, subst}
+use mathlib.Core.Path.{_≡_, sym, _∙_}
 use mathlib.Core.Bool.{true}
-use mathlib.Core.Logic.{_⊎_, inl, inr}
-use Prim.Native.Nat.{ℕ, _-_, _≤_}
+use Prim.Native.Nat.{ℕ, _-_}
 use native.Mathlib.Omega.{arith}
-use borrow.Author.Tests.{le-leb}
 use lib.ListN.{length, take, drop, length-take, length-drop}
 use Rattle.rules.specs.Outcome.{done}
-use Rattle.rules.specs.Limits.{longest-alpha}
 use Rattle.rules.specs.Lists.{Bytes}
-use Rattle.rules.specs.Values.{Format, alpha, binary, fixed, packed, unpacked, allowed, first-value}
+use Rattle.rules.specs.Values.{Format, allowed, first-value}
 use Rattle.rules.specs.Record.{stored-value}
+use Rattle.rules.specs.declared.Refusal.{Refusal}
 use Rattle.rules.proofs.Steps.{from-done, not-done}
 use Rattle.values.specs.Places.{Located}
 use Rattle.values.specs.declared.First.{First}
 use Rattle.values.specs.declared.First.the-variants.{Value, Refused}
+use Rattle.values.proofs.Carried.{content-allowed}
 use Rattle.records.specs.Places.{Content-of}
-use Rattle.records.proofs.Entries.{never}
 use Rattle.records.proofs.Cells.{value-first}
 use Rattle.records.proofs.Normals.{first-at, first-none, value-length}
-
--- A content is so long as its format allows: the standard length, or any of A's where that is 0.
-zero-allowed : (f : Format) (m : ℕ) → allowed f 0 ≡ true → m ≤ longest-alpha → allowed f m ≡ true
-unfolding allowed
-zero-allowed alpha m h l = le-leb m longest-alpha l
-zero-allowed binary m h l = absurd (never refl h)
-zero-allowed fixed m h l = absurd (never refl h)
-zero-allowed packed m h l = absurd (never refl h)
-zero-allowed unpacked m h l = absurd (never refl h)
-
-content-allowed : (f : Format) (n m : ℕ) → allowed f n ≡ true → ((n ≡ 0) × (m ≤ longest-alpha)) ⊎ (n ≡ m) → allowed f m ≡ true
-content-allowed f n m h (inl z) = zero-allowed f m (subst (λ k. allowed f k ≡ true) (z .0) h) (z .1)
-content-allowed f n m h (inr z) = subst (λ k. allowed f k ≡ true) z h
 
 module _ (b : Bytes) (at size : ℕ) {first : First} (w : Located b at (first-value size (drop at b)) first) (f : Format) (v rest : Bytes)
     (h : allowed f size ≡ true) (p : stored-value f size (drop at b) ≡ done (v, rest)) where
@@ -47,5 +32,5 @@ module _ (b : Bytes) (at size : ℕ) {first : First} (w : Located b at (first-va
         long = content-allowed f size (upto - from) h (rw n at (value-length size (drop at b) _ _ (x .0)));
       }
 
-  pub content-none : {k : ℕ} → first ≡ Refused k → ⊥
+  pub content-none : {x : Refusal} → first ≡ Refused x → ⊥
   content-none q = value-first f size (drop at b) p λ c e t a is s. not-done (sym (first-none w q) ∙ e)

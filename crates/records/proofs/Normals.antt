@@ -14,7 +14,9 @@ use Rattle.rules.specs.Outcome.{Outcome, done, refused}
 use Rattle.rules.specs.Limits.{longest-alpha}
 use Rattle.rules.specs.Lists.{Bytes, cut}
 use Rattle.rules.specs.Values.{Format, first-value, in-normal-form}
+use Rattle.rules.specs.Numbers.{refusal-number}
 use Rattle.rules.specs.Record.{times, stored-value}
+use Rattle.rules.specs.declared.Refusal.{Refusal}
 use Rattle.rules.proofs.Steps.{from-need, not-done, and-right, T-true}
 use Rattle.rules.proofs.Readers.{cut-sound}
 use Rattle.buffer.proofs.Cases.{by-order}
@@ -31,8 +33,8 @@ pub first-at : {s : Bytes} {at : ℕ} {o : Outcome (Bytes × Bytes)} {r : First}
     → (o ≡ done (take (next - from) (drop from s), drop next s)) × (from ≤ next) × (next ≤ length s)
 first-at {s} {at} {o} {r} {from} {next} w q = (sym (w .answer) ∙ ap (found s) q, (rw q at (w .place)) .1, (rw q at (w .place)) .2)
 
-pub first-none : {s : Bytes} {at : ℕ} {o : Outcome (Bytes × Bytes)} {r : First} {k : ℕ} → Located s at o r → r ≡ Refused k → o ≡ refused k
-first-none {s} {at} {o} {r} {k} w q = sym (w .answer) ∙ ap (found s) q
+pub first-none : {s : Bytes} {at : ℕ} {o : Outcome (Bytes × Bytes)} {r : First} {x : Refusal} → Located s at o r → r ≡ Refused x → o ≡ refused (refusal-number x)
+first-none {s} {at} {o} {r} {x} w q = sym (w .answer) ∙ ap (found s) q
 
 module _ (f : Format) (n : ℕ) (bs : Bytes) where
   pub value-missing : {k : ℕ} → first-value n bs ≡ refused k → rest-of (stored-value f n bs) ≡ refused 2

@@ -12,6 +12,9 @@ use Rattle.rules.specs.Lists.{same, nothing}
 pub done-inj : {A : Type 0} {a b : A} → done a ≡ done b → a ≡ b
 done-inj p = cc
 
+pub refused-inj : {A : Type 0} {m n : ℕ} → _≡_ {A = Outcome A} (refused m) (refused n) → m ≡ n
+refused-inj p = cc
+
 pub not-done : {A : Type 0} {a : A} {n : ℕ} → _≡_ {A = Outcome A} (refused n) (done a) → ⊥
 not-done p = let z : _≡_ {A = ℕ} 0 1 = cc in omega arith
 

@@ -11,10 +11,11 @@ use lib.ListN.{length, replicate, length-append, length-replicate}
 use borrow.Author.Tests.{leb-true, leb-false, lt-leb, le-leb, lt-ltb, le-ltb}
 use Rattle.rules.specs.Outcome.{Outcome, done, refused, _>>=_, need, is-done}
 use Rattle.rules.specs.Characters.{space}
+use Rattle.rules.specs.Limits.{longest-alpha, lowest-word, greatest-word}
 use Rattle.rules.specs.Lists.{Bytes, bytes-of, digits, all, but-last, last}
 use Rattle.rules.specs.Values.{Format, alpha, binary, fixed, packed, unpacked, Value, text, number, allowed, strip, halves, decimal, sign-means, accepted-plus, accepted-minus, meaning, normal, conversion, never, every, in-range, converted, carried}
 use Rattle.rules.specs.Values as Rules
-use Rattle.rules.proofs.Steps.{from-need, done-inj, not-done, T-true}
+use Rattle.rules.proofs.Steps.{from-need, done-inj, refused-inj, not-done, T-true}
 use Rattle.buffer.proofs.Cases.{by-order}
 use Rattle.words.specs.Words.{pick, signed-value, word-of, value-of}
 use Rattle.words.specs.declared.Signed.{Signed}
@@ -41,9 +42,6 @@ done-refuses k a e = cc
 bind-refuses : {A B : Type 0} (k : ℕ) (m : Outcome A) (f : A → Outcome B) → Refuses k m → ((a : A) → Refuses k (f a)) → Refuses k (m >>= f)
 bind-refuses k (done a) f h g = g a
 bind-refuses k (refused n) f h g = λ e. ap (λ j. refused j) (refused-inj (h e))
-  where
-    refused-inj : {A : Type 0} {i j : ℕ} → _≡_ {A = Outcome A} (refused i) (refused j) → i ≡ j
-    refused-inj p = cc
 
 sign-refuses : (s : ℕ) → Refuses 8 (sign-means s)
 unfolding sign-means
@@ -73,7 +71,7 @@ test-refuses false b = λ _. refl
 
 normal-refuses : (f : Format) (n : ℕ) (v : Value) → Refuses 9 (normal f n v)
 unfolding normal
-normal-refuses alpha zero (text t) = test-refuses (leb (length t) 253) _
+normal-refuses alpha zero (text t) = test-refuses (leb (length t) longest-alpha) _
 normal-refuses alpha (suc n) (text t) = test-refuses (leb (length t) (suc n)) _
 normal-refuses alpha zero (number b x) = λ _. refl
 normal-refuses alpha (suc n) (number b x) = λ _. refl
@@ -166,39 +164,36 @@ unpicked : (b : Bool) (w : Signed) → pick b (Number w) Outside ≡ Outside →
 unpicked true w e = cc
 unpicked false w e = refl
 
-pub word-number : (x : Value) (v : Signed) → word-of x ≡ Number v → (x ≡ signed-value v) × (v .magnitude ≤ 2147483648)
+pub word-number : (x : Value) (v : Signed) → word-of x ≡ Number v → (x ≡ signed-value v) × (v .magnitude ≤ lowest-word)
 unfolding word-of
 word-number (text t) v e = absurd (let z : _≡_ {A = ℕ} 0 1 = cc in omega arith)
 word-number (number below n) v e =
-    let p = picked (leb n 2147483648) (record { negative = below; magnitude = n }) v e in
-    let l = leb-true n 2147483648 (p .1) in
+    let p = picked (leb n lowest-word) (record { negative = below; magnitude = n }) v e in
+    let l = leb-true n lowest-word (p .1) in
     (ap signed-value (p .0), rw (← p .0) l)
 
 pub word-outside : (x : Value) (b : Bool) → word-of x ≡ Outside → in-range (range-kind b) x ≡ false
 unfolding word-of in-range
 word-outside (text t) true e = refl
 word-outside (text t) false e = refl
-word-outside (number below n) b e = beyond below b (leb-false n 2147483648 (unpicked (leb n 2147483648) _ e))
+word-outside (number below n) b e = beyond below b (leb-false n lowest-word (unpicked (leb n lowest-word) _ e))
   where
-    beyond : (below b : Bool) → 2147483648 < n → in-range (range-kind b) (number below n) ≡ false
-    beyond false true h = lt-leb n 2147483647 (omega arith)
-    beyond false false h = lt-leb n 2147483647 (omega arith)
+    beyond : (below b : Bool) → lowest-word < n → in-range (range-kind b) (number below n) ≡ false
+    beyond false true h = lt-leb n greatest-word (omega arith)
+    beyond false false h = lt-leb n greatest-word (omega arith)
     beyond true true h = refl
-    beyond true false h = lt-leb n 2147483648 h
-
-below-is : (n : ℕ) → ltb n 2147483648 ≡ leb n 2147483647
-below-is n = by-order n 2147483648 (λ h. lt-ltb n 2147483648 h ∙ sym (le-leb n 2147483647 (omega arith))) (λ h. le-ltb n 2147483648 h ∙ sym (lt-leb n 2147483647 h))
+    beyond true false h = lt-leb n lowest-word h
 
 -- The ranges of a word.
-pub minus-range : (b : Bool) (n : ℕ) → n ≤ 2147483648 → not b ≡ in-range (range-kind b) (number true n)
+pub minus-range : (b : Bool) (n : ℕ) → n ≤ lowest-word → not b ≡ in-range (range-kind b) (number true n)
 unfolding in-range
 minus-range true n h = refl
-minus-range false n h = sym (le-leb n 2147483648 h)
+minus-range false n h = sym (le-leb n lowest-word h)
 
-pub plus-range : (b : Bool) (n : ℕ) → ltb n 2147483648 ≡ in-range (range-kind b) (number false n)
+pub plus-range : (b : Bool) (n : ℕ) → leb n greatest-word ≡ in-range (range-kind b) (number false n)
 unfolding in-range
-plus-range true n = below-is n
-plus-range false n = below-is n
+plus-range true n = refl
+plus-range false n = refl
 
 -- What is written has the length that it is written at.
 need-length : (t : Bool) (b c : Bytes) (n : ℕ) → length b ≡ n → (need t 9 >>= λ _. done b) ≡ done c → length c ≡ n
@@ -236,7 +231,7 @@ normal-length unpacked n (number below x) h e = decimal-length false n below x h
 -- With a length byte: one more than the text.
 pub normal-length-0 : (t : Bytes) {b : Bytes} → normal alpha 0 (text t) ≡ done b → length b ≡ suc (length t)
 unfolding normal
-normal-length-0 t {b} e = need-length (leb (length t) 253) (suc (length t) ∷ t) b (suc (length t)) refl e
+normal-length-0 t {b} e = need-length (leb (length t) longest-alpha) (suc (length t) ∷ t) b (suc (length t)) refl e
 
 -- The length of a value that is carried.
 converted-done : (f g : Format) (n : ℕ) (v : Value) {b : Bytes} → converted f g n v ≡ done b → (in-range (conversion f g) v ≡ true) × (normal g n v ≡ done b)
@@ -298,7 +293,7 @@ size-n s zero z = absurd (z refl)
 size-n s (suc n) z = refl
 
 -- The length of a content of an allowed length is allowed.
-pub content-allowed : (f : Format) (size n : ℕ) → allowed f size ≡ true → ((size ≡ 0) × (n ≤ 253)) ⊎ (size ≡ n) → allowed f n ≡ true
+pub content-allowed : (f : Format) (size n : ℕ) → allowed f size ≡ true → ((size ≡ 0) × (n ≤ longest-alpha)) ⊎ (size ≡ n) → allowed f n ≡ true
 unfolding allowed
 content-allowed f size n a o =
-    ⊎-elim (λ z. rw (only-alpha-0 f (rw (z .0) at a)) (le-leb n 253 (z .1))) (λ e. rw e at a) o
+    ⊎-elim (λ z. rw (only-alpha-0 f (rw (z .0) at a)) (le-leb n longest-alpha (z .1))) (λ e. rw e at a) o

@@ -8,6 +8,7 @@ use lib.Dec.{eqb}
 use lib.ListN.{length}
 use borrow.Author.Tests.{le-leb}
 use Rattle.rules.specs.Outcome.{Outcome, done, refused, is-done}
+use Rattle.rules.specs.Limits.{formats, longest-alpha, longest-unpacked, lowest-word}
 use Rattle.rules.specs.Lists.{Bytes, bytes-of, spelled}
 use Rattle.rules.specs.Values.{alpha, binary, fixed, number, allowed, Kind, every, word, natural, conversion, meaning, normal, carried, in-normal-form, twos-complement, in-range}
 use Rattle.buffer.proofs.Cases.{by-order}
@@ -21,11 +22,11 @@ use Rattle.decimals.specs.Decimals.{decimal-format}
 use Rattle.values.specs.Formats.{format-at, range-kind}
 use Rattle.values.specs.Fits.{Carriable, Carrying, carried-length}
 use Rattle.kinds.proofs.Five.{five}
-use Rattle.values.proofs.Numbered.{at-alpha, at-binary, at-fixed, at-decimal, some-size, size-253, size-29, two-four, every-low, every-high, ranged-from, ranged-to}
+use Rattle.values.proofs.Numbered.{at-alpha, at-binary, at-fixed, at-decimal, some-size, longest-size, longest-decimal, two-four, every-low, every-high, ranged-from, ranged-to}
 use Rattle.values.proofs.Carried.{no-fit, done-bytes, every-carried, carried-size, carried-size-is, ranged-done, out-of-range, carried-range, carried-normal, word-number, word-outside}
 
 -- A, B and F mean something whatever the bytes.
-pub low-value : (k : ℕ) (s : Bytes) → k < 5 → k < 3 → is-done (meaning (format-at k) s) ≡ true
+pub low-value : (k : ℕ) (s : Bytes) → k < formats → k < 3 → is-done (meaning (format-at k) s) ≡ true
 unfolding meaning format-at
 low-value k s =
     five (λ k. k < 3 → is-done (meaning (format-at k) s) ≡ true)
@@ -35,10 +36,10 @@ low-value k s =
 number-inj : {b c : Bool} {m n : ℕ} → number b m ≡ number c n → m ≡ n
 number-inj e = cc
 
-half-room : (n : ℕ) → (n ≡ 2) ⊎ (n ≡ 4) → (2 ^ (8 * n - 1) ≤ 2147483648) × (2 ^ (8 * n) ≡ 2 ^ (8 * n - 1) + 2 ^ (8 * n - 1))
+half-room : (n : ℕ) → (n ≡ 2) ⊎ (n ≡ 4) → (2 ^ (8 * n - 1) ≤ lowest-word) × (2 ^ (8 * n) ≡ 2 ^ (8 * n - 1) + 2 ^ (8 * n - 1))
 half-room n o = ⊎-elim (λ e. rw e (omega arith, refl)) (λ e. rw e (omega arith, refl)) o
 
-fixed-small : (n x : ℕ) (v : Signed) → (n ≡ 2) ⊎ (n ≡ 4) → signed-value v ≡ twos-complement n x → v .magnitude ≤ 2147483648
+fixed-small : (n x : ℕ) (v : Signed) → (n ≡ 2) ⊎ (n ≡ 4) → signed-value v ≡ twos-complement n x → v .magnitude ≤ lowest-word
 fixed-small n x v o e =
     let r = half-room n o in
     by-order x (2 ^ (8 * n - 1))
@@ -50,7 +51,7 @@ pub fixed-word-is : (s : Bytes) (v : Signed) → (length s ≡ 2) ⊎ (length s 
 unfolding meaning value-of word-of
 fixed-word-is s v o e =
     let q : signed-value v ≡ twos-complement (length s) (spelled 256 s 0) = ap value-of e in
-    rw (← q, le-leb (v .magnitude) 2147483648 (fixed-small (length s) (spelled 256 s 0) v o q))
+    rw (← q, le-leb (v .magnitude) lowest-word (fixed-small (length s) (spelled 256 s 0) v o q))
 
 -- Every value converts: the formats are the same, or both decimal.
 module _ {from to n : ℕ} {s : Bytes} (a : Carriable from to n s) (c : conversion (format-at from) (format-at to) ≡ every) where
@@ -87,16 +88,16 @@ module _ {from to n : ℕ} {s : Bytes} (a : Carriable from to n s) (c : conversi
     pub decimal-value : is-done (meaning (decimal-format (eqb from 3)) s) ≡ true
     decimal-value = rw (at-decimal from (a .source) h) at (a .value)
 
-    pub decimal-sizes : (length s ≤ 253) × (0 < n) × (n ≤ 29)
+    pub decimal-sizes : (length s ≤ longest-alpha) × (0 < n) × (n ≤ longest-unpacked)
     decimal-sizes = (
-      size-253 from (length s) (a .source) (a .size),
+      longest-size from (length s) (a .source) (a .size),
       some-size to n (a .target) (a .length-there) (number-there (omega arith)),
-      size-29 to n (a .target) (a .length-there) (there-high h),
+      longest-decimal to n (a .target) (a .length-there) (there-high h),
     )
 
 -- A value that is a word, carried through it.
 module _ {from to n : ℕ} {s : Bytes} (a : Carriable from to n s) (b : Bool) (c : conversion (format-at from) (format-at to) ≡ range-kind b) where
-  pub word-source : (0 < from) × (from < 5) × (allowed (format-at from) (length s) ≡ true) × (is-done (meaning (format-at from) s) ≡ true)
+  pub word-source : (0 < from) × (from < formats) × (allowed (format-at from) (length s) ≡ true) × (is-done (meaning (format-at from) s) ≡ true)
   word-source = (ranged-from from to b c, a .source, a .size, a .value)
 
   pub word-beyond : word-of (value-of (meaning (format-at from) s)) ≡ Outside → is-done (carried (format-at from) (format-at to) n s) ≡ false
@@ -107,7 +108,7 @@ module _ {from to n : ℕ} {s : Bytes} (a : Carriable from to n s) (b : Bool) (c
     is-word : value-of (meaning (format-at from) s) ≡ signed-value v
     is-word = word-number (value-of (meaning (format-at from) s)) v w .0
 
-    pub word-asked : (v .magnitude ≤ 2147483648) × (0 < to) × (to < 5) × (allowed (format-at to) n ≡ true)
+    pub word-asked : (v .magnitude ≤ lowest-word) × (0 < to) × (to < formats) × (allowed (format-at to) n ≡ true)
     word-asked = (word-number (value-of (meaning (format-at from) s)) v w .1, ranged-to from to b c, a .target, a .length-there)
 
     pub word-done : (in-range (range-kind b) (signed-value v) && is-done (normal (format-at to) n (signed-value v))) ≡ is-done (carried (format-at from) (format-at to) n s)
@@ -143,10 +144,10 @@ pub which : {k : Kind} → (k ≡ word) ⊎ (k ≡ natural) → (b : Bool) × (k
 which o = ⊎-elim (λ e. (false, e)) (λ e. (true, e)) o
 
 -- The length of a value that has one.
-pub own-length : (n m : ℕ) → ((n ≡ 0) × (m ≤ 253)) ⊎ (n ≡ m) → 0 < n → n ≡ m
+pub own-length : (n m : ℕ) → ((n ≡ 0) × (m ≤ longest-alpha)) ⊎ (n ≡ m) → 0 < n → n ≡ m
 own-length n m o h = ⊎-elim (λ z. absurd (omega (arith, z .0))) (λ e. e) o
 
-pub low-normal : (k n : ℕ) (s : Bytes) → k < 5 → k < 3 → (k ≡ 0 → ⊥) → allowed (format-at k) n ≡ true → n ≡ length s → Below 256 s
+pub low-normal : (k n : ℕ) (s : Bytes) → k < formats → k < 3 → (k ≡ 0 → ⊥) → allowed (format-at k) n ≡ true → n ≡ length s → Below 256 s
     → in-normal-form (format-at k) n s ≡ true
 low-normal k n s h l z a e b =
     by-order k 2

@@ -2,6 +2,7 @@ pub mod Strip
 pub mod Cuts
 pub mod Numbered
 pub mod Nulls
+pub mod Normals
 pub mod Carried
 pub mod Chosen
 pub mod Written

@@ -11,6 +11,7 @@ use lib.ListN.{length, replicate}
 use borrow.Author.Tests.{ltb-true, leb-true}
 use Rattle.rules.specs.Outcome.{done, is-done}
 use Rattle.rules.specs.Characters.{space}
+use Rattle.rules.specs.Limits.{longest-alpha, longest-binary, longest-packed, longest-unpacked}
 use Rattle.rules.specs.Lists.{Bytes, spelled, digits}
 use Rattle.rules.specs.Values.{Format, alpha, binary, fixed, packed, unpacked, Value, text, number, allowed, strip, meaning, normal, null, null-value, content, with-length-byte, in-normal-form, twos-complement, accepted-minus, every, conversion, converts, in-range, converted, carried}
 use Rattle.rules.proofs.Steps.{from-bind, from-need, done-inj, not-done, T-true}
@@ -21,7 +22,7 @@ use Rattle.words.proofs.NormalForm.{is-normal-form, normal-form-is}
 use Rattle.decimals.specs.Decimals.{decimal-format, sign-half, is-minus, magnitude-of, places}
 use Rattle.decimals.proofs.Normal.{normal-fits, normal-done}
 use Rattle.decimals.proofs.Sound.{sound}
-use Rattle.values.proofs.Strip.{strip-blank, strip-again}
+use Rattle.rules.proofs.Lists.{strip-space, strip-again}
 use Rattle.values.proofs.Numbered.{either, and-second, from-one}
 use Rattle.values.proofs.Nulls.{null-done}
 use Rattle.values.proofs.Written.{written-means}
@@ -36,12 +37,12 @@ Meant (number below x) = below ≡ true → 0 < x
 strip-blanks : (t : Bytes) (k : ℕ) → strip (t ++ replicate k space) ≡ strip t
 strip-blanks t zero = ap strip (append-nil t)
 strip-blanks t (suc k) =
-    ap strip (sym (append-assoc t (space ∷ []) (replicate k space))) ∙ strip-blanks (t ++ (space ∷ [])) k ∙ strip-blank t
+    ap strip (sym (append-assoc t (space ∷ []) (replicate k space))) ∙ strip-blanks (t ++ (space ∷ [])) k ∙ strip-space t
 
 text-back : (n : ℕ) (t : Bytes) {w : Bytes} → strip t ≡ t → normal alpha n (text t) ≡ done w → meaning alpha (content n w) ≡ done (text t)
 unfolding normal meaning content
 text-back zero t m e =
-    from-need (leb (length t) 253) 9 _ e λ _ k.
+    from-need (leb (length t) longest-alpha) 9 _ e λ _ k.
     rw (← done-inj k, m)
 text-back (suc n) t m e =
     from-need (leb (length t) (suc n)) 9 _ e λ _ k.
@@ -102,14 +103,14 @@ normal-means alpha n (text t) a m e = text-back n t m e
 normal-means alpha zero (number below x) a m e = absurd (not-done e)
 normal-means alpha (suc n) (number below x) a m e = absurd (not-done e)
 normal-means binary n (text t) a m e = absurd (not-done e)
-normal-means binary n (number false x) {w} a m e = rw (whole n w (from-one n 126 a)) (binary-back n x e)
+normal-means binary n (number false x) {w} a m e = rw (whole n w (from-one n longest-binary a)) (binary-back n x e)
 normal-means binary n (number true x) a m e = absurd (not-done e)
 normal-means fixed n (text t) a m e = absurd (not-done e)
 normal-means fixed n (number below x) {w} a m e = rw (whole n w (⊎-elim (λ q. omega arith) (λ q. omega arith) (either n a))) (fixed-either n (either n a) below x m e)
 normal-means packed n (text t) a m e = absurd (not-done e)
-normal-means packed n (number below x) {w} a m e = rw (whole n w (from-one n 15 a)) (decimal-back true n below x (from-one n 15 a) m e)
+normal-means packed n (number below x) {w} a m e = rw (whole n w (from-one n longest-packed a)) (decimal-back true n below x (from-one n longest-packed a) m e)
 normal-means unpacked n (text t) a m e = absurd (not-done e)
-normal-means unpacked n (number below x) {w} a m e = rw (whole n w (from-one n 29 a)) (decimal-back false n below x (from-one n 29 a) m e)
+normal-means unpacked n (number below x) {w} a m e = rw (whole n w (from-one n longest-unpacked a)) (decimal-back false n below x (from-one n longest-unpacked a) m e)
 
 -- ---- what bytes mean can be written
 
@@ -141,7 +142,7 @@ meaning-meant unpacked bs v a b e = decimal-meant false bs v e
 
 counted-back : (f : Format) (v : Value) {w : Bytes} → allowed f 0 ≡ true → normal f 0 v ≡ done w → with-length-byte 0 (content 0 w) ≡ w
 unfolding normal content with-length-byte allowed
-counted-back alpha (text t) a e = from-need (leb (length t) 253) 9 _ e λ _ k. rw (← done-inj k)
+counted-back alpha (text t) a e = from-need (leb (length t) longest-alpha) 9 _ e λ _ k. rw (← done-inj k)
 counted-back alpha (number below x) a e = absurd (not-done e)
 counted-back binary v a e = absurd (false≢true a)
 counted-back fixed v a e = absurd (false≢true a)

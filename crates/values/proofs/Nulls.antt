@@ -10,6 +10,7 @@ use lib.ListN.{length, getD, replicate, length-append, length-replicate, replica
 use borrow.Author.Tests.{lt-ltb, eqb-true, eqb-false}
 use Rattle.rules.specs.Outcome.{done}
 use Rattle.rules.specs.Characters.{space}
+use Rattle.rules.specs.Limits.{formats, longest-packed}
 use Rattle.rules.specs.Lists.{Bytes, bytes-of, digits, join}
 use Rattle.rules.specs.Values.{Format, alpha, binary, fixed, packed, unpacked, allowed, normal, null, null-value, pairs, zoned, sign-written}
 use Rattle.rules.proofs.Steps.{by-test}
@@ -80,7 +81,7 @@ null-done alpha zero h = null-from alpha 0 normal-null-0 .1
 null-done alpha (suc n) h = null-from alpha (suc n) (normal-null-alpha (suc n) (λ e. omega arith)) .1
 null-done binary n h = null-from binary n (normal-null-binary n) .1
 null-done fixed n h = null-from fixed n (normal-null-fixed n) .1
-null-done packed n h = null-from packed n (normal-null-packed n (from-one n 15 h)) .1
+null-done packed n h = null-from packed n (normal-null-packed n (from-one n longest-packed h)) .1
 null-done unpacked n h = null-from unpacked n (normal-null-unpacked n) .1
 
 -- Null by the number of its format.
@@ -90,7 +91,7 @@ fillers = 0x40 ∷ 0 ∷ 0 ∷ 0 ∷ 0xF0 ∷ []
 pub null-packed : (n : ℕ) → 0 < n → null packed n ≡ replicate (n - 1) 0 ++ (15 ∷ [])
 null-packed n h = null-from packed n (normal-null-packed n h) .0
 
-pub null-filled : (k n : ℕ) → k < 5 → (k ≡ 3 → ⊥) → (n ≡ 0 → ⊥) → null (format-at k) n ≡ replicate n (getD fillers k 0)
+pub null-filled : (k n : ℕ) → k < formats → (k ≡ 3 → ⊥) → (n ≡ 0 → ⊥) → null (format-at k) n ≡ replicate n (getD fillers k 0)
 unfolding format-at
 null-filled k n h p z =
     five (λ k. (k ≡ 3 → ⊥) → null (format-at k) n ≡ replicate n (getD fillers k 0))
@@ -101,14 +102,14 @@ null-filled k n h p z =
     (λ _. null-from unpacked n (normal-null-unpacked n) .0)
     k h p
 
-at-0 : (k : ℕ) → k < 5 → allowed (format-at k) 0 ≡ true → null (format-at k) 0 ≡ 1 ∷ []
+at-0 : (k : ℕ) → k < formats → allowed (format-at k) 0 ≡ true → null (format-at k) 0 ≡ 1 ∷ []
 unfolding allowed format-at
 at-0 =
     five (λ k. allowed (format-at k) 0 ≡ true → null (format-at k) 0 ≡ 1 ∷ [])
     (λ _. null-from alpha 0 normal-null-0 .0)
     (λ e. absurd (false≢true e)) (λ e. absurd (false≢true e)) (λ e. absurd (false≢true e)) (λ e. absurd (false≢true e))
 
-pub null-0 : (k n : ℕ) → k < 5 → n ≡ 0 → allowed (format-at k) n ≡ true → null (format-at k) n ≡ 1 ∷ []
+pub null-0 : (k n : ℕ) → k < formats → n ≡ 0 → allowed (format-at k) n ≡ true → null (format-at k) n ≡ 1 ∷ []
 null-0 k n h z a = rw z (at-0 k h (rw z at a))
 
 packed-size : (k n : ℕ) → k ≡ 3 → (n ≡ 0 → ⊥) → length (null (format-at k) n) ≡ n
@@ -116,7 +117,7 @@ unfolding format-at
 packed-size k n e z =
     rw (e, null-packed n (omega (arith, z)), length-append, length-replicate) (omega (arith, z))
 
-pub null-size : (k n : ℕ) → k < 5 → (n ≡ 0 → ⊥) → length (null (format-at k) n) ≡ n
+pub null-size : (k n : ℕ) → k < formats → (n ≡ 0 → ⊥) → length (null (format-at k) n) ≡ n
 null-size k n h z =
     by-test (eqb k 3)
     (λ q. packed-size k n (eqb-true k 3 q) z)
@@ -134,7 +135,7 @@ is-packed k e = rw e
 throughout : (x : Bytes) (m b : ℕ) → x ≡ replicate m b → x ≡ replicate (length x) b
 throughout x m b e = e ∙ ap (λ (j : ℕ). replicate j b) (sym (ap length e ∙ length-replicate m b))
 
-module _ (k n : ℕ) (h : k < 5) where
+module _ (k n : ℕ) (h : k < formats) where
   pub null-byte-0 : n ≡ 0 → allowed (format-at k) n ≡ true → null (format-at k) n ≡ replicate (length (null (format-at k) n)) 1
   null-byte-0 z a = throughout (null (format-at k) n) 1 1 (null-0 k n h z a)
 

@@ -7,6 +7,7 @@ use native.Mathlib.Omega.{arith}
 use lib.Dec.{eqb, leb}
 use lib.ListN.{getD}
 use borrow.Author.Tests.{le-leb, lt-leb, leb-true, eqb-true}
+use Rattle.rules.specs.Limits.{formats, longest-alpha, longest-unpacked}
 use Rattle.rules.specs.Values.{Format, alpha, binary, fixed, packed, unpacked, allowed, Kind, never, every, word, natural, conversion, converts}
 use Rattle.rules.proofs.Steps.{by-test}
 use Rattle.decimals.specs.Decimals.{decimal-format}
@@ -27,7 +28,7 @@ pub at-fixed : (k : ℕ) → k ≡ 2 → format-at k ≡ fixed
 unfolding format-at
 at-fixed k e = rw e
 
-pub at-decimal : (k : ℕ) → k < 5 → 3 ≤ k → format-at k ≡ decimal-format (eqb k 3)
+pub at-decimal : (k : ℕ) → k < formats → 3 ≤ k → format-at k ≡ decimal-format (eqb k 3)
 unfolding format-at decimal-format
 at-decimal =
     five (λ k. 3 ≤ k → format-at k ≡ decimal-format (eqb k 3))
@@ -47,7 +48,7 @@ pub from-one : (n m : ℕ) → (leb 1 n && leb n m) ≡ true → 0 < n
 from-one n m e = leb-true 1 n (and-first (leb 1 n) (leb n m) e)
 
 -- An allowed length lies within the two of its format.
-module _ (k n : ℕ) (h : k < 5) (a : allowed (format-at k) n ≡ true) where
+module _ (k n : ℕ) (h : k < formats) (a : allowed (format-at k) n ≡ true) where
   inside : (leb (getD least k 0) n && (leb n (getD greatest k 0) && not (eqb k 2 && eqb n 3))) ≡ true
   inside = sym (allowed-is k h n) ∙ a
 
@@ -65,14 +66,14 @@ module _ (k n : ℕ) (h : k < 5) (a : allowed (format-at k) n ≡ true) where
       let l = five (λ k. 0 < k → 0 < getD least k 0) (λ q. q) (λ _. omega arith) (λ _. omega arith) (λ _. omega arith) (λ _. omega arith) k h p in
       omega (arith, at-least)
 
-  pub size-253 : n ≤ 253
-  size-253 =
-      let l = five (λ k. getD greatest k 0 ≤ 253) (omega arith) (omega arith) (omega arith) (omega arith) (omega arith) k h in
+  pub longest-size : n ≤ longest-alpha
+  longest-size =
+      let l = five (λ k. getD greatest k 0 ≤ longest-alpha) (omega arith) (omega arith) (omega arith) (omega arith) (omega arith) k h in
       omega (arith, at-most)
 
-  pub size-29 : 3 ≤ k → n ≤ 29
-  size-29 p =
-      let l = five (λ k. 3 ≤ k → getD greatest k 0 ≤ 29) (λ q. absurd (omega arith)) (λ q. absurd (omega arith)) (λ q. absurd (omega arith)) (λ _. omega arith) (λ _. omega arith) k h p in
+  pub longest-decimal : 3 ≤ k → n ≤ longest-unpacked
+  longest-decimal p =
+      let l = five (λ k. 3 ≤ k → getD greatest k 0 ≤ longest-unpacked) (λ q. absurd (omega arith)) (λ q. absurd (omega arith)) (λ q. absurd (omega arith)) (λ _. omega arith) (λ _. omega arith) k h p in
       omega (arith, at-most)
 
 pub either : (n : ℕ) → (eqb n 2 || eqb n 4) ≡ true → (n ≡ 2) ⊎ (n ≡ 4)
@@ -89,15 +90,15 @@ two-four k n e a = either n (rw e at a)
 
 -- Which numbers convert: all values of a format to itself and between P and U; a range between numbers alone.
 Every : ℕ → Type 0
-Every from = (to : ℕ) → to < 5 → is-every (conversion (format-at from) (format-at to)) ≡ (eqb to from || (leb 3 from && leb 3 to))
+Every from = (to : ℕ) → to < formats → is-every (conversion (format-at from) (format-at to)) ≡ (eqb to from || (leb 3 from && leb 3 to))
 
-alike : (from : ℕ) → from < 5 → Every from
+alike : (from : ℕ) → from < formats → Every from
 unfolding Every conversion format-at
 alike =
     five Every (five _ refl refl refl refl refl) (five _ refl refl refl refl refl) (five _ refl refl refl refl refl)
     (five _ refl refl refl refl refl) (five _ refl refl refl refl refl)
 
-module _ (from to : ℕ) (h : from < 5) (l : to < 5) where
+module _ (from to : ℕ) (h : from < formats) (l : to < formats) where
   alike-at : conversion (format-at from) (format-at to) ≡ every → (eqb to from || (leb 3 from && leb 3 to)) ≡ true
   unfolding Every
   alike-at e = sym (alike from h to l) ∙ ap is-every e

@@ -11,66 +11,14 @@ use lib.Seq.{take-suc, take-length, length-take-le}
 use borrow.Author.Tests.{eq-eqb, ne-eqb, eqb-true, eqb-false, le-leb, leb-true}
 use Rattle.rules.specs.Outcome.{done, refused, is-done}
 use Rattle.rules.specs.Characters.{space}
+use Rattle.rules.specs.Limits.{longest-alpha}
 use Rattle.rules.specs.Lists.{Bytes, bytes-of, same}
 use Rattle.rules.specs.Values.{text, alpha, strip, meaning, normal, carried, converted, conversion, in-range, in-normal-form, with-length-byte}
+use Rattle.rules.proofs.Lists.{text-before, text-before-other, text-before-blank, strip-cons, strip-nil, strip-space, strip-other, strip-again}
 use Rattle.rules.proofs.Steps.{by-test, same-same}
 use Rattle.rules.proofs.Done.{is-done-need, done-need, no-length-byte}
 use Rattle.words.proofs.NormalForm.{is-normal-form, compares}
 use Rattle.values.proofs.Carried.{no-fit, normal-length, done-bytes}
-
--- One byte before a text.
-before : ℕ → Bytes → Bytes
-before b [] = elim (eqb b space) [ true ↦ [] | false ↦ b ∷ [] ]
-before b (x ∷ xs) = b ∷ x ∷ xs
-
-strip-cons : (b : ℕ) (bs : Bytes) → strip (b ∷ bs) ≡ before b (strip bs)
-unfolding strip before
-strip-cons b bs = by-rest (strip bs)
-  where
-    by-rest : (r : Bytes) → elim r [ [] ↦ elim (eqb b space) [ true ↦ [] | false ↦ b ∷ [] ] | x ∷ xs ↦ b ∷ x ∷ xs ] ≡ before b r
-    by-rest [] = refl
-    by-rest (x ∷ xs) = refl
-
-before-other : (b : ℕ) → (b ≡ space → ⊥) → before b [] ≡ b ∷ []
-unfolding before
-before-other b h = rw (ne-eqb b space h, before)
-
-before-blank : (b : ℕ) → b ≡ space → before b [] ≡ []
-unfolding before
-before-blank b h = rw (eq-eqb b space h, before)
-
-strip-nil : strip [] ≡ []
-unfolding strip
-strip-nil = refl
-
--- A blank at the end goes; another byte stays, with all before it.
-pub strip-blank : (xs : Bytes) → strip (xs ++ (space ∷ [])) ≡ strip xs
-unfolding strip
-strip-blank [] = refl
-strip-blank (x ∷ xs) = strip-cons x (xs ++ (space ∷ [])) ∙ ap (before x) (strip-blank xs) ∙ sym (strip-cons x xs)
-
-before-some : (x : ℕ) (xs : Bytes) (b : ℕ) → before x (xs ++ (b ∷ [])) ≡ x ∷ (xs ++ (b ∷ []))
-unfolding before
-before-some x [] b = refl
-before-some x (y ∷ ys) b = refl
-
-pub strip-keep : (xs : Bytes) (b : ℕ) → (b ≡ space → ⊥) → strip (xs ++ (b ∷ [])) ≡ xs ++ (b ∷ [])
-strip-keep [] b h = strip-cons b [] ∙ rw strip-nil (before-other b h)
-strip-keep (x ∷ xs) b h = strip-cons x (xs ++ (b ∷ [])) ∙ ap (before x) (strip-keep xs b h) ∙ before-some x xs b
-
--- A text has no trailing blank.
-before-again : (b : ℕ) (t : Bytes) → strip t ≡ t → strip (before b t) ≡ before b t
-unfolding before
-before-again b [] e =
-    by-test (eqb b space)
-    (λ q. rw (before-blank b (eqb-true b space q)) strip-nil)
-    (λ q. let k = before-other b (eqb-false b space q) in
-    rw k (strip-cons b [] ∙ rw strip-nil k))
-before-again b (x ∷ xs) e = strip-cons b (x ∷ xs) ∙ ap (before b) e
-
-pub strip-again : (s : Bytes) → strip (strip s) ≡ strip s
-strip-again [] = ap strip strip-nil
-strip-again (b ∷ bs) = rw (strip-cons b bs) (before-again b (strip bs) (strip-again bs))
 
 -- The turns of the scan from the right.
 module _ (s : Bytes) (j : ℕ) (p : 0 < j) (h : j ≤ length s) where
@@ -78,10 +26,10 @@ module _ (s : Bytes) (j : ℕ) (p : 0 < j) (h : j ≤ length s) where
   last-of = let e : j ≡ suc (j - 1) = omega arith in ap (λ n. take n s) e ∙ take-suc s (j - 1) 0 (omega arith)
 
   pub text-turn : getD s (j - 1) 0 ≡ space → strip (take (j - 1) s) ≡ strip (take j s)
-  text-turn e = sym (ap strip last-of ∙ rw e (strip-blank (take (j - 1) s)))
+  text-turn e = sym (ap strip last-of ∙ rw e (strip-space (take (j - 1) s)))
 
   pub text-stop : (getD s (j - 1) 0 ≡ space → ⊥) → strip (take j s) ≡ take j s
-  text-stop k = ap strip last-of ∙ strip-keep (take (j - 1) s) (getD s (j - 1) 0) k ∙ sym last-of
+  text-stop k = ap strip last-of ∙ strip-other (take (j - 1) s) (getD s (j - 1) 0) k ∙ sym last-of
 
 pub text-none : (s : Bytes) (j : ℕ) → j ≤ 0 → strip (take j s) ≡ []
 text-none s zero h = strip-nil
@@ -89,14 +37,14 @@ text-none s (suc j) h = absurd (not-suc-le-zero h)
 
 -- Blanks to the right give the bytes back.
 padded : (b : ℕ) (bs t : Bytes) → t ++ replicate (length bs - length t) space ≡ bs
-    → before b t ++ replicate (suc (length bs) - length (before b t)) space ≡ b ∷ bs
-unfolding before
+    → text-before b t ++ replicate (suc (length bs) - length (text-before b t)) space ≡ b ∷ bs
+unfolding text-before
 padded b bs [] e =
     by-test (eqb b space)
     (λ q. let h : b ≡ space = eqb-true b space q in
-    rw (before-blank b h, sub-zero, h) (ap (λ l. space ∷ l) (rw sub-zero at e)))
+    rw (text-before-blank b h, sub-zero, h) (ap (λ l. space ∷ l) (rw sub-zero at e)))
     (λ q. let n : suc (length bs) - 1 ≡ length bs = omega arith in
-    rw (before-other b (eqb-false b space q), n) (ap (λ l. b ∷ l) (rw sub-zero at e)))
+    rw (text-before-other b (eqb-false b space q), n) (ap (λ l. b ∷ l) (rw sub-zero at e)))
 padded b bs (x ∷ xs) e =
     let n : suc (length bs) - suc (suc (length xs)) ≡ length bs - suc (length xs) = omega arith in
     rw n (ap (λ l. b ∷ l) e)
@@ -119,9 +67,9 @@ pub text-refused : (n : ℕ) (s : Bytes) → is-done (carried alpha alpha n s) �
 unfolding meaning
 text-refused n s d = no-fit alpha alpha n s refl d
 
-pub normal-text-0 : (t : Bytes) → length t ≤ 253 → normal alpha 0 (text t) ≡ done (suc (length t) ∷ t)
+pub normal-text-0 : (t : Bytes) → length t ≤ longest-alpha → normal alpha 0 (text t) ≡ done (suc (length t) ∷ t)
 unfolding normal
-normal-text-0 t h = done-need (leb (length t) 253) (suc (length t) ∷ t) (le-leb (length t) 253 h)
+normal-text-0 t h = done-need (leb (length t) longest-alpha) (suc (length t) ∷ t) (le-leb (length t) longest-alpha h)
 
 pub normal-text : (n : ℕ) (t : Bytes) → (n ≡ 0 → ⊥) → length t ≤ n → normal alpha n (text t) ≡ done (t ++ replicate (n - length t) space)
 unfolding normal
@@ -129,9 +77,9 @@ normal-text zero t z h = absurd (z refl)
 normal-text (suc n) t z h = done-need (leb (length t) (suc n)) (t ++ replicate (suc n - length t) space) (le-leb (length t) (suc n) h)
 
 -- Whether a text fits length 0, or a length n.
-pub fits-0 : (n : ℕ) (t : Bytes) → n ≡ 0 → leb (length t) 253 ≡ is-done (normal alpha n (text t))
+pub fits-0 : (n : ℕ) (t : Bytes) → n ≡ 0 → leb (length t) longest-alpha ≡ is-done (normal alpha n (text t))
 unfolding normal
-fits-0 n t z = sym (rw z (is-done-need (leb (length t) 253) (suc (length t) ∷ t)))
+fits-0 n t z = sym (rw z (is-done-need (leb (length t) longest-alpha) (suc (length t) ∷ t)))
 
 pub fits-n : (n : ℕ) (t : Bytes) → (n ≡ 0 → ⊥) → leb (length t) n ≡ is-done (normal alpha n (text t))
 unfolding normal
@@ -140,14 +88,14 @@ fits-n (suc n) t z = sym (is-done-need (leb (length t) (suc n)) (t ++ replicate 
 
 -- What is then written, and the room that it takes.
 module _ (n : ℕ) (t : Bytes) (z : n ≡ 0) (d : is-done (normal alpha n (text t)) ≡ true) where
-  counted-upto : length t ≤ 253
-  counted-upto = leb-true (length t) 253 (fits-0 n t z ∙ d)
+  counted-upto : length t ≤ longest-alpha
+  counted-upto = leb-true (length t) longest-alpha (fits-0 n t z ∙ d)
 
   pub counted-bytes : bytes-of (normal alpha n (text t)) ≡ suc (length t) ∷ t
   unfolding bytes-of
   counted-bytes = rw (z, normal-text-0 t counted-upto)
 
-  pub counted-room : (at room : ℕ) → at + length (bytes-of (normal alpha n (text t))) ≤ room → (length t ≤ 253) × (at + 1 + length t ≤ room)
+  pub counted-room : (at room : ℕ) → at + length (bytes-of (normal alpha n (text t))) ≤ room → (length t ≤ longest-alpha) × (at + 1 + length t ≤ room)
   counted-room at room h = let l = rw counted-bytes at h in (counted-upto, omega arith)
 
 module _ (n : ℕ) (t : Bytes) (z : n ≡ 0 → ⊥) (d : is-done (normal alpha n (text t)) ≡ true) where
@@ -180,7 +128,7 @@ module _ (s : Bytes) (r : ℕ) (k : r ≤ length s) (e : strip s ≡ take r s) w
   carried-text n = carried-is n s ∙ rw e
 
   -- In normal form at length 0 where nothing was stripped.
-  pub text-normal-0 : (n : ℕ) → n ≡ 0 → length s ≤ 253 → eqb r (length s) ≡ in-normal-form alpha n s
+  pub text-normal-0 : (n : ℕ) → n ≡ 0 → length s ≤ longest-alpha → eqb r (length s) ≡ in-normal-form alpha n s
   unfolding meaning with-length-byte
   text-normal-0 n z h =
       rw z

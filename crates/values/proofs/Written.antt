@@ -10,22 +10,10 @@ use borrow.Author.Tests.{lt-ltb, eq-eqb}
 use Rattle.rules.specs.Outcome.{done}
 use Rattle.rules.specs.Lists.{all, spelled, digits, but-last, last}
 use Rattle.rules.specs.Values.{number, packed, unpacked, signed, halves, pairs, zoned, accepted-plus, accepted-minus, sign-means, sign-written, decimal, meaning}
+use Rattle.rules.proofs.Lists.{but-last-snoc, last-snoc}
 use Rattle.rules.proofs.Steps.{need-true, and-intro, and-left, and-right, true-T}
 use Rattle.decimals.specs.Decimals.{decimal-format, places, encoded, written}
 use Rattle.rules.proofs.Digits.{all-snoc, all-weaker, all-digits-below, length-digits, spelled-digits}
-
--- The last of a list, and all but it.
-but-last-snoc : (ds : List ℕ) (d : ℕ) → but-last (ds ++ (d ∷ [])) ≡ ds
-unfolding but-last
-but-last-snoc [] d = refl
-but-last-snoc (e ∷ []) d = refl
-but-last-snoc (e ∷ f ∷ ds) d = ap (λ l. e ∷ l) (but-last-snoc (f ∷ ds) d)
-
-last-snoc : (ds : List ℕ) (d : ℕ) → last (ds ++ (d ∷ [])) ≡ d
-unfolding last
-last-snoc [] d = refl
-last-snoc (e ∷ []) d = refl
-last-snoc (e ∷ f ∷ ds) d = last-snoc (f ∷ ds) d
 
 -- P: the halves of pairs.
 halves-pairs : (n : ℕ) (ds : List ℕ) → length ds ≡ n + n → T (all (λ d. ltb d 16) ds) → halves (pairs ds) ≡ ds

@@ -4,11 +4,13 @@ use mathlib.Core.Bool.{true}
 use Prim.Native.Nat.{ℕ, zero, suc, _+_, _≤_, _<_}
 use lib.ListN.{length}
 use Rattle.rules.specs.Outcome.{Outcome, done, refused, is-done}
+use Rattle.rules.specs.Limits.{formats}
 use Rattle.rules.specs.Lists.{Bytes, bytes-of}
 use Rattle.rules.specs.Values.{allowed, strip, meaning, carried}
+use Rattle.rules.specs.Numbers.{refusal-number}
 use Rattle.values.specs.Formats.{format-at}
 use Rattle.values.specs.declared.Fit.{Fit}
-use Rattle.values.specs.declared.Fit.the-variants.{Bytes as Size, Refused}
+use Rattle.values.specs.declared.Fit.the-variants.{Length, Refused}
 
 -- The length of the bytes, or the refusal.
 abbrev pub bytes-size : Outcome Bytes → Outcome ℕ
@@ -16,8 +18,8 @@ bytes-size (done b) = done (length b)
 bytes-size (refused k) = refused k
 
 abbrev pub fitted : Fit → Outcome ℕ
-fitted (Size n) = done n
-fitted (Refused k) = refused k
+fitted (Length n) = done n
+fitted (Refused x) = refused (refusal-number x)
 
 -- The length of a value that is carried to length n.
 unfoldable pub carried-length : ℕ → Bytes → ℕ
@@ -26,8 +28,8 @@ carried-length (suc n) s = suc n
 
 -- s is a value of a format, to be carried to another at length n.
 pub record Carriable (from to n : ℕ) (s : Bytes) : Type 0 where
-  pub source : from < 5
-  pub target : to < 5
+  pub source : from < formats
+  pub target : to < formats
   pub size : allowed (format-at from) (length s) ≡ true
   pub length-there : allowed (format-at to) n ≡ true
   pub value : is-done (meaning (format-at from) s) ≡ true

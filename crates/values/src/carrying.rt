@@ -5,6 +5,7 @@ ghost use mathlib.Core.Logic.{_⊎_};
 ghost use Prim.Native.Nat.{_+_, _<_, _≤_};
 ghost use lib.ListN.{length};
 ghost use Rattle.rules.specs.Outcome.{is-done};
+ghost use Rattle.rules.specs.Limits.{formats, longest-alpha, lowest-word};
 ghost use Rattle.rules.specs.Lists.{bytes-of};
 ghost use Rattle.rules.specs.Values.{every, word, natural, allowed, normal, conversion, in-range, carried};
 ghost use Rattle.words.specs.Words.{signed-value};
@@ -40,18 +41,18 @@ pub fn every_fits(s: &[u8], from: usize, to: usize, n: usize) -> bool
 
 // Whether v lies in a conversion range: that of words, or of those not below zero.
 fn within_range(v: Signed, natural: bool) -> bool
-    requires { ⌜ v .magnitude ≤ 2147483648 ⌝ }
+    requires { ⌜ v .magnitude ≤ lowest-word ⌝ }
     ensures { λ r. ⌜ r ≡ in-range (range-kind natural) (signed-value v) ⌝ }
 {
     if v.negative {
         return !natural;
     }
-    v.magnitude < 2147483648
+    v.magnitude <= rules::GREATEST_WORD
 }
 
 // Whether v converts in a range of words, and fits.
 pub fn word_fits(v: Signed, to: usize, n: usize, natural: bool) -> bool
-    requires { ⌜ (v .magnitude ≤ 2147483648) × (0 < to) × (to < 5) × (allowed (format-at to) n ≡ true) ⌝ }
+    requires { ⌜ (v .magnitude ≤ lowest-word) × (0 < to) × (to < formats) × (allowed (format-at to) n ≡ true) ⌝ }
     ensures { λ r. ⌜ r ≡ (in-range (range-kind natural) (signed-value v) && is-done (normal (format-at to) n (signed-value v))) ⌝ }
 {
     if within_range(v, natural) {
@@ -88,7 +89,7 @@ pub fn carries(s: &[u8], from: usize, to: usize, n: usize) -> bool
 
 // The length of the bytes of a value that is carried: n, or that of the text and its length byte.
 pub fn carried_size(s: &[u8], n: usize) -> usize
-    requires { ⌜ length (now s) ≤ 253 ⌝ }
+    requires { ⌜ length (now s) ≤ longest-alpha ⌝ }
     ensures { λ r. ⌜ r ≡ carried-length n (now (s .entry)) ⌝ }
 {
     if n == 0 {

@@ -6,13 +6,14 @@ ghost use mathlib.Core.Logic.{_⊎_};
 ghost use Prim.Native.Nat.{_+_, _<_, _≤_};
 ghost use lib.ListN.{length, drop, replicate};
 ghost use Rattle.rules.specs.Outcome.{is-done};
+ghost use Rattle.rules.specs.Limits.{formats, longest-alpha};
 ghost use Rattle.rules.specs.Lists.{bytes-of, join};
 ghost use Rattle.rules.specs.Values.{packed, first-value, null, in-normal-form, carried};
 ghost use Rattle.buffer.specs.Splice.{splice};
 ghost use Rattle.rules.specs.Values as Rules;
 ghost use Rattle.values.specs.Formats.{format-at};
 ghost use Rattle.values.specs.Places.{Located};
-ghost use Rattle.values.specs.Normals.{Any-normal};
+ghost use Rattle.values.specs.Normals.{any-normal};
 ghost use Rattle.values.specs.Fits.{fitted, bytes-size};
 
 pub mod carrying;
@@ -23,11 +24,12 @@ use kinds::ALPHA;
 use kinds::Kind;
 use kinds::PACKED;
 use kinds::UNPACKED;
+use rules::Refusal;
 
 // Where the first value of a run of bytes lies: its content, without its length byte, and the place after it.
 pub enum First {
     Value(usize, usize),
-    Refused(u8),
+    Refused(Refusal),
 }
 
 fn wide(x: u8) -> usize
@@ -42,17 +44,17 @@ fn first_variable(s: &[u8], at: usize) -> First
     ensures { λ r. ⌜ Located (now (s .entry)) at (first-value 0 (drop at (now (s .entry)))) r ⌝ }
 {
     if at == s.len() {
-        return First::Refused(7);
+        return First::Refused(Refusal::BeyondBuffer);
     }
     let count = wide(s[at]);
     if count == 0 {
-        return First::Refused(8);
+        return First::Refused(Refusal::BadValue);
     }
-    if count == 255 {
-        return First::Refused(8);
+    if rules::LONGEST_ALPHA + 1 < count {
+        return First::Refused(Refusal::BadValue);
     }
     if s.len() - at < count {
-        return First::Refused(7);
+        return First::Refused(Refusal::BeyondBuffer);
     }
     First::Value(at + 1, at + count)
 }
@@ -66,14 +68,14 @@ pub fn first_value(s: &[u8], at: usize, size: usize) -> First
         return first_variable(s, at);
     }
     if s.len() - at < size {
-        return First::Refused(7);
+        return First::Refused(Refusal::BeyondBuffer);
     }
     First::Value(at, at + size)
 }
 
 // The length of null, its length byte included.
 pub fn null_length(format: usize, size: usize) -> usize
-    requires { ⌜ (format < 5) × (Rules.allowed (format-at format) size ≡ true) ⌝ }
+    requires { ⌜ (format < formats) × (Rules.allowed (format-at format) size ≡ true) ⌝ }
     ensures { λ r. ⌜ r ≡ length (null (format-at format) size) ⌝ }
 {
     if size == 0 { 1 } else { size }
@@ -81,17 +83,17 @@ pub fn null_length(format: usize, size: usize) -> usize
 
 // What null is filled with; the last byte of P has the sign too.
 fn null_byte(format: usize, size: usize) -> u8
-    requires { ⌜ (format < 5) × (format ≡ 3 → ⊥) × (Rules.allowed (format-at format) size ≡ true) ⌝ }
+    requires { ⌜ (format < formats) × (format ≡ 3 → ⊥) × (Rules.allowed (format-at format) size ≡ true) ⌝ }
     ensures { λ r. ⌜ null (format-at format) size ≡ replicate (length (null (format-at format) size)) r ⌝ }
 {
     if size == 0 {
         return 1;
     }
     if format == ALPHA {
-        return 0x40;
+        return characters::SPACE;
     }
     if format == UNPACKED {
-        return 0xF0;
+        return characters::DIGIT_0;
     }
     0
 }
@@ -122,7 +124,7 @@ fn write_packed_nulls(n: usize, size: usize, out: &mut [u8], at: usize)
 
 // n nulls, to out from at on.
 pub fn write_nulls(n: usize, format: usize, size: usize, out: &mut [u8], at: usize)
-    requires { ⌜ (format < 5) × (Rules.allowed (format-at format) size ≡ true) × (at + length (join (replicate n (null (format-at format) size))) ≤ length (now out)) ⌝ }
+    requires { ⌜ (format < formats) × (Rules.allowed (format-at format) size ≡ true) × (at + length (join (replicate n (null (format-at format) size))) ≤ length (now out)) ⌝ }
     ensures { λ _. ⌜ now (out .exit) ≡ splice at (join (replicate n (null (format-at format) size))) (now (out .entry)) ⌝ }
 {
     if format == PACKED {
@@ -139,7 +141,7 @@ pub fn write_nulls(n: usize, format: usize, size: usize, out: &mut [u8], at: usi
 
 // Null, to out from at on.
 pub fn write_null(format: usize, size: usize, out: &mut [u8], at: usize)
-    requires { ⌜ (format < 5) × (Rules.allowed (format-at format) size ≡ true) × (at + length (null (format-at format) size) ≤ length (now out)) ⌝ }
+    requires { ⌜ (format < formats) × (Rules.allowed (format-at format) size ≡ true) × (at + length (null (format-at format) size) ≤ length (now out)) ⌝ }
     ensures { λ _. ⌜ now (out .exit) ≡ splice at (null (format-at format) size) (now (out .entry)) ⌝ }
 {
     write_nulls(1, format, size, out, at);
@@ -147,7 +149,7 @@ pub fn write_null(format: usize, size: usize, out: &mut [u8], at: usize)
 
 // Whether s, the content of a value without its length byte, is in normal form.
 pub fn is_normal(s: &[u8], format: usize, size: usize) -> bool
-    requires { ⌜ (format < 5) × (Rules.allowed (format-at format) size ≡ true) × (((size ≡ 0) × (length (now s) ≤ 253)) ⊎ (size ≡ length (now s))) ⌝ }
+    requires { ⌜ (format < formats) × (Rules.allowed (format-at format) size ≡ true) × (((size ≡ 0) × (length (now s) ≤ longest-alpha)) ⊎ (size ≡ length (now s))) ⌝ }
     ensures { λ r. ⌜ r ≡ in-normal-form (format-at format) size (now (s .entry)) ⌝ }
 {
     if format == ALPHA {
@@ -159,10 +161,10 @@ pub fn is_normal(s: &[u8], format: usize, size: usize) -> bool
     decimals::is_normal(s, format == PACKED)
 }
 
-// Whether all bytes of a length are in normal form: those of A, where the length is not 0, of B and of F.
+// Whether all bytes of a length are in normal form: those of A, B and F, where the length is not 0.
 pub fn any_bytes(format: usize, size: usize) -> bool
-    requires { ⌜ (format < 5) × (Rules.allowed (format-at format) size ≡ true) ⌝ }
-    ensures { λ r. ⌜ (r ≡ true → Any-normal (format-at format) size) ⌝ }
+    requires { ⌜ (format < formats) × (Rules.allowed (format-at format) size ≡ true) ⌝ }
+    ensures { λ r. ⌜ r ≡ any-normal (format-at format) size ⌝ }
 {
     if size == 0 {
         return false;
@@ -172,27 +174,27 @@ pub fn any_bytes(format: usize, size: usize) -> bool
 
 // Whether a value fits: the length of its bytes, or a refusal.
 pub enum Fit {
-    Bytes(usize),
-    Refused(u8),
+    Length(usize),
+    Refused(Refusal),
 }
 
 // What the content s of a value gives at another format and length n.
 pub fn fits(s: &[u8], from: usize, to: usize, n: usize) -> Fit
-    requires { ⌜ (from < 5) × (to < 5) × (Rules.allowed (format-at from) (length (now s)) ≡ true) × (Rules.allowed (format-at to) n ≡ true) ⌝ }
+    requires { ⌜ (from < formats) × (to < formats) × (Rules.allowed (format-at from) (length (now s)) ≡ true) × (Rules.allowed (format-at to) n ≡ true) ⌝ }
     ensures { λ r. ⌜ fitted r ≡ bytes-size (carried (format-at from) (format-at to) n (now (s .entry))) ⌝ }
 {
     if numbers::is_value(s, from) {
         if carrying::carries(s, from, to, n) {
-            return Fit::Bytes(carrying::carried_size(s, n));
+            return Fit::Length(carrying::carried_size(s, n));
         }
-        return Fit::Refused(9);
+        return Fit::Refused(Refusal::OutOfRange);
     }
-    Fit::Refused(8)
+    Fit::Refused(Refusal::BadValue)
 }
 
 // The content s of a value at another format and length n, to out from at on.
 pub fn carry(s: &[u8], from: usize, to: usize, n: usize, out: &mut [u8], at: usize)
-    requires { ⌜ (from < 5) × (to < 5) × (Rules.allowed (format-at from) (length (now s)) ≡ true) × (Rules.allowed (format-at to) n ≡ true) × (is-done (carried (format-at from) (format-at to) n (now s)) ≡ true) × (at + length (bytes-of (carried (format-at from) (format-at to) n (now s))) ≤ length (now out)) ⌝ }
+    requires { ⌜ (from < formats) × (to < formats) × (Rules.allowed (format-at from) (length (now s)) ≡ true) × (Rules.allowed (format-at to) n ≡ true) × (is-done (carried (format-at from) (format-at to) n (now s)) ≡ true) × (at + length (bytes-of (carried (format-at from) (format-at to) n (now s))) ≤ length (now out)) ⌝ }
     ensures { λ _. ⌜ now (out .exit) ≡ splice at (bytes-of (carried (format-at from) (format-at to) n (now (s .entry)))) (now (out .entry)) ⌝ }
 {
     let kind = kinds::conversion(from, to);

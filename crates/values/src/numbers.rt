@@ -4,6 +4,7 @@ ghost use mathlib.Core.Bool.{true};
 ghost use Prim.Native.Nat.{_+_, _<_, _≤_};
 ghost use lib.ListN.{length};
 ghost use Rattle.rules.specs.Outcome.{is-done};
+ghost use Rattle.rules.specs.Limits.{formats};
 ghost use Rattle.rules.specs.Lists.{bytes-of};
 ghost use Rattle.rules.specs.Values.{allowed, meaning, normal};
 ghost use Rattle.words.specs.Words.{signed-value, word-of, value-of};
@@ -17,7 +18,7 @@ use words::Word;
 
 // Whether s means something.
 pub fn is_value(s: &[u8], format: usize) -> bool
-    requires { ⌜ format < 5 ⌝ }
+    requires { ⌜ format < formats ⌝ }
     ensures { λ r. ⌜ r ≡ is-done (meaning (format-at format) (now (s .entry))) ⌝ }
 {
     if format < PACKED {
@@ -28,7 +29,7 @@ pub fn is_value(s: &[u8], format: usize) -> bool
 
 // The word that the number of s is.
 pub fn to_word(s: &[u8], format: usize) -> Word
-    requires { ⌜ (0 < format) × (format < 5) × (allowed (format-at format) (length (now s)) ≡ true) × (is-done (meaning (format-at format) (now s)) ≡ true) ⌝ }
+    requires { ⌜ (0 < format) × (format < formats) × (allowed (format-at format) (length (now s)) ≡ true) × (is-done (meaning (format-at format) (now s)) ≡ true) ⌝ }
     ensures { λ r. ⌜ r ≡ word-of (value-of (meaning (format-at format) (now (s .entry)))) ⌝ }
 {
     if format == BINARY {
@@ -42,7 +43,7 @@ pub fn to_word(s: &[u8], format: usize) -> Word
 
 // Whether v fits n bytes of a format.
 pub fn fits_word(v: Signed, format: usize, n: usize) -> bool
-    requires { ⌜ (0 < format) × (format < 5) × (allowed (format-at format) n ≡ true) ⌝ }
+    requires { ⌜ (0 < format) × (format < formats) × (allowed (format-at format) n ≡ true) ⌝ }
     ensures { λ r. ⌜ r ≡ is-done (normal (format-at format) n (signed-value v)) ⌝ }
 {
     if format == BINARY {
@@ -56,7 +57,7 @@ pub fn fits_word(v: Signed, format: usize, n: usize) -> bool
 
 // v in n bytes of a format, to out from at on.
 pub fn write_word(v: Signed, format: usize, n: usize, out: &mut [u8], at: usize)
-    requires { ⌜ (0 < format) × (format < 5) × (allowed (format-at format) n ≡ true) × (is-done (normal (format-at format) n (signed-value v)) ≡ true) × (at + n ≤ length (now out)) ⌝ }
+    requires { ⌜ (0 < format) × (format < formats) × (allowed (format-at format) n ≡ true) × (is-done (normal (format-at format) n (signed-value v)) ≡ true) × (at + n ≤ length (now out)) ⌝ }
     ensures { λ _. ⌜ now (out .exit) ≡ splice at (bytes-of (normal (format-at format) n (signed-value v))) (now (out .entry)) ⌝ }
 {
     if format == BINARY {

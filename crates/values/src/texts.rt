@@ -7,14 +7,11 @@ ghost use Prim.Native.Nat.{suc, _+_, _-_, _≤_};
 ghost use lib.ListN.{length, take, replicate};
 ghost use Rattle.rules.specs.Characters.{space};
 ghost use Rattle.rules.specs.Outcome.{is-done};
+ghost use Rattle.rules.specs.Limits.{longest-alpha};
 ghost use Rattle.rules.specs.Lists.{Bytes, bytes-of};
 ghost use Rattle.rules.specs.Values.{text, alpha, strip, normal, carried, in-normal-form};
 ghost use Rattle.buffer.specs.Splice.{splice};
-
-const BLANK: u8 = 0x40;
-
-// The longest text of a value of length 0.
-const LONGEST: usize = 253;
+use characters::SPACE;
 
 // The length of s without trailing blanks.
 pub fn text_length(s: &[u8]) -> usize
@@ -22,7 +19,7 @@ pub fn text_length(s: &[u8]) -> usize
 {
     let mut j = s.len();
     while 0 < j {
-        if s[j - 1] != BLANK {
+        if s[j - 1] != SPACE {
             return j;
         }
         j -= 1;
@@ -34,12 +31,16 @@ pub fn text_length(s: &[u8]) -> usize
 pub fn length_fits(len: usize, n: usize) -> bool
     ensures { λ r. ⌜ ((t : Bytes) → length t ≡ len → r ≡ is-done (normal alpha n (text t))) ⌝ }
 {
-    if n == 0 { len <= LONGEST } else { len <= n }
+    if n == 0 {
+        len <= rules::LONGEST_ALPHA
+    } else {
+        len <= n
+    }
 }
 
 // The bytes that a text of len bytes takes at length n, which it fits.
 pub fn length_at(len: usize, n: usize) -> usize
-    requires { ⌜ len ≤ 253 ⌝ }
+    requires { ⌜ len ≤ longest-alpha ⌝ }
     ensures { λ r. ⌜ ((t : Bytes) → length t ≡ len → is-done (normal alpha n (text t)) ≡ true → r ≡ length (bytes-of (normal alpha n (text t)))) ⌝ }
 {
     if n == 0 { len + 1 } else { n }
@@ -54,7 +55,7 @@ pub fn text_fits(s: &[u8], n: usize) -> bool
 
 // A length byte, which counts itself, and t behind it.
 fn put_counted(t: &[u8], out: &mut [u8], at: usize)
-    requires { ⌜ (length (now t) ≤ 253) × (at + 1 + length (now t) ≤ length (now out)) ⌝ }
+    requires { ⌜ (length (now t) ≤ longest-alpha) × (at + 1 + length (now t) ≤ length (now out)) ⌝ }
     ensures { λ _. ⌜ now (out .exit) ≡ splice at (suc (length (now (t .entry))) ∷ now (t .entry)) (now (out .entry)) ⌝ }
 {
     let count = t.len() + 1;
@@ -68,7 +69,7 @@ fn put_padded(t: &[u8], n: usize, out: &mut [u8], at: usize)
     ensures { λ _. ⌜ now (out .exit) ≡ splice at (now (t .entry) ++ replicate (n - length (now (t .entry))) space) (now (out .entry)) ⌝ }
 {
     let next = buffer::put(t, out, at);
-    buffer::fill(out, next, n - t.len(), BLANK);
+    buffer::fill(out, next, n - t.len(), SPACE);
 }
 
 // The text t, which fits length n, at that length, to out from at on.
@@ -94,7 +95,7 @@ pub fn carry_text(s: &[u8], n: usize, out: &mut [u8], at: usize)
 
 // Whether s is in normal form: at length 0 it has no trailing blank.
 pub fn is_normal_text(s: &[u8], n: usize) -> bool
-    requires { ⌜ ((n ≡ 0) × (length (now s) ≤ 253)) ⊎ (n ≡ length (now s)) ⌝ }
+    requires { ⌜ ((n ≡ 0) × (length (now s) ≤ longest-alpha)) ⊎ (n ≡ length (now s)) ⌝ }
     ensures { λ r. ⌜ r ≡ in-normal-form alpha n (now (s .entry)) ⌝ }
 {
     if n == 0 {

@@ -1,4 +1,4 @@
--- `conversions::put` is safe: an answer's line is no longer than the digits of room's bytes and what stands before them. Assumes nothing.
+-- `conversions::put` is safe: an answer's line is no longer than the digits of room's bytes and what stands before them.
 use mathlib.Core.Path.{ap}
 use native.Mathlib.Omega.{arith}
 use lib.ListN.{length-take}
@@ -20,6 +20,9 @@ put-answer-requires c κs =
 
 enum-known-a-2 : tie.Need-enum-known-a-2
 enum-known-a-2 c = search needs
+
+refusal-number-requires : tie.Need-refusal-number-requires
+refusal-number-requires c κs = search needs
 
 slice-aggregate-put-answer-2 : tie.Need-slice-aggregate-put-answer-2
 slice-aggregate-put-answer-2 c = search needs
@@ -61,6 +64,7 @@ put-spec =
     slice-aggregate-put-answer
     put-answer-requires
     enum-known-a-2
+    refusal-number-requires
     slice-aggregate-put-answer-2
     put-answer-requires-2
     enum-told

@@ -1,6 +1,6 @@
--- `reading::answer` meets its contract: each standing is matched. Assumes nothing.
+-- `reading::answer` meets its contract: each standing is matched.
 use mathlib.Core.Path.{sym, ap}
-use Rattle.reading.specs.Turns.{answer-of}
+use Rattle.reading.specs.Scan.{answer-of}
 use borrow.Author.Needs.{needs}
 use Rattle.reading.proofs.answer.Statement.{statement}
 use Rattle.reading.proofs.answer.Tie as tie

@@ -1,10 +1,9 @@
 -- `reading::put_element` meets its contract: by what the element means, what is left behind it ends and writes as it does with it.
-use mathlib.Core.Path.{_≡_, refl, sym, ap, _∙_}
+use mathlib.Core.Path.{_≡_, refl, sym, _∙_}
 use native.Mathlib.Omega.{arith}
 use Rattle.tables.specs.Entries.{entries-of}
 use Rattle.uses.proofs.Testing.{span-known}
 use Rattle.uses.proofs.Ahead.{means-as}
-use Rattle.reading.specs.declared.Standing.the-variants.{NoUse}
 use Rattle.reading.proofs.Putting.{at-fits, not-unused, puts-as, puts-unused, puts-refused, puts-behind, puts-items}
 use borrow.Author.Needs.{needs}
 use Rattle.reading.proofs.put_element.Statement.{statement}
@@ -19,11 +18,8 @@ returns c = puts-unused _ (sym (c .before .is-unused .ensures) ∙ c .if1 .taken
 use-of-requires : tie.Need-use-of-requires
 use-of-requires c κs = search needs
 
-enum-known-x : tie.Need-enum-known-x
-enum-known-x c = search needs
-
-refusal-number-requires : tie.Need-refusal-number-requires
-refusal-number-requires c κs = search needs
+enum-known-n : tie.Need-enum-known-n
+enum-known-n c = search needs
 
 enum-known-u : tie.Need-enum-known-u
 enum-known-u c = search needs
@@ -41,7 +37,7 @@ put-use-requires : tie.Need-put-use-requires
 put-use-requires c κs =
     let s = c .before .before .before .before .before .before .before .before .before .before .before .before .before .before .before .before .before in
     let m = means-as (c .before .before .before .before .before .before .before .u .given .1) (c .before .before .before .before .before .before .before .before .before .use-of .ensures) in
-    (s .pre .0, m .held (s .args .f .now) (s .pre .1), s .pre .3, at-fits (c .before .before .state .given .1) (s .pre .4), s .pre .5)
+    (s .pre .0, m .held (s .args .f .now) (s .pre .1), s .pre .3, (at-fits (c .before .before .state .given .1) (s .pre .4 .0), s .pre .4 .1))
 
 stands-requires : tie.Need-stands-requires
 stands-requires c κs = search needs
@@ -53,9 +49,7 @@ enum-known-state-3 : tie.Need-enum-known-state-3
 enum-known-state-3 c = search needs
 
 returns-2 : tie.Need-returns-2
-returns-2 c =
-    let m = c .before .before .before .before in
-    puts-as refl (ap NoUse (c .refusal-number .ensures)) (puts-refused _ _ (means-as (c .before .before .x .given .1) (m .use-of .ensures)) (sym (m .before .before .before .is-unused .ensures) ∙ m .before .before .if1 .left))
+returns-2 c = puts-refused _ _ (means-as (c .before .n .given .1) (c .before .before .before .use-of .ensures)) (sym (c .before .before .before .before .before .before .is-unused .ensures) ∙ c .before .before .before .before .before .if1 .left)
 
 same-length : tie.Need-same-length
 same-length c = search needs
@@ -64,7 +58,7 @@ returns-3 : tie.Need-returns-3
 returns-3 c =
     let s = c .before .before .before .before .before .before .before .before .before .before .before .before .before .before .before .before .before .before .before .before .before in
     let m = means-as (c .before .before .before .before .before .before .before .before .before .before .before .u .given .1) (c .before .before .before .before .before .before .before .before .before .before .before .before .before .use-of .ensures) in
-    puts-as (c .before .before .before .before .before .before .state .given .1) (c .stands .ensures) (puts-items m (c .before .before .before .before .before .before .before .before .remember .ensures) _ _ (c .before .before .before .put-use .ensures) (s .pre .3) (at-fits (c .before .before .before .before .before .before .state .given .1) (s .pre .4)) (s .pre .5))
+    puts-as (c .before .before .before .before .before .before .state .given .1) (c .stands .ensures) (puts-items m (c .before .before .before .before .before .before .before .before .remember .ensures) _ _ (c .before .before .before .put-use .ensures) (s .pre .3) (at-fits (c .before .before .before .before .before .before .state .given .1) (s .pre .4 .0)) (s .pre .4 .1))
 
 returns-4 : tie.Need-returns-4
 returns-4 c =
@@ -81,8 +75,7 @@ put-element-spec =
     is-unused-requires
     returns
     use-of-requires
-    enum-known-x
-    refusal-number-requires
+    enum-known-n
     enum-known-u
     remember-requires
     enum-known-state

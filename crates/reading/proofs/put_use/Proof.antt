@@ -1,4 +1,4 @@
--- `reading::put_use` meets its contract: each kind of element has its own items. Assumes nothing.
+-- `reading::put_use` meets its contract: each kind of element has its own items.
 use mathlib.Core.Path.{subst}
 use native.Mathlib.Omega.{arith}
 use Rattle.tables.specs.Entries.{entries-of}
@@ -17,32 +17,32 @@ put-blanks-requires c κs = search needs
 enum-known-u-2 : tie.Need-enum-known-u-2
 enum-known-u-2 c = search needs
 
-sub-put-text : tie.Need-sub-put-text
-sub-put-text c =
+sub-put-bytes : tie.Need-sub-put-bytes
+sub-put-bytes c =
     let s = c .before .before .before .before .before .before .before in
     let a = s .args in
     let v = c .before .u2 .given in
     let w = subst (Use-held (entries-of (a .t .now)) (a .f .now)) (v .1) (s .pre .1) in
     omega (arith, w .0)
 
-part-put-text-start : tie.Need-part-put-text-start
-part-put-text-start c =
+part-put-bytes-start : tie.Need-part-put-bytes-start
+part-put-bytes-start c =
     let s = c .before .before .before .before .before .before .before in
     let a = s .args in
     let v = c .before .u2 .given in
     let w = subst (Use-held (entries-of (a .t .now)) (a .f .now)) (v .1) (s .pre .1) in
     omega (arith, w .0, w .1)
 
-part-put-text-end : tie.Need-part-put-text-end
-part-put-text-end c =
+part-put-bytes-end : tie.Need-part-put-bytes-end
+part-put-bytes-end c =
     let s = c .before .before .before .before .before .before .before in
     let a = s .args in
     let v = c .before .u2 .given in
     let w = subst (Use-held (entries-of (a .t .now)) (a .f .now)) (v .1) (s .pre .1) in
     omega (arith, w .0, w .1)
 
-put-text-requires : tie.Need-put-text-requires
-put-text-requires c κs = search needs
+put-bytes-requires : tie.Need-put-bytes-requires
+put-bytes-requires c κs = search needs
 
 enum-known-u-3 : tie.Need-enum-known-u-3
 enum-known-u-3 c = search needs
@@ -81,7 +81,7 @@ put-span-requires c κs =
     let a = s .args in
     let v = c .before .before .u5 .given in
     let w = subst (Use-held (entries-of (a .t .now)) (a .f .now)) (v .1) (s .pre .1) in
-    (s .pre .0, w, s .pre .2, s .pre .3, s .pre .4)
+    (s .pre .0, w, s .pre .2, s .pre .3)
 
 same-length : tie.Need-same-length
 same-length c = search needs
@@ -101,7 +101,7 @@ returns-2 c =
     let s = c .before .before .before .before .before .before .before .before .before .before .before .before in
     let a = s .args in
     let v = c .before .before .before .before .before .before .u2 .given in
-    use-text (entries-of (a .t .now)) (a .b .now) (a .places .now) (a .f .now) (a .at) (a .end) (a .write) (v .0 .0) (v .0 .1 .0) (v .1) (c .before .before .put-text .ensures)
+    use-text (entries-of (a .t .now)) (a .b .now) (a .places .now) (a .f .now) (a .at) (a .end) (a .write) (v .0 .0) (v .0 .1 .0) (v .1) (c .before .before .put-bytes .ensures)
 
 same-length-3 : tie.Need-same-length-3
 same-length-3 c = search needs
@@ -136,4 +136,4 @@ returns-5 c =
     use-span (entries-of (a .t .now)) (a .b .now) (a .places .now) (a .f .now) (a .at) (a .end) (a .write) _ (v .1) (c .before .before .put-span .ensures)
 
 pub put-use-spec : {M : Type 1} → statement M
-put-use-spec = tie.close (tie.spec enum-known-u put-blanks-requires enum-known-u-2 sub-put-text part-put-text-start part-put-text-end put-text-requires enum-known-u-3 group-count-requires put-count-requires enum-known-u-4 value-count-requires put-count-requires-2 enum-known-u-5 put-span-requires same-length returns same-length-2 returns-2 same-length-3 returns-3 same-length-4 returns-4 same-length-5 returns-5)
+put-use-spec = tie.close (tie.spec enum-known-u put-blanks-requires enum-known-u-2 sub-put-bytes part-put-bytes-start part-put-bytes-end put-bytes-requires enum-known-u-3 group-count-requires put-count-requires enum-known-u-4 value-count-requires put-count-requires-2 enum-known-u-5 put-span-requires same-length returns same-length-2 returns-2 same-length-3 returns-3 same-length-4 returns-4 same-length-5 returns-5)

@@ -1,4 +1,4 @@
--- `reading::scan` meets its contract: the elements that are left fill the buffer as the whole format does from its front. Assumes nothing.
+-- `reading::scan` meets its contract: the elements that are left fill the buffer as the whole format does from its front.
 use mathlib.Core.Path.{_≡_, refl, sym, _∙_}
 use Prim.Native.Nat.{_≤_, _-_}
 use native.Mathlib.Omega.{arith}
@@ -47,7 +47,7 @@ put-element-requires c κs =
     let s = c .before .before .before .before .before .before .before .before .before .before .before .before in
     let l = c .before .before .before .before .before .before .loop in
     let n = step-as (c .before .before .before .e .given .1) (c .before .before .before .before .before .next .ensures) in
-    (s .pre .0, n .place .2, l .inv .1, s .pre .1, l .inv .2 .fits, omega (arith, s .pre .2, l .inv .2 .same))
+    (s .pre .0, n .place .2, l .inv .1, s .pre .1, (l .inv .2 .fits, omega (arith, s .pre .2, l .inv .2 .same)))
 
 is-last-requires : tie.Need-is-last-requires Inv-loop μ-loop
 is-last-requires c κs = step-as (c .before .before .before .before .before .before .e .given .1) (c .before .before .before .before .before .before .before .before .next .ensures) .place .1

@@ -1,6 +1,6 @@
--- `reading::stands` meets its contract: each answer is matched. Assumes nothing.
+-- `reading::stands` meets its contract: each answer is matched.
 use mathlib.Core.Path.{sym, ap}
-use Rattle.reading.specs.Turns.{standing-of}
+use Rattle.reading.specs.Scan.{standing-of}
 use borrow.Author.Needs.{needs}
 use Rattle.reading.proofs.stands.Statement.{statement}
 use Rattle.reading.proofs.stands.Tie as tie

@@ -3,7 +3,7 @@ use mathlib.Core.Path.{sym, ap, _∙_}
 use Rattle.rules.specs.Outcome.{done}
 use Rattle.values.specs.Formats.{format-at}
 use Rattle.values.specs.Fits.{bytes-size}
-use Rattle.values.proofs.Numbered.{size-253}
+use Rattle.values.proofs.Numbered.{longest-size}
 use Rattle.values.proofs.Carried.{bad-value, no-fit, does-fit, carried-size-is}
 use borrow.Author.Needs.{needs}
 use Rattle.values.proofs.fits.Statement.{statement}
@@ -19,7 +19,7 @@ carries-requires c κs =
     record { source = a .pre .0; target = a .pre .1; size = a .pre .2; length-there = a .pre .3; value = sym (v .is-value .ensures) ∙ c .if1 .taken }
 
 carried-size-requires : tie.Need-carried-size-requires
-carried-size-requires c κs = let a = c .before .before .before .before .before in size-253 (a .args .from) _ (a .pre .0) (a .pre .2)
+carried-size-requires c κs = let a = c .before .before .before .before .before in longest-size (a .args .from) _ (a .pre .0) (a .pre .2)
 
 returns : tie.Need-returns
 returns c =

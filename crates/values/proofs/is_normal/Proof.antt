@@ -5,7 +5,7 @@ use lib.Dec.{eqb}
 use lib.ListN.{length}
 use Rattle.rules.specs.Values.{in-normal-form}
 use Rattle.decimals.specs.Decimals.{decimal-format}
-use Rattle.values.proofs.Numbered.{at-alpha, at-decimal, some-size, size-253}
+use Rattle.values.proofs.Numbered.{at-alpha, at-decimal, some-size, longest-size}
 use Rattle.values.proofs.Chosen.{own-length, low-normal}
 use borrow.Author.Needs.{needs}
 use Rattle.values.proofs.is_normal.Statement.{statement}
@@ -32,7 +32,7 @@ is-normal-requires c κs =
     let a = c .before .before .before in
     let p = some-size (a .args .format) (a .args .size) (a .pre .0) (a .pre .1) (omega arith) in
     let o : a .args .size ≡ length (a .args .s .now) = own-length (a .args .size) _ (a .pre .2) p in
-    let q = size-253 (a .args .format) (a .args .size) (a .pre .0) (a .pre .1) in
+    let q = longest-size (a .args .format) (a .args .size) (a .pre .0) (a .pre .1) in
     (omega arith, omega arith)
 
 returns-3 : tie.Need-returns-3

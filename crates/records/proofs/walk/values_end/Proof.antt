@@ -1,4 +1,5 @@
 -- `records::walk::values_end` meets its contract: values that any bytes are end behind their bytes; of others, those still to come end where all of them do. Assumes nothing.
+use mathlib.Core.Path.{sym, _∙_}
 use Prim.Native.Nat.{_+_, _-_, _≤_}
 use native.Mathlib.Nat.{mul-le-mul-right}
 use native.Mathlib.Omega.{arith}
@@ -6,7 +7,8 @@ use lib.ListN.{drop}
 use lib.Seq.{getD-drop}
 use Rattle.rules.specs.Record.{times, stored-value}
 use Rattle.tables.specs.Entries.{format-at}
-use Rattle.values.proofs.Numbered.{size-253}
+use Rattle.values.proofs.Normals.{any-allowed}
+use Rattle.values.proofs.Numbered.{longest-size}
 use Rattle.records.specs.Walk.{rest-of}
 use Rattle.records.proofs.Walks.{walked-as}
 use Rattle.records.proofs.Normals.{values-cut}
@@ -29,7 +31,7 @@ mul-bytes-end c =
     let s = c .before .before .before .before in
     let a = s .args in
     let most : a .n ≤ 191 = omega (arith, c .before .before .if1 .taken) in
-    omega (arith, mul-le-mul-right (a .size) most, size-253 (a .format) (a .size) (s .pre .1) (s .pre .2))
+    omega (arith, mul-le-mul-right (a .size) most, longest-size (a .format) (a .size) (s .pre .1) (s .pre .2))
 
 bytes-end-requires : tie.Need-bytes-end-requires Inv-loop μ-loop
 bytes-end-requires c κs = search needs
@@ -38,7 +40,7 @@ returns : tie.Need-returns Inv-loop μ-loop
 returns c =
     let s = c .before .before .before .before .before in
     let a = s .args in
-    let any = c .before .before .any-bytes .ensures (c .before .if2 .taken) in
+    let any = any-allowed (a .format) (a .size) (s .pre .1) (s .pre .2) (sym (c .before .before .any-bytes .ensures) ∙ c .before .if2 .taken) in
     walked-as (values-cut (format-at (a .format)) (a .size) any (a .n) (drop (a .at) (a .b .now)) (λ i. rw (getD-drop (a .at) (a .b .now) i 0) (c .before .before .before .before .shared-slice-known .given (a .at + i) .fits))) (c .bytes-end .ensures)
 
 loop-holds : tie.Need-loop-holds Inv-loop μ-loop

@@ -4,7 +4,7 @@ use mathlib.Core.Path.{sym, ap, _∙_}
 use Rattle.rules.specs.Outcome.{is-done}
 use Rattle.rules.specs.Values.{normal}
 use Rattle.words.specs.Words.{signed-value}
-use Rattle.values.proofs.Numbered.{at-binary, at-fixed, at-decimal, two-four, some-size, size-29}
+use Rattle.values.proofs.Numbered.{at-binary, at-fixed, at-decimal, two-four, some-size, longest-decimal}
 use Rattle.values.proofs.numbers.fits_word.Statement.{statement}
 use Rattle.values.proofs.numbers.fits_word.Tie as tie
 
@@ -29,7 +29,7 @@ returns-2 c =
 fits-word-requires : tie.Need-fits-word-requires
 fits-word-requires c κs =
     let a = c .before .before in
-    (some-size (a .args .format) (a .args .n) (a .pre .1) (a .pre .2) (a .pre .0), size-29 (a .args .format) (a .args .n) (a .pre .1) (a .pre .2) (omega (arith, c .if2 .left, c .before .if1 .left, a .pre .0)))
+    (some-size (a .args .format) (a .args .n) (a .pre .1) (a .pre .2) (a .pre .0), longest-decimal (a .args .format) (a .args .n) (a .pre .1) (a .pre .2) (omega (arith, c .if2 .left, c .before .if1 .left, a .pre .0)))
 
 returns-3 : tie.Need-returns-3
 returns-3 c =

@@ -3,7 +3,7 @@ use native.Mathlib.Omega.{arith}
 use mathlib.Core.Path.{sym, ap, _∙_}
 use Rattle.rules.specs.Values.{meaning}
 use Rattle.words.specs.Words.{word-of, value-of}
-use Rattle.values.proofs.Numbered.{at-binary, at-fixed, at-decimal, two-four, size-253}
+use Rattle.values.proofs.Numbered.{at-binary, at-fixed, at-decimal, two-four, longest-size}
 use Rattle.values.proofs.Chosen.{fixed-word-is}
 use borrow.Author.Needs.{needs}
 use Rattle.values.proofs.numbers.to_word.Statement.{statement}
@@ -29,7 +29,7 @@ returns-2 c =
 to-word-requires : tie.Need-to-word-requires
 to-word-requires c κs =
     let a = c .before .before .before in
-    (rw (at-decimal (a .args .format) (a .pre .1) (omega (arith, c .if2 .left, c .before .if1 .left, a .pre .0))) at (a .pre .3), size-253 (a .args .format) _ (a .pre .1) (a .pre .2))
+    (rw (at-decimal (a .args .format) (a .pre .1) (omega (arith, c .if2 .left, c .before .if1 .left, a .pre .0))) at (a .pre .3), longest-size (a .args .format) _ (a .pre .1) (a .pre .2))
 
 returns-3 : tie.Need-returns-3
 returns-3 c =

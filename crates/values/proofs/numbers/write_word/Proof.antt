@@ -6,7 +6,7 @@ use Rattle.rules.specs.Lists.{bytes-of}
 use Rattle.rules.specs.Values.{normal}
 use Rattle.words.specs.Words.{signed-value}
 use Rattle.buffer.specs.Splice.{splice}
-use Rattle.values.proofs.Numbered.{at-binary, at-fixed, at-decimal, two-four, some-size, size-29}
+use Rattle.values.proofs.Numbered.{at-binary, at-fixed, at-decimal, two-four, some-size, longest-decimal}
 use borrow.Author.Needs.{needs}
 use Rattle.values.proofs.numbers.write_word.Statement.{statement}
 use Rattle.values.proofs.numbers.write_word.Tie as tie
@@ -28,7 +28,7 @@ write-word-requires c κs =
     let i = c .before in
     let a = i .before .before .before in
     let high : 3 ≤ a .args .format = omega (arith, i .if2 .left, i .before .if1 .left, a .pre .0) in
-    (rw (at-decimal (a .args .format) (a .pre .1) high) at (a .pre .3), some-size (a .args .format) (a .args .n) (a .pre .1) (a .pre .2) (a .pre .0), size-29 (a .args .format) (a .args .n) (a .pre .1) (a .pre .2) high, a .pre .4)
+    (rw (at-decimal (a .args .format) (a .pre .1) high) at (a .pre .3), some-size (a .args .format) (a .args .n) (a .pre .1) (a .pre .2) (a .pre .0), longest-decimal (a .args .format) (a .args .n) (a .pre .1) (a .pre .2) high, a .pre .4)
 
 same-length : tie.Need-same-length
 same-length c = search needs

@@ -1,0 +1,130 @@
+// One value into room, at a format and a length.
+ghost use mathlib.Core.Path.{_≡_};
+ghost use mathlib.Core.Bool.{true};
+ghost use Prim.Native.Nat.{_-_, _≤_};
+ghost use lib.ListN.{length};
+ghost use Rattle.rules.specs.Limits.{longest-alpha};
+ghost use Rattle.rules.specs.Values.{alpha, every, conversion, converts, carried};
+ghost use Rattle.kinds.specs.Formats.{format-at};
+ghost use Rattle.values.specs.Formats.{range-kind};
+ghost use Rattle.values.specs.Fits.{Carriable};
+ghost use Rattle.filling.specs.Filling.{Roomy, Filling, in-room};
+use crate::Next;
+use rules::Refusal;
+use words::Word;
+
+// A value of format A, at a length: its text is found once.
+fn put_alpha(s: &[u8], size: usize, out: &mut [u8], at: usize, end: usize, write: bool) -> Next
+    requires { ⌜ (length (now s) ≤ longest-alpha) × Roomy at end (now out) ⌝ }
+    ensures { λ r. ⌜ Filling (in-room (end - at) (carried alpha alpha size (now (s .entry)))) at write (now (out .entry)) (now (out .exit)) r ⌝ }
+{
+    let len = values::texts::text_length(s);
+    if !values::texts::length_fits(len, size) {
+        return Next::Refused(Refusal::OutOfRange);
+    }
+    let n = values::texts::length_at(len, size);
+    if end - at < n {
+        return Next::Refused(Refusal::BeyondBuffer);
+    }
+    if write {
+        values::texts::put_at(&s[..len], size, out, at);
+        return Next::At(at + n);
+    }
+    Next::At(at + n)
+}
+
+// A value, where every value converts.
+fn put_every(
+    s: &[u8],
+    own: usize,
+    format: usize,
+    size: usize,
+    out: &mut [u8],
+    at: usize,
+    end: usize,
+    write: bool,
+) -> Next
+    requires { ⌜ Carriable own format size (now s) × (conversion (format-at own) (format-at format) ≡ every) × Roomy at end (now out) ⌝ }
+    ensures { λ r. ⌜ Filling (in-room (end - at) (carried (format-at own) (format-at format) size (now (s .entry)))) at write (now (out .entry)) (now (out .exit)) r ⌝ }
+{
+    if !values::carrying::every_fits(s, own, format, size) {
+        return Next::Refused(Refusal::OutOfRange);
+    }
+    let n = values::carrying::carried_size(s, size);
+    if end - at < n {
+        return Next::Refused(Refusal::BeyondBuffer);
+    }
+    if write {
+        values::carrying::carry_every(s, own, format, size, out, at);
+        return Next::At(at + n);
+    }
+    Next::At(at + n)
+}
+
+// A value, where a range of words converts: it is decoded once.
+fn put_word(
+    s: &[u8],
+    own: usize,
+    format: usize,
+    size: usize,
+    natural: bool,
+    out: &mut [u8],
+    at: usize,
+    end: usize,
+    write: bool,
+) -> Next
+    requires { ⌜ Carriable own format size (now s) × (conversion (format-at own) (format-at format) ≡ range-kind natural) × Roomy at end (now out) ⌝ }
+    ensures { λ r. ⌜ Filling (in-room (end - at) (carried (format-at own) (format-at format) size (now (s .entry)))) at write (now (out .entry)) (now (out .exit)) r ⌝ }
+{
+    let word = values::numbers::to_word(s, own);
+    match word {
+        Word::Outside => Next::Refused(Refusal::OutOfRange),
+        Word::Number(v) => {
+            if !values::carrying::word_fits(v, format, size, natural) {
+                return Next::Refused(Refusal::OutOfRange);
+            }
+            if end - at < size {
+                return Next::Refused(Refusal::BeyondBuffer);
+            }
+            if write {
+                values::numbers::write_word(v, format, size, out, at);
+                return Next::At(at + size);
+            }
+            Next::At(at + size)
+        }
+    }
+}
+
+// A value that exists, by its content, at the format and length in effect.
+pub fn put_value(
+    s: &[u8],
+    own: usize,
+    format: usize,
+    size: usize,
+    out: &mut [u8],
+    at: usize,
+    end: usize,
+    write: bool,
+) -> Next
+    requires { ⌜ Carriable own format size (now s) × (converts (format-at own) (format-at format) ≡ true) × Roomy at end (now out) ⌝ }
+    ensures { λ r. ⌜ Filling (in-room (end - at) (carried (format-at own) (format-at format) size (now (s .entry)))) at write (now (out .entry)) (now (out .exit)) r ⌝ }
+{
+    if own == kinds::ALPHA {
+        return put_alpha(s, size, out, at, end, write);
+    }
+    let kind = kinds::conversion(own, format);
+    if kinds::is_every(kind) {
+        return put_every(s, own, format, size, out, at, end, write);
+    }
+    put_word(
+        s,
+        own,
+        format,
+        size,
+        kinds::is_natural(kind),
+        out,
+        at,
+        end,
+        write,
+    )
+}

@@ -1,0 +1,67 @@
+-- The occurrences of a span: their items filled into room for whatever record the bytes hold, and those that stand one after the other.
+use mathlib.Core.Path.{_≡_}
+use mathlib.Core.Bool.{Bool, true, false}
+use mathlib.Core.List.{List, map}
+use Prim.Native.Nat.{ℕ, _+_, _-_, _≤_, _<_}
+use lib.ListN.{length, getD}
+use lib.Seq.{slice}
+use Rattle.rules.specs.Outcome.{Outcome, done}
+use Rattle.rules.specs.Lists.{Bytes}
+use Rattle.rules.specs.Values.{null}
+use Rattle.rules.specs.Table.{Entry, Field, parts}
+use Rattle.rules.specs.Record.{Record, group-count-at}
+use Rattle.rules.specs.Use.{Item, value-items, just}
+use Rattle.rules.specs.Services.{filled}
+use Rattle.tables.specs.Entries.{blank, is-group}
+use Rattle.formats.specs.Elements.{range}
+use Rattle.uses.specs.Meant.{asked-of}
+use Rattle.uses.specs.declared.Span.{Span}
+use Rattle.records.specs.Where.{fields-of}
+use Rattle.records.specs.Paths.{Wide, Leads}
+use Rattle.records.specs.Places.{Held}
+use Rattle.records.specs.declared.paths.Path.{Path}
+use Rattle.filling.specs.Filling.{Filling}
+use Rattle.filling.specs.declared.Next.{Next}
+use Rattle.tables.specs.Groups.{group-end}
+
+-- The items end and write as they are to.
+abbrev pub Fills : List Entry → Bytes → List ℕ → List Item → ℕ → ℕ → Bool → Bytes → Bytes → Next → Type 0
+Fills es b places xs at end write entry exit n =
+    (r : Record) → Held es b places r → Filling (filled (parts es) r (end - at) xs) at write entry exit n
+
+-- The first n of some numbers are those of entries that are fields.
+abbrev pub Fields-numbered : List Entry → List ℕ → ℕ → Type 0
+Fields-numbered es ns n = (k : ℕ) → k < n → (getD ns k 0 < length es) × (is-group (getD es (getD ns k 0) blank .what) ≡ false)
+
+-- Null for each of some fields, at its own format and length.
+abbrev pub nulls-of : List Field → List (Outcome Bytes)
+nulls-of fs = map (λ (f : Field). done (null (f .format) (f .size))) fs
+
+-- The items of a span in one occurrence; and in those from one on.
+abbrev pub row-items : List Entry → Span → ℕ → List Item
+row-items es s o = value-items (asked-of es s) (just o) (range (s .«value_from») (s .«value_upto»)) false
+
+abbrev pub span-items : List Entry → Span → ℕ → List Item
+span-items es s o = value-items (asked-of es s) (range o (s .upto)) (range (s .«value_from») (s .«value_upto»)) false
+
+-- The way to the first entry of a span, and where that lies in a periodic group, the width of the span's fields.
+pub record Way (es : List Entry) (s : Span) (path : Path) (width : ℕ) : Type 0 where
+  pub entry : path .entry ≡ s .first
+  pub leads : Leads es path
+  pub wide : path .inside ≡ true → Wide (fields-of (slice (s .first) (s .end) es)) width
+
+-- The items of a span in the occurrences from one up to another.
+abbrev pub rows-items : List Entry → Span → ℕ → ℕ → List Item
+rows-items es s o last = value-items (asked-of es s) (range o last) (range (s .«value_from») (s .«value_upto»)) false
+
+-- The span is the whole of the periodic group in which its first entry lies, and n of its occurrences exist, from its first on.
+pub record Whole (es : List Entry) (b : Bytes) (places : List ℕ) (s : Span) (path : Path) (n : ℕ) : Type 0 where
+  pub inside : path .inside ≡ true
+  pub first : s .first ≡ path .group + 1
+  pub end : s .end ≡ group-end es (path .group)
+  pub exist : (r : Record) → Held es b places r → s .from + n ≤ group-count-at (parts es) r (getD es (path .group) blank .name) + 1
+
+-- n occurrences of a span, from its first on, stand one after the other: the span is whole and they exist, unless there are none.
+pub record Adjoin (es : List Entry) (b : Bytes) (places : List ℕ) (s : Span) (path : Path) (n : ℕ) : Type 0 where
+  pub upto : s .from + n ≤ s .upto + 1
+  pub whole : 1 ≤ n → Whole es b places s path n

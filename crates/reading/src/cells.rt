@@ -1,0 +1,200 @@
+// The values of one field in one occurrence: those that exist, at the format and length in effect, and nulls for the others.
+ghost use mathlib.Core.Path.{_≡_};
+ghost use mathlib.Core.List.{List, map};
+ghost use mathlib.Core.Bool.{true};
+ghost use Prim.Native.Nat.{_-_, _≤_, _<_};
+ghost use lib.ListN.{length};
+ghost use Rattle.rules.specs.Lists.{Bytes};
+ghost use Rattle.kinds.specs.Formats.{format-at};
+ghost use Rattle.tables.specs.Entries.{Valid, entries-of};
+ghost use Rattle.filling.specs.Filling.{Roomy, Filling, together};
+ghost use Rattle.reading.specs.Cells.{Cell-holds, Wants, wanted-at, carried-to, wanted, Stand, Exist};
+ghost use Rattle.records.specs.declared.places.Cell.the-variants.{At};
+use filling::Next;
+use records::places::Cell;
+use values::First;
+
+// What is wanted of a field: its values from first to last, which are stored at its own format and standard length, at a format and a
+// length in effect.
+pub struct Wanted {
+    pub own: usize,
+    pub standard: usize,
+    pub multiple: bool,
+    pub first: usize,
+    pub last: usize,
+    pub format: usize,
+    pub size: usize,
+}
+
+// Values that stand one after the other from a place on.
+pub struct Run {
+    pub at: usize,
+    pub count: usize,
+}
+
+// What is wanted of entry i, a field.
+pub fn wanted_of(
+    t: &[u8],
+    i: usize,
+    first: usize,
+    last: usize,
+    format: usize,
+    size: usize,
+) -> Wanted
+    requires { ⌜ Valid (now t) × (i < length (entries-of (now t))) ⌝ }
+    ensures { λ w. ⌜ w ≡ wanted-at (entries-of (now (t .entry))) i first last format size ⌝ }
+{
+    let e = tables::entry_at(t, i);
+    Wanted {
+        own: e.format as usize,
+        standard: e.size as usize,
+        multiple: e.multiple,
+        first,
+        last,
+        format,
+        size,
+    }
+}
+
+// n values that stand one after the other, carried to the format and length in effect.
+fn put_carried(
+    b: &[u8],
+    from: usize,
+    n: usize,
+    w: Wanted,
+    out: &mut [u8],
+    at: usize,
+    end: usize,
+    write: bool,
+) -> Next
+    requires { ⌜ Wants w × (from ≤ length (now b)) × ((us : List Bytes) × Stand w (now b) from n us) × Roomy at end (now out) ⌝ }
+    ensures { λ r. ⌜ ((us : List Bytes) → Stand w (now (b .entry)) from n us → Filling (together (end - at) (map (carried-to w) us)) at write (now (out .entry)) (now (out .exit)) r) ⌝ }
+{
+    let mut p = at;
+    let mut q = from;
+    let mut i = 0;
+    while i < n {
+        let first = values::first_value(b, q, w.standard);
+        match first {
+            // The values are known to stand there, so that this does not happen.
+            First::Refused(k) => {
+                return Next::Refused(k);
+            }
+            First::Value(start, next) => {
+                let put = filling::value::put_value(
+                    &b[start..next],
+                    w.own,
+                    w.format,
+                    w.size,
+                    out,
+                    p,
+                    end,
+                    write,
+                );
+                match put {
+                    Next::Refused(k) => {
+                        return Next::Refused(k);
+                    }
+                    Next::At(place) => {
+                        p = place;
+                    }
+                }
+                q = next;
+            }
+        }
+        i += 1;
+    }
+    Next::At(p)
+}
+
+// The values of a run, at the format and length in effect: at their own they are copied as they are stored.
+fn put_run(
+    b: &[u8],
+    run: Run,
+    w: Wanted,
+    out: &mut [u8],
+    at: usize,
+    end: usize,
+    write: bool,
+) -> Next
+    requires { ⌜ Wants w × (run .at ≤ length (now b)) × ((us : List Bytes) × Stand w (now b) (run .at) (run .count) us) × Roomy at end (now out) ⌝ }
+    ensures { λ r. ⌜ ((us : List Bytes) → Stand w (now (b .entry)) (run .at) (run .count) us → Filling (together (end - at) (map (carried-to w) us)) at write (now (out .entry)) (now (out .exit)) r) ⌝ }
+{
+    if w.own == w.format {
+        if w.standard == w.size {
+            let from = run.at;
+            let upto = records::behind::skip(b, from, run.count, w.standard);
+            return filling::put_bytes(&b[from..upto], out, at, end, write);
+        }
+    }
+    put_carried(b, run.at, run.count, w, out, at, end, write)
+}
+
+// Those of the values wanted that exist, in the cell of an MU field.
+fn run_among(b: &[u8], cell: usize, w: Wanted) -> Run
+    requires { ⌜ Wants w × ((vs : List Bytes) × Cell-holds (now b) (format-at (w .own)) (w .standard) true vs (At cell)) ⌝ }
+    ensures { λ r. ⌜ ((vs : List Bytes) → Cell-holds (now (b .entry)) (format-at (w .own)) (w .standard) true vs (At cell) → Exist w (now (b .entry)) vs r) ⌝ }
+{
+    let n = b[cell] as usize;
+    if n < w.first {
+        return Run { at: 0, count: 0 };
+    }
+    let at = records::behind::skip(b, cell + 1, w.first - 1, w.standard);
+    if n < w.last {
+        return Run {
+            at,
+            count: n + 1 - w.first,
+        };
+    }
+    Run {
+        at,
+        count: w.last + 1 - w.first,
+    }
+}
+
+// The same in a cell that stands at a place.
+fn run_at(b: &[u8], cell: usize, w: Wanted) -> Run
+    requires { ⌜ Wants w × ((vs : List Bytes) × Cell-holds (now b) (format-at (w .own)) (w .standard) (w .multiple) vs (At cell)) ⌝ }
+    ensures { λ r. ⌜ ((vs : List Bytes) → Cell-holds (now (b .entry)) (format-at (w .own)) (w .standard) (w .multiple) vs (At cell) → Exist w (now (b .entry)) vs r) ⌝ }
+{
+    if w.multiple {
+        return run_among(b, cell, w);
+    }
+    if 1 < w.first {
+        return Run { at: 0, count: 0 };
+    }
+    Run { at: cell, count: 1 }
+}
+
+// The same in a cell, if there is one.
+fn run_of(b: &[u8], cell: Cell, w: Wanted) -> Run
+    requires { ⌜ Wants w × ((vs : List Bytes) × Cell-holds (now b) (format-at (w .own)) (w .standard) (w .multiple) vs cell) ⌝ }
+    ensures { λ r. ⌜ ((vs : List Bytes) → Cell-holds (now (b .entry)) (format-at (w .own)) (w .standard) (w .multiple) vs cell → Exist w (now (b .entry)) vs r) ⌝ }
+{
+    match cell {
+        Cell::At(p) => run_at(b, p, w),
+        Cell::Nothing => Run { at: 0, count: 0 },
+    }
+}
+
+// What is wanted of a cell: the values that exist, and nulls for the others.
+pub fn put_cell(
+    b: &[u8],
+    cell: Cell,
+    w: Wanted,
+    out: &mut [u8],
+    at: usize,
+    end: usize,
+    write: bool,
+) -> Next
+    requires { ⌜ Wants w × ((vs : List Bytes) × Cell-holds (now b) (format-at (w .own)) (w .standard) (w .multiple) vs cell) × Roomy at end (now out) ⌝ }
+    ensures { λ r. ⌜ ((vs : List Bytes) → Cell-holds (now (b .entry)) (format-at (w .own)) (w .standard) (w .multiple) vs cell → Filling (together (end - at) (wanted w vs)) at write (now (out .entry)) (now (out .exit)) r) ⌝ }
+{
+    let run = run_of(b, cell, w);
+    let missing = w.last + 1 - w.first - run.count;
+    let next = put_run(b, run, w, out, at, end, write);
+    match next {
+        Next::Refused(k) => Next::Refused(k),
+        Next::At(p) => filling::put_nulls(missing, w.format, w.size, out, p, end, write),
+    }
+}
