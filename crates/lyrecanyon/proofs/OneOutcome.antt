@@ -1,43 +1,45 @@
--- Any two answers that a contract allows are equal, and so are the slices they leave: number, length and bytes are the outcome's.
-use mathlib.Core.Path.{_≡_, refl, sym, _∙_, ap}
-use mathlib.Core.List.{List, []}
-use Prim.Native.Nat.{ℕ, zero, suc}
+-- Any two outcomes that a contract allows are equal: number, length and bytes are those of the rules, and a number and a length have one answer.
+use mathlib.Core.Path.{_≡_, refl, sym, _∙_}
+use mathlib.Core.List.{[], _∷_}
+use Prim.Native.Nat.{ℕ}
 use lib.ListN.{getD}
-use mathlib.Core.List.{_∷_}
-use native.Mathlib.Omega.{arith}
 use Rattle.rules.specs.Outcome.{Outcome}
 use Rattle.rules.specs.Lists.{Bytes}
-use Rattle.lyrecanyon.specs.Answers.{refusal-number, answer-number, answer-length, Settled}
-use Rattle.lyrecanyon.specs.declared.Refusal.{Refusal}
-use Rattle.lyrecanyon.specs.declared.Refusal.the-variants.{NoTable, NoRecord, BadSyntax, UnknownName, UseRule, NamedTwice, BeyondBuffer, BadValue, NotFitting, NoRoom}
+use Rattle.rules.specs.declared.Refusal.the-variants.{BadTable, BadRecord, BadSyntax, UnknownName, UseRule, NamedTwice, BeyondBuffer, BadValue, OutOfRange, NoRoom}
+use Rattle.lyrecanyon.specs.Answers.{answer-number, answer-length, Returns, Settled, Exported}
 use Rattle.lyrecanyon.specs.declared.Answer.{Answer}
 use Rattle.lyrecanyon.specs.declared.Answer.the-variants.{Done, Refused}
+
+-- What a contract settles: the number, the length, and every byte of the lent slice.
+one-outcome : {o : Outcome Bytes} {entry a b : Bytes} {n m k l : ℕ} → Returns o entry a n k → Returns o entry b m l → (n ≡ m) × (k ≡ l) × (a ≡ b)
+one-outcome x y = (x .number-is ∙ sym (y .number-is), x .size-is ∙ sym (y .size-is), x .bytes-are ∙ sym (y .bytes-are))
 
 -- The answer with a number and a length.
 by-numbers : ℕ → ℕ → Answer
 by-numbers n l =
-    getD (Done l ∷ Refused NoTable ∷ Refused NoRecord ∷ Refused BadSyntax ∷ Refused UnknownName ∷ Refused UseRule ∷ Refused NamedTwice
-    ∷ Refused BeyondBuffer ∷ Refused BadValue ∷ Refused NotFitting ∷ Refused NoRoom ∷ []) n (Done l)
+    getD (Done l ∷ Refused BadTable ∷ Refused BadRecord ∷ Refused BadSyntax ∷ Refused UnknownName ∷ Refused UseRule ∷ Refused NamedTwice
+    ∷ Refused BeyondBuffer ∷ Refused BadValue ∷ Refused OutOfRange ∷ Refused NoRoom ∷ []) n (Done l)
 
 back : (r : Answer) → by-numbers (answer-number r) (answer-length r) ≡ r
 unfolding by-numbers
 back (Done n) = refl
-back (Refused NoTable) = refl
-back (Refused NoRecord) = refl
+back (Refused BadTable) = refl
+back (Refused BadRecord) = refl
 back (Refused BadSyntax) = refl
 back (Refused UnknownName) = refl
 back (Refused UseRule) = refl
 back (Refused NamedTwice) = refl
 back (Refused BeyondBuffer) = refl
 back (Refused BadValue) = refl
-back (Refused NotFitting) = refl
+back (Refused OutOfRange) = refl
 back (Refused NoRoom) = refl
 
-pub one-answer : {o : Outcome Bytes} {entry a b : Bytes} {r s : Answer} → Settled o entry a r → Settled o entry b s → r ≡ s
-one-answer {o} {entry} {a} {b} {r} {s} x y =
-    let n : answer-number r ≡ answer-number s = x .number ∙ sym (y .number) in
-    let l : answer-length r ≡ answer-length s = x .size ∙ sym (y .size) in
-    sym (back r) ∙ rw (n, l) (back s)
+-- Of a service: one answer, and one slice.
+pub one-answer : {o : Outcome Bytes} {entry a b : Bytes} {r s : Answer} → Settled o entry a r → Settled o entry b s → (r ≡ s) × (a ≡ b)
+one-answer {r = r} {s} x y =
+    let (n, l, e) = one-outcome x y in
+    (sym (back r) ∙ rw (n, l) (back s), e)
 
-pub one-slice : {o : Outcome Bytes} {entry a b : Bytes} {r s : Answer} → Settled o entry a r → Settled o entry b s → a ≡ b
-one-slice x y = x .bytes ∙ sym (y .bytes)
+-- Of its export to C: one number, one length used, and one slice.
+pub one-export : {o : Outcome Bytes} {entry a b : Bytes} {used also n m : ℕ} → Exported o entry a used n → Exported o entry b also m → (n ≡ m) × (used ≡ also) × (a ≡ b)
+one-export x y = one-outcome x y

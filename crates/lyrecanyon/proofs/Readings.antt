@@ -13,23 +13,22 @@ use Rattle.rules.specs.Record.{Record, stored}
 use Rattle.rules.specs.Format.{elements}
 use Rattle.rules.specs.Use.{uses, items}
 use Rattle.rules.specs.Services.{filled, read}
-use Rattle.rules.proofs.Only.{Only, only-bind}
-use Rattle.rules.proofs.Refusals.{no-table, no-record, bad-syntax}
-use Rattle.rules.proofs.UseRefusals.{Between, uses-only, filled-only}
-use Rattle.rules.proofs.Steps.{by-outcome, by-test, not-both, not-done}
+use Rattle.rules.specs.Numbers.{refusal-number}
+use Rattle.rules.specs.declared.Refusal.{Refusal}
+use Rattle.rules.proofs.Refusals.{no-table, no-record}
+use Rattle.rules.proofs.Steps.{by-outcome, by-test, not-both, done-inj, refused-inj, not-done}
 use Rattle.buffer.specs.Splice.{splice}
 use Rattle.buffer.proofs.Laws.{take-splice}
 use Rattle.tables.specs.Entries.{Valid, entries-of}
 use Rattle.records.specs.Places.{Holds}
 use Rattle.uses.specs.Meant.{uses-of}
-use Rattle.reading.specs.Filling.{placed, Filling}
-use Rattle.reading.specs.Turns.{Scans}
-use Rattle.reading.specs.declared.Next.{Next}
-use Rattle.reading.specs.declared.Next.the-variants as next
-use Rattle.reading.proofs.Going.{filled-length, at-inj, refused-inj, no-at}
+use Rattle.filling.specs.Filling.{ended, placed, Filling}
+use Rattle.filling.specs.declared.Next.{Next}
+use Rattle.filling.specs.declared.Next.the-variants as next
+use Rattle.reading.specs.Scan.{Scans}
+use Rattle.reading.proofs.Items.{filled-length}
 use Rattle.reading.proofs.Rooms.{more-room, more-room-refused}
-use Rattle.lyrecanyon.specs.Answers.{refusal-number, Settled}
-use Rattle.lyrecanyon.specs.declared.Refusal.{Refusal}
+use Rattle.lyrecanyon.specs.Answers.{Settled}
 use Rattle.lyrecanyon.specs.declared.Answer.the-variants.{Done, Refused}
 use Rattle.lyrecanyon.proofs.Settling.{settled-refused, settled-done}
 
@@ -53,21 +52,7 @@ read-stored t b f room v = by-outcome (table t)
 pub read-no-record : (t b f : Bytes) (room : ℕ) → Valid t → is-done (stored (parts (entries-of t)) b) ≡ false → read t b f room ≡ refused 2
 read-no-record t b f room v h = read-stored t b f room v ∙ rw (no-record (parts (entries-of t)) b h) refl
 
--- The items are refused with 3 for the format, 4 or 5 for its elements, 7 to 9 for its items.
-wider : {A : Type 0} (a b : ℕ) (o : Outcome A) → 3 ≤ a → b ≤ 9 → Only (Between a b) o → Only (Between 3 9) o
-wider a b (done x) l m k = tt
-wider a b (refused n) l m k = (omega (arith, k .0), omega (arith, k .1))
-
-used-only : (es : List Entry) (f : Bytes) → Only (Between 3 9) (uses-of es f)
-unfolding uses-of
-used-only es f = by-outcome (elements f)
-    (λ xs e. rw e (wider 4 5 (uses es [] xs) (omega arith) (omega arith) (uses-only es [] xs)))
-    (λ n e. rw (bad-syntax f (ap is-done e)) (omega arith, omega arith))
-
 module _ (es : List Entry) (f : Bytes) (r : Record) where
-  made-only : (room : ℕ) → Only (Between 3 9) (made es f room r)
-  made-only room = only-bind (Between 3 9) (uses-of es f) _ (used-only es f) (λ us. wider 7 9 (filled (parts es) r room (items us)) (omega arith) (omega arith) (filled-only (parts es) r room (items us)))
-
   made-length : (room : ℕ) (bs : Bytes) → made es f room r ≡ done bs → length bs ≤ room
   made-length room bs e = by-outcome (uses-of es f)
       (λ us u. filled-length (parts es) r room (items us) bs (rw u at e))
@@ -84,13 +69,13 @@ module _ (es : List Entry) (f : Bytes) (r : Record) where
       (λ k u. rw u (rw u at e))
 
 -- An outcome by where it ends.
-placed-refused : (o : Outcome Bytes) (n : ℕ) → next.Refused n ≡ placed 0 o → o ≡ refused n
-placed-refused (done bs) n e = absurd (no-at (sym e))
-placed-refused (refused k) n e = ap refused (sym (refused-inj e))
+placed-refused : (o : Outcome Bytes) (x : Refusal) → ended (next.Refused x) ≡ placed 0 o → o ≡ refused (refusal-number x)
+placed-refused (done bs) x e = absurd (not-done e)
+placed-refused (refused k) x e = ap refused (sym (refused-inj e))
 
-placed-at : (o : Outcome Bytes) (n : ℕ) → next.At n ≡ placed 0 o → (bs : Bytes) × (o ≡ done bs) × (n ≡ length bs)
-placed-at (done bs) n e = (bs, refl, omega (arith, at-inj e))
-placed-at (refused k) n e = absurd (no-at e)
+placed-at : (o : Outcome Bytes) (n : ℕ) → ended (next.At n) ≡ placed 0 o → (bs : Bytes) × (o ≡ done bs) × (n ≡ length bs)
+placed-at (done bs) n e = (bs, refl, omega (arith, done-inj e))
+placed-at (refused k) n e = absurd (not-done (sym e))
 
 -- The items are to be made in room up to the end of the buffer, or to the limit.
 pub record Ready (t b : Bytes) (places : List ℕ) (f out : Bytes) (end : ℕ) : Type 0 where
@@ -112,23 +97,20 @@ module _ {t b : Bytes} {places : List ℕ} {f out : Bytes} {end : ℕ} (s : Read
     filling = g (s .holds .0) (s .holds .1)
 
     -- One that is refused.
-    module _ {n : ℕ} (e : m ≡ next.Refused n) where
-      refused-with : given room ≡ refused n
-      refused-with = placed-refused _ n (sym e ∙ filling .answer)
+    module _ {x : Refusal} (e : m ≡ next.Refused x) where
+      refused-with : given room ≡ refused (refusal-number x)
+      refused-with = placed-refused _ x (sym (ap ended e) ∙ filling .answer)
 
-      pub refused-between : Between 3 9 n
-      refused-between = subst (Only (Between 3 9)) refused-with (made-only (entries-of t) f (s .holds .0) room)
+      pub all-refused : room ≡ end → Settled (read t b f (length out)) out out (Refused x)
+      all-refused l = settled-refused _ out x (read-given ∙ ap given (sym l) ∙ refused-with)
 
-      pub all-refused : room ≡ end → (x : Refusal) → refusal-number x ≡ n → Settled (read t b f (length out)) out out (Refused x)
-      all-refused l x q = settled-refused _ out x (read-given ∙ ap given (sym l) ∙ refused-with ∙ ap refused (sym q))
-
-      pub less-refused : room ≤ end → (n ≡ 7 → ⊥) → (x : Refusal) → refusal-number x ≡ n → Settled (read t b f (length out)) out out (Refused x)
-      less-refused l z x q = settled-refused _ out x (read-given ∙ made-refused (entries-of t) f (s .holds .0) room end n l z refused-with ∙ ap refused (sym q))
+      pub less-refused : room ≤ end → (refusal-number x ≡ 7 → ⊥) → Settled (read t b f (length out)) out out (Refused x)
+      less-refused l z = settled-refused _ out x (read-given ∙ made-refused (entries-of t) f (s .holds .0) room end (refusal-number x) l z refused-with)
 
     -- One that makes all items.
     module _ {n : ℕ} (e : m ≡ next.At n) where
       bytes-made : (bs : Bytes) × (given room ≡ done bs) × (n ≡ length bs)
-      bytes-made = placed-at (given room) n (sym e ∙ filling .answer)
+      bytes-made = placed-at (given room) n (sym (ap ended e) ∙ filling .answer)
 
       pub made-within : n ≤ room
       made-within = let o = bytes-made in omega (arith, o .2, made-length (entries-of t) f (s .holds .0) room (o .0) (o .1))
@@ -142,9 +124,9 @@ module _ {t b : Bytes} {places : List ℕ} {f out : Bytes} {end : ℕ} (s : Read
   unwritten : (room : ℕ) {area area′ : Bytes} {m : Next} → Scans (entries-of t) b places f room false area area′ m → area′ ≡ area
   unwritten room g = filling room g .bytes (λ w. absurd (not-both w))
 
-  pub tested-refused : {out′ : Bytes} {m : Next} → Scans (entries-of t) b places f end false out out′ m → {n : ℕ} → m ≡ next.Refused n
-      → (x : Refusal) → refusal-number x ≡ n → Settled (read t b f (length out)) out out′ (Refused x)
-  tested-refused g e x q = rw (unwritten end g) (all-refused end g e refl x q)
+  pub tested-refused : {out′ : Bytes} {m : Next} → Scans (entries-of t) b places f end false out out′ m → {x : Refusal} → m ≡ next.Refused x
+      → Settled (read t b f (length out)) out out′ (Refused x)
+  tested-refused g e = rw (unwritten end g) (all-refused end g e refl)
 
   written : (room : ℕ) {area area′ : Bytes} {m : Next} → Scans (entries-of t) b places f room true area area′ m → (bs : Bytes) → given room ≡ done bs → area′ ≡ splice 0 bs area
   unfolding bytes-of

@@ -5,23 +5,9 @@ use Prim.Native.Nat.{ℕ}
 use lib.ListN.{length, drop}
 use Rattle.rules.specs.Outcome.{Outcome, done, refused}
 use Rattle.rules.specs.Lists.{Bytes, bytes-of}
-use Rattle.lyrecanyon.specs.declared.Refusal.{Refusal}
-use Rattle.lyrecanyon.specs.declared.Refusal.the-variants.{NoTable, NoRecord, BadSyntax, UnknownName, UseRule, NamedTwice, BeyondBuffer, BadValue, NotFitting, NoRoom}
+use Rattle.rules.specs.Numbers.{refusal-number}
 use Rattle.lyrecanyon.specs.declared.Answer.{Answer}
 use Rattle.lyrecanyon.specs.declared.Answer.the-variants.{Done, Refused}
-
--- The number of each refusal.
-abbrev pub refusal-number : Refusal → ℕ
-refusal-number NoTable = 1
-refusal-number NoRecord = 2
-refusal-number BadSyntax = 3
-refusal-number UnknownName = 4
-refusal-number UseRule = 5
-refusal-number NamedTwice = 6
-refusal-number BeyondBuffer = 7
-refusal-number BadValue = 8
-refusal-number NotFitting = 9
-refusal-number NoRoom = 10
 
 -- "0: done; the length used is returned"; "A refusal returns length 0".
 abbrev pub answer-number : Answer → ℕ
@@ -37,15 +23,17 @@ abbrev pub outcome-number : {A : Type 0} → Outcome A → ℕ
 outcome-number (done a) = 0
 outcome-number (refused n) = n
 
--- An answer, and the lent slice behind it, are an outcome's: its number, its length, and every byte. "A refusal .. changes no byte.
--- Success writes the returned length from the start and no byte after."
-pub record Settled (o : Outcome Bytes) (entry exit : Bytes) (r : Answer) : Type 0 where
-  pub number : answer-number r ≡ outcome-number o
-  pub size : answer-length r ≡ length (bytes-of o)
-  pub bytes : exit ≡ bytes-of o ++ drop (length (bytes-of o)) entry
-
--- The same as C has it: the number returned, the length used, and the lent slice.
-pub record Exported (o : Outcome Bytes) (entry exit : Bytes) (used number : ℕ) : Type 0 where
+-- What a service returns, and the lent slice after it, are an outcome's: its number, its length, and every byte. "A refusal .. changes no
+-- byte. Success writes the returned length from the start and no byte after."
+pub record Returns (o : Outcome Bytes) (entry exit : Bytes) (number size : ℕ) : Type 0 where
   pub number-is : number ≡ outcome-number o
-  pub used-is : used ≡ length (bytes-of o)
+  pub size-is : size ≡ length (bytes-of o)
   pub bytes-are : exit ≡ bytes-of o ++ drop (length (bytes-of o)) entry
+
+-- The same of an answer.
+abbrev pub Settled : Outcome Bytes → Bytes → Bytes → Answer → Type 0
+Settled o entry exit r = Returns o entry exit (answer-number r) (answer-length r)
+
+-- The same as C has it: the length used is written, and the number returned.
+abbrev pub Exported : Outcome Bytes → Bytes → Bytes → ℕ → ℕ → Type 0
+Exported o entry exit used number = Returns o entry exit number used

@@ -1,4 +1,4 @@
-// The services: read, update, and the empty record of a table.
+// The services: read, and the empty record of a table.
 ghost use mathlib.Core.Path.{_≡_};
 ghost use Prim.Native.Nat.{_≤_, min};
 ghost use lib.ListN.{length};
@@ -6,74 +6,24 @@ ghost use Rattle.rules.specs.Limits.{longest-items};
 ghost use Rattle.rules.specs.Services as Rules;
 ghost use Rattle.tables.specs.Entries.{Valid, entries-of};
 ghost use Rattle.records.specs.Places.{Holds};
-ghost use Rattle.lyrecanyon.specs.Answers.{Settled, Exported, refusal-number, answer-number, answer-length};
-use reading::Next;
+ghost use Rattle.lyrecanyon.specs.Answers.{Settled, Exported, answer-number, answer-length};
+use filling::Next;
+use rules::Refusal;
 
-// Answers up to so many bytes are made in a work area first, so that one pass over the format is enough.
+// An answer up to this length is made in a work area first, so that one pass over the format is enough.
 const LARGE: usize = 4096;
 
-// A short format of a short record has a short answer, mostly: a small area does, which is sooner cleared.
+// Short formats on short records mostly give short answers; a smaller work area is cheaper to clear.
 const SMALL: usize = 512;
 
 const SHORT_FORMAT: usize = 64;
 
 const SHORT_RECORD: usize = 256;
 
-// Why a call is refused: the numbers 1 to 10 of document 01, in their order.
-pub enum Refusal {
-    NoTable,
-    NoRecord,
-    BadSyntax,
-    UnknownName,
-    UseRule,
-    NamedTwice,
-    BeyondBuffer,
-    BadValue,
-    NotFitting,
-    NoRoom,
-}
-
-// What a service answers: done with so many bytes written, or refused with nothing changed.
+// What a service answers: done, with the number of bytes written, or refused with nothing changed.
 pub enum Answer {
     Done(usize),
     Refused(Refusal),
-}
-
-// The number of a refusal.
-fn refusal_number(x: Refusal) -> u8
-    ensures { λ r. ⌜ r ≡ refusal-number x ⌝ }
-{
-    match x {
-        Refusal::NoTable => 1,
-        Refusal::NoRecord => 2,
-        Refusal::BadSyntax => 3,
-        Refusal::UnknownName => 4,
-        Refusal::UseRule => 5,
-        Refusal::NamedTwice => 6,
-        Refusal::BeyondBuffer => 7,
-        Refusal::BadValue => 8,
-        Refusal::NotFitting => 9,
-        Refusal::NoRoom => 10,
-    }
-}
-
-// The refusal with a number.
-fn refusal_of(n: u8) -> Refusal
-    requires { ⌜ (1 ≤ n) × (n ≤ 10) ⌝ }
-    ensures { λ r. ⌜ refusal-number r ≡ n ⌝ }
-{
-    match n {
-        1 => Refusal::NoTable,
-        2 => Refusal::NoRecord,
-        3 => Refusal::BadSyntax,
-        4 => Refusal::UnknownName,
-        5 => Refusal::UseRule,
-        6 => Refusal::NamedTwice,
-        7 => Refusal::BeyondBuffer,
-        8 => Refusal::BadValue,
-        9 => Refusal::NotFitting,
-        _ => Refusal::NoRoom,
-    }
 }
 
 impl Answer {
@@ -83,7 +33,7 @@ impl Answer {
     {
         match self {
             Answer::Done(_) => 0,
-            Answer::Refused(x) => refusal_number(x),
+            Answer::Refused(x) => rules::refusal_number(x),
         }
     }
 
@@ -118,7 +68,7 @@ fn read_long(
 {
     let next = reading::scan(table, stored, places, format, buffer, end, false);
     match next {
-        Next::Refused(n) => Answer::Refused(refusal_of(n)),
+        Next::Refused(x) => Answer::Refused(x),
         Next::At(used) => {
             reading::scan(table, stored, places, format, buffer, end, true);
             Answer::Done(used)
@@ -142,15 +92,15 @@ fn read_short(
     let room = least(end, area.len());
     let next = reading::scan(table, stored, places, format, area, room, true);
     match next {
-        Next::Refused(n) => {
-            if n != 7 {
-                return Answer::Refused(refusal_of(n));
+        Next::Refused(x) => match x {
+            Refusal::BeyondBuffer => {
+                if room < end {
+                    return read_long(table, stored, places, format, buffer, end);
+                }
+                Answer::Refused(x)
             }
-            if room < end {
-                return read_long(table, stored, places, format, buffer, end);
-            }
-            Answer::Refused(Refusal::BeyondBuffer)
-        }
+            _ => Answer::Refused(x),
+        },
         Next::At(made) => {
             buffer::put(&area[..made], buffer, 0);
             Answer::Done(made)
@@ -184,11 +134,11 @@ pub fn read(table: &[u8], stored: &[u8], format: &[u8], buffer: &mut [u8]) -> An
     ensures { λ r. ⌜ Settled (Rules.read (now (table .entry)) (now (stored .entry)) (now (format .entry)) (length (now (buffer .entry)))) (now (buffer .entry)) (now (buffer .exit)) r ⌝ }
 {
     if !tables::valid(table) {
-        return Answer::Refused(Refusal::NoTable);
+        return Answer::Refused(Refusal::BadTable);
     }
     let mut places = [0u16; records::DIRECTORY];
     if !records::walk::check(table, stored, &mut places) {
-        return Answer::Refused(Refusal::NoRecord);
+        return Answer::Refused(Refusal::BadRecord);
     }
     read_items(table, stored, &places, format, buffer)
 }
@@ -214,7 +164,7 @@ pub fn empty(table: &[u8], room: &mut [u8]) -> Answer
     ensures { λ r. ⌜ Settled (Rules.empty (now (table .entry)) (length (now (room .entry)))) (now (room .entry)) (now (room .exit)) r ⌝ }
 {
     if !tables::valid(table) {
-        return Answer::Refused(Refusal::NoTable);
+        return Answer::Refused(Refusal::BadTable);
     }
     let size = records::empty::empty_length(table);
     if rules::LONGEST_NEW_RECORD < size {

@@ -1,4 +1,4 @@
--- `lyrecanyon::empty` meets its contract: each refusal is the outcome's, and what is put is the whole record, built by itself. Assumes nothing.
+-- `lyrecanyon::empty` meets its contract: each refusal is the outcome's, and what is put is the whole record, built by itself.
 use mathlib.Core.Path.{_≡_, sym, ap, _∙_}
 use native.Mathlib.Omega.{arith}
 use borrow.Author.Tests.{not-true, not-false}
@@ -7,7 +7,7 @@ use lib.Seq.{length-take-le}
 use Rattle.buffer.specs.Splice.{splice}
 use Rattle.buffer.proofs.Laws.{take-splice}
 use Rattle.tables.specs.Entries.{Valid}
-use Rattle.lyrecanyon.specs.declared.Refusal.the-variants.{NoTable, NoRoom}
+use Rattle.rules.specs.declared.Refusal.the-variants.{BadTable, NoRoom}
 use Rattle.lyrecanyon.proofs.Settling.{settled-refused, settled-done}
 use Rattle.lyrecanyon.proofs.Empties.{empty-bytes, empty-size, empty-refused, empty-over, empty-cramped, empty-done}
 use borrow.Author.Needs.{needs}
@@ -27,7 +27,7 @@ valid-requires c κs = search needs
 returns : tie.Need-returns
 returns c =
     let a = c .before .before .before .before .args in
-    settled-refused _ (a .room .now) NoTable (empty-refused (a .table .now) (length (a .room .now)) (sym (c .before .valid .ensures) ∙ not-true (c .before .valid .result) (c .if1 .taken)))
+    settled-refused _ (a .room .now) BadTable (empty-refused (a .table .now) (length (a .room .now)) (sym (c .before .valid .ensures) ∙ not-true (c .before .valid .result) (c .if1 .taken)))
 
 empty-length-requires : tie.Need-empty-length-requires
 empty-length-requires c κs = is-table c

@@ -1,10 +1,10 @@
--- `lyrecanyon::read` meets its contract: table and record are refused as the outcome is, and what passes both tests is left to its items. Assumes nothing.
+-- `lyrecanyon::read` meets its contract: table and record are refused as the outcome is, and what passes both tests is left to its items.
 use mathlib.Core.Path.{sym, _∙_}
 use borrow.Author.Tests.{not-true, not-false}
 use lib.ListN.{length}
 use Rattle.tables.specs.Entries.{Valid}
 use Rattle.records.proofs.Placed.{holds}
-use Rattle.lyrecanyon.specs.declared.Refusal.the-variants.{NoTable, NoRecord}
+use Rattle.rules.specs.declared.Refusal.the-variants.{BadTable, BadRecord}
 use Rattle.lyrecanyon.proofs.Settling.{settled-refused}
 use Rattle.lyrecanyon.proofs.Readings.{read-no-table, read-no-record}
 use borrow.Author.Needs.{needs}
@@ -20,7 +20,7 @@ valid-requires c κs = search needs
 returns : tie.Need-returns
 returns c =
     let a = c .before .before .before .before .before .before .args in
-    settled-refused _ (a .buffer .now) NoTable
+    settled-refused _ (a .buffer .now) BadTable
     (read-no-table (a .table .now) (a .stored .now) (a .format .now) (length (a .buffer .now)) (sym (c .before .valid .ensures) ∙ not-true (c .before .valid .result) (c .if1 .taken)))
 
 check-requires : tie.Need-check-requires
@@ -29,7 +29,7 @@ check-requires c κs = (is-table (c .before), search needs)
 returns-2 : tie.Need-returns-2
 returns-2 c =
     let a = c .before .before .before .before .before .before .before .before .before .args in
-    settled-refused _ (a .buffer .now) NoRecord
+    settled-refused _ (a .buffer .now) BadRecord
     (read-no-record (a .table .now) (a .stored .now) (a .format .now) (length (a .buffer .now)) (is-table (c .before .before .before))
     (sym (c .before .check .ensures .answer) ∙ not-true (c .before .check .result) (c .if2 .taken)))
 

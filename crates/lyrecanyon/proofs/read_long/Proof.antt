@@ -1,4 +1,4 @@
--- `lyrecanyon::read_long` meets its contract: one pass tests the items, and one more writes what has passed. Assumes nothing.
+-- `lyrecanyon::read_long` meets its contract: one pass tests the items, and one more writes what has passed.
 use native.Mathlib.Omega.{arith}
 use Rattle.lyrecanyon.proofs.Readings.{Ready, refused-between, tested-refused, long-read}
 use borrow.Author.Needs.{needs}

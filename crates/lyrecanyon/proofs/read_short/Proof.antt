@@ -1,9 +1,9 @@
--- `lyrecanyon::read_short` meets its contract: what is made in the work area is put to the buffer, a refusal there is the buffer's unless for want of room, and then the rest is left to `read_long`. Assumes nothing.
+-- `lyrecanyon::read_short` meets its contract: what is made in the work area is put to the buffer, a refusal there is the buffer's unless for want of room, and then the rest is left to `read_long`.
 use mathlib.Core.Path.{sym}
 use Prim.Native.Nat.{_≤_}
 use native.Mathlib.Omega.{arith}
 use lib.Seq.{length-take-le}
-use Rattle.lyrecanyon.specs.declared.Refusal.the-variants.{BeyondBuffer}
+use Rattle.rules.specs.declared.Refusal.the-variants.{BeyondBuffer}
 use Rattle.lyrecanyon.proofs.Readings.{Ready, refused-between, all-refused, less-refused, made-within, short-read}
 use borrow.Author.Needs.{needs}
 use Rattle.lyrecanyon.proofs.read_short.Statement.{statement}
