@@ -178,7 +178,7 @@ fn answer_line(line: &[u8], bytes: &mut [u8], room: &mut [u8]) -> Reply
     answer_at(line, source.next, &bytes[..end], room)
 }
 
-// The line of an answer, to the front of out; the place behind it.
+// The line of an answer, to the front of out; the place after it.
 fn put(a: Reply, room: &[u8], out: &mut [u8]) -> usize
     requires { ⌜ (used a ≤ length (now room)) × (length (now room) ≤ 4096) × (8208 ≤ length (now out)) ⌝ }
     ensures { λ r. ⌜ r ≤ length (now (out .entry)) ⌝ }

@@ -3,17 +3,16 @@
 use mathlib.Core.Path.{_≡_, refl, sym, _∙_, ap}
 use mathlib.Core.Bool.{Bool, true, false}
 use mathlib.Core.List.{List, [], _∷_, _++_, append-assoc}
-use Prim.Native.Nat.{ℕ, zero, suc, _+_, _-_, _≤_, _<_}
+use Prim.Native.Nat.{ℕ, _+_, _-_, _≤_}
 use native.Mathlib.Nat.{sub-zero, add-zero}
 use native.Mathlib.Omega.{arith}
-use lib.Dec.{T, leb, leb→le}
+use lib.Dec.{leb, leb→le}
 use lib.ListN.{length, length-append}
-use Rattle.rules.specs.Outcome.{Outcome, done, refused, _>>=_, need, is-done}
+use Rattle.rules.specs.Outcome.{Outcome, done, refused, _>>=_, is-done}
 use Rattle.rules.specs.Lists.{Bytes, bytes-of}
 use Rattle.rules.specs.Numbers.{refusal-number}
 use Rattle.rules.specs.declared.Refusal.{Refusal}
 use Rattle.rules.proofs.Steps.{from-bind, from-need, need-true, done-inj, refused-inj, not-done, by-test, by-outcome, not-both}
-use Rattle.buffer.specs.Splice.{splice}
 use Rattle.buffer.proofs.Laws.{splice-nil, splice-then}
 use Rattle.filling.specs.Filling.{ended, placed, left-as, Counts, together, Filling, Going}
 use Rattle.filling.specs.declared.Next.{Next}

@@ -1,13 +1,12 @@
 -- One item in its room: beyond the end it is refused and nothing changes; within it, it ends after its bytes, written where that is asked.
 use mathlib.Core.Path.{_≡_, refl, sym, _∙_, ap, subst}
 use mathlib.Core.Bool.{Bool, true, false}
-use mathlib.Core.List.{List, [], _∷_}
+use mathlib.Core.List.{[]}
 use Prim.Native.Nat.{ℕ, _+_, _≤_, _<_}
 use native.Mathlib.Nat.{add-zero}
 use native.Mathlib.Omega.{arith}
 use borrow.Author.Tests.{le-leb, lt-leb}
-use lib.Dec.{leb}
-use lib.ListN.{length, set}
+use lib.ListN.{length}
 use Rattle.rules.specs.Outcome.{Outcome, done, refused}
 use Rattle.rules.specs.Lists.{Bytes, bytes-of}
 use Rattle.rules.specs.Numbers.{refusal-number}
@@ -15,7 +14,7 @@ use Rattle.rules.specs.declared.Refusal.{Refusal}
 use Rattle.rules.specs.declared.Refusal.the-variants.{BeyondBuffer}
 use Rattle.buffer.specs.Splice.{splice}
 use Rattle.buffer.proofs.Laws.{splice-nil, length-splice}
-use Rattle.filling.specs.Filling.{placed, left-as, in-room, Filling}
+use Rattle.filling.specs.Filling.{left-as, in-room, Filling}
 use Rattle.filling.specs.declared.Next.the-variants.{At, Refused}
 
 inside-room : (room : ℕ) (bs : Bytes) → length bs ≤ room → in-room room (done bs) ≡ done bs

@@ -49,7 +49,7 @@ carry-start w b end n us q at write out s h f r = record {
   going = going-start (together (end - at) (map (carried-to w) us)) at write out;
 }
 
--- The value that stands first of those that are left, between two places, and those behind it.
+-- The value that stands first of those that are left, between two places, and those after it.
 pub record Ahead (w : Wanted) (b : Bytes) (us : List Bytes) (n from next : ℕ) : Type 0 where
   pub value : Bytes
   pub others : List Bytes

@@ -1,25 +1,19 @@
 -- What is wanted of a cell, run by run: those of its values that exist, and null for the others; values at their own format and length
 -- are the bytes that are stored.
 use mathlib.Core.Path.{_≡_, refl, sym, _∙_, ap, subst}
-use mathlib.Core.Bool.{Bool, true}
+use mathlib.Core.Bool.{Bool}
 use mathlib.Core.List.{List, [], _∷_, _++_, map, map-id}
-use Prim.Native.Nat.{ℕ, zero, suc, pred, _+_, _-_, _*_, _≤_, _<_}
-use native.Mathlib.Nat.{sub-zero, suc-sub-suc, mul-le-mul}
+use Prim.Native.Nat.{ℕ, zero, suc, pred, _+_, _-_, _≤_}
+use native.Mathlib.Nat.{sub-zero, suc-sub-suc}
 use native.Mathlib.Omega.{arith}
-use borrow.Author.Tests.{eqb-true, eqb-false}
-use lib.Dec.{eqb}
 use lib.ListN.{length, take, drop, getD, replicate, length-append, length-take, length-drop, drop-of-length-le, List·getD-eq-default}
 use lib.Seq.{drop-cons, take-nil, take-at}
 use Rattle.rules.specs.Outcome.{Outcome, done}
-use Rattle.rules.specs.Limits.{highest-index}
 use Rattle.rules.specs.Lists.{Bytes, run, join}
-use Rattle.rules.specs.Values.{Format, allowed, content, carried, null}
+use Rattle.rules.specs.Values.{Format, content, carried, null}
 use Rattle.rules.specs.Record.{times, stored-value}
 use Rattle.rules.specs.declared.Refusal.{Refusal}
 use Rattle.rules.proofs.Readers.{times-sound, value-sound}
-use Rattle.rules.proofs.Steps.{by-test}
-use Rattle.values.proofs.Numbered.{longest-size}
-use Rattle.values.proofs.Nulls.{null-0, null-size}
 use Rattle.values.proofs.Meant.{null-carried, carried-itself}
 use Rattle.kinds.specs.Formats.{format-at}
 use Rattle.buffer.proofs.Cases.{by-order}

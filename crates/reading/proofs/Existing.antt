@@ -1,4 +1,4 @@
--- Those of the values wanted that exist, where a cell stands: behind the values before them, so many as the cell has or as are wanted.
+-- Those of the values wanted that exist, where a cell stands: after the values before them, so many as the cell has or as are wanted.
 use mathlib.Core.Path.{_≡_, refl, sym, _∙_, ap}
 use mathlib.Core.Bool.{true, false}
 use mathlib.Core.List.{List, []}
@@ -21,7 +21,7 @@ use Rattle.records.proofs.Cells.{times-first, times-length, counted-many, byte-
 use Rattle.reading.specs.Cells.{Wants, Cell-holds, existing, Exist}
 use Rattle.reading.specs.declared.cells.Wanted.{Wanted}
 
--- The first k of n, and those behind them.
+-- The first k of n, and those after them.
 times-parts : {X C : Type 0} (one : Reader X) (n k : ℕ) (bs : Bytes) {rest : Bytes} {xs : List X} → k ≤ n → times n one bs ≡ done (xs, rest)
     → ((mid : Bytes) → times k one bs ≡ done (take k xs, mid) → times (n - k) one mid ≡ done (drop k xs, rest) → C) → C
 unfolding times

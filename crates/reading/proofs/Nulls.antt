@@ -1,4 +1,4 @@
--- An occurrence that does not exist: each field of the group is null at its own format and length, one behind the other.
+-- An occurrence that does not exist: each field of the group is null at its own format and length, one after the other.
 use mathlib.Core.Path.{_≡_, refl, sym, _∙_, ap, subst}
 use mathlib.Core.Bool.{Bool, true, false}
 use mathlib.Core.List.{List, [], _∷_, _++_, map}

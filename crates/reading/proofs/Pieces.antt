@@ -1,4 +1,4 @@
--- A row of fields as they are stored is put in one piece: each field has one value, carried to its own format and length it is itself, and they stand one behind the other.
+-- A row of fields as they are stored is put in one piece: each field has one value, carried to its own format and length it is itself, and they stand one after the other.
 use mathlib.Core.Path.{_≡_, refl, sym, _∙_, ap, subst}
 use mathlib.Core.Bool.{Bool, true, false}
 use mathlib.Core.List.{List, [], _∷_, _++_, map, map-map, append-nil}

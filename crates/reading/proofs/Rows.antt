@@ -1,4 +1,4 @@
--- Occurrences of a span that stand one behind the other are put in one piece: each fills the buffer by its bytes, and so do all by theirs together.
+-- Occurrences of a span that stand one after the other are put in one piece: each fills the buffer by its bytes, and so do all by theirs together.
 use mathlib.Core.Path.{_≡_, refl, sym, _∙_, ap, subst}
 use mathlib.Core.Bool.{Bool, true, false}
 use mathlib.Core.List.{List, [], _++_, map, append-assoc, append-nil}
@@ -42,7 +42,7 @@ module _ (es : List Entry) (s : Span) where
   pub rows-none : (o last : ℕ) → last < o → rows-items es s o last ≡ []
   rows-none o last h = no-occurrence (asked-of es s) (range (s .«value_from») (s .«value_upto»)) false o last h
 
-  -- Those of the first n occurrences, and those behind them.
+  -- Those of the first n occurrences, and those after them.
   rows-split : (n o : ℕ) → 1 ≤ o → o + n ≤ s .upto + 1 → span-items es s o ≡ rows-items es s o (o + n - 1) ++ span-items es s (o + n)
   rows-split zero o some h =
       let z : o + 0 ≡ o = omega arith in

@@ -36,7 +36,7 @@ run-start es b places end xs at write out k h l = record {
   going = λ r p. going-start (filled (parts es) r (end - at) xs) at write out;
 }
 
--- Items one behind the other, by their bytes.
+-- Items one after the other, by their bytes.
 filled-both : (es : List Entry) (r : Record) (room : ℕ) (xs ys : List Item)
     → filled (parts es) r room (xs ++ ys) ≡ together room (map (item-bytes (parts es) r) xs ++ map (item-bytes (parts es) r) ys)
 filled-both es r room xs ys = filled-together (parts es) r (xs ++ ys) room ∙ ap (together room) (map-append (item-bytes (parts es) r) xs ys)

@@ -23,10 +23,10 @@ use Rattle.formats.specs.Elements.{element-of}
 use Rattle.formats.specs.declared.Element.{Element}
 use Rattle.formats.specs.declared.syntax.Step.the-variants as step
 use Rattle.formats.proofs.StepLaws.{elements-parsed, elements-long, behind-last, behind-more}
-use Rattle.records.specs.Places.{Held, Holds}
+use Rattle.records.specs.Places.{Held}
 use Rattle.uses.specs.Meant.{indexes-kept, Remembers, uses-of}
 use Rattle.uses.proofs.Testing.{no-index, zeros}
-use Rattle.filling.specs.Filling.{Filling, Going}
+use Rattle.filling.specs.Filling.{Going}
 use Rattle.reading.specs.Scan.{filled-upto, answer-of, left-of, Puts, Scans}
 use Rattle.filling.specs.declared.Next.{Next}
 use Rattle.filling.specs.declared.Next.the-variants as next

@@ -1,6 +1,6 @@
--- What is left of a format behind its first element, by what the element means: a refusal stands unless what is left is refused before it, and items come off the front.
-use mathlib.Core.Path.{_≡_, refl, sym, ap, _∙_}
-use mathlib.Core.Bool.{Bool, false}
+-- What is left of a format after its first element, by what the element means: a refusal stands unless what is left is refused before it, and items come off the front.
+use mathlib.Core.Path.{_≡_, refl, ap, _∙_}
+use mathlib.Core.Bool.{Bool}
 use mathlib.Core.List.{List, [], _∷_, _++_}
 use Prim.Native.Nat.{ℕ, _-_, _≤_}
 use native.Mathlib.Omega.{arith}
@@ -14,7 +14,6 @@ use Rattle.rules.specs.Use.{Use as Meaning, Indexes, indexes-after, use-of, use
 use Rattle.rules.specs.Services.{filled}
 use Rattle.rules.specs.declared.Refusal.{Refusal}
 use Rattle.rules.specs.Numbers.{refusal-number}
-use Rattle.rules.proofs.Steps.{by-outcome}
 use Rattle.formats.specs.Syntax.{element-before}
 use Rattle.filling.specs.Filling.{Filling, Going}
 use Rattle.reading.specs.Scan.{filled-upto, left-of}
@@ -93,7 +92,7 @@ module _ (es : List Entry) (r : Record) (end : ℕ) (ls : Indexes) where
   left-bad (NoItem k) n = refl
   left-bad (NoUse k) n = refl
 
-  -- The element x comes first, and the elements xs behind it.
+  -- The element x comes first, and the elements xs after it.
   module _ (x : rules.Element) (xs : Outcome (List rules.Element)) where
     -- One that is not looked at, since one before it is refused.
     pub passed : (n : Refusal) {write : Bool} {out : Bytes} → Going (left-of es r end ls (element-before x xs) (NoUse n)) (left-of es r end ls xs (NoUse n)) 0 0 write out out
@@ -117,7 +116,7 @@ module _ (es : List Entry) (r : Record) (end : ℕ) (ls : Indexes) where
       abbrev more : Outcome (List Meaning)
       more = xs >>= uses es (indexes-after u ls)
 
-      -- Behind an item that is refused.
+      -- After an item that is refused.
       pub used-behind : (n : Refusal) {write : Bool} {out : Bytes} → Going (left-of es r end ls (element-before x xs) (NoItem n)) (left-of es r end (indexes-after u ls) xs (NoItem n)) 0 0 write out out
       unfolding left-of
       used-behind k =

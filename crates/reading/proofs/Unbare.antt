@@ -3,9 +3,7 @@ use mathlib.Core.Path.{_≡_, refl, sym, _∙_, ap}
 use mathlib.Core.Bool.{Bool, false}
 use mathlib.Core.List.{List, [], _∷_, _++_, map}
 use Prim.Native.Nat.{ℕ, zero, suc, _-_}
-use lib.ListN.{length}
-use Rattle.rules.specs.Outcome.{Outcome, done, refused, _>>=_, need}
-use Rattle.rules.specs.Lists.{Bytes, run, join}
+use Rattle.rules.specs.Lists.{run, join}
 use Rattle.rules.specs.Table.{Part}
 use Rattle.rules.specs.Record.{Record}
 use Rattle.rules.specs.Format.{Range}

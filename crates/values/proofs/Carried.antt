@@ -8,7 +8,7 @@ use native.Mathlib.Nat.{not-suc-le-zero}
 use native.Mathlib.Omega.{arith}
 use lib.Dec.{eqb, leb, ltb, leb→le}
 use lib.ListN.{length, replicate, length-append, length-replicate}
-use borrow.Author.Tests.{leb-true, leb-false, lt-leb, le-leb, lt-ltb, le-ltb}
+use borrow.Author.Tests.{leb-true, leb-false, lt-leb, le-leb}
 use Rattle.rules.specs.Outcome.{Outcome, done, refused, _>>=_, need, is-done}
 use Rattle.rules.specs.Characters.{space}
 use Rattle.rules.specs.Limits.{longest-alpha, lowest-word, greatest-word}
@@ -16,7 +16,6 @@ use Rattle.rules.specs.Lists.{Bytes, bytes-of, digits, all, but-last, last}
 use Rattle.rules.specs.Values.{Format, alpha, binary, fixed, packed, unpacked, Value, text, number, allowed, strip, halves, decimal, sign-means, accepted-plus, accepted-minus, meaning, normal, conversion, never, every, in-range, converted, carried}
 use Rattle.rules.specs.Values as Rules
 use Rattle.rules.proofs.Steps.{from-need, done-inj, refused-inj, not-done, T-true}
-use Rattle.buffer.proofs.Cases.{by-order}
 use Rattle.words.specs.Words.{pick, signed-value, word-of, value-of}
 use Rattle.words.specs.declared.Signed.{Signed}
 use Rattle.words.specs.declared.Word.the-variants.{Number, Outside}

@@ -52,7 +52,7 @@ module _ (s : Bytes) (at n : ℕ) (z : n ≡ 0 → ⊥) (h : at ≤ length s) wh
     place = (omega arith, omega arith, omega arith);
   }
 
--- Length 0: a length byte, which counts itself, and the content behind it.
+-- Length 0: a length byte, which counts itself, and the content after it.
 first-nil : first-value 0 [] ≡ refused 7
 unfolding first-value
 first-nil = refl

@@ -8,13 +8,13 @@ use native.Mathlib.Omega.{arith}
 use lib.Dec.{eqb, eqb·suc-suc, leb}
 use lib.ListN.{length, take, getD, replicate, length-append}
 use lib.Seq.{take-suc, take-length, length-take-le}
-use borrow.Author.Tests.{eq-eqb, ne-eqb, eqb-true, eqb-false, le-leb, leb-true}
+use borrow.Author.Tests.{eqb-true, eqb-false, le-leb, leb-true}
 use Rattle.rules.specs.Outcome.{done, refused, is-done}
 use Rattle.rules.specs.Characters.{space}
 use Rattle.rules.specs.Limits.{longest-alpha}
 use Rattle.rules.specs.Lists.{Bytes, bytes-of, same}
 use Rattle.rules.specs.Values.{text, alpha, strip, meaning, normal, carried, converted, conversion, in-range, in-normal-form, with-length-byte}
-use Rattle.rules.proofs.Lists.{text-before, text-before-other, text-before-blank, strip-cons, strip-nil, strip-space, strip-other, strip-again}
+use Rattle.rules.proofs.Lists.{text-before, text-before-other, text-before-blank, strip-cons, strip-nil, strip-space, strip-other}
 use Rattle.rules.proofs.Steps.{by-test, same-same}
 use Rattle.rules.proofs.Done.{is-done-need, done-need, no-length-byte}
 use Rattle.words.proofs.NormalForm.{is-normal-form, compares}

@@ -5,7 +5,6 @@ ghost use mathlib.Core.Bool.{true};
 ghost use mathlib.Core.Logic.{_⊎_};
 ghost use Prim.Native.Nat.{_+_, _<_, _≤_};
 ghost use lib.ListN.{length, drop, replicate};
-ghost use Rattle.rules.specs.Outcome.{is-done};
 ghost use Rattle.rules.specs.Limits.{formats, longest-alpha};
 ghost use Rattle.rules.specs.Lists.{bytes-of, join};
 ghost use Rattle.rules.specs.Values.{packed, first-value, null, in-normal-form, carried};
@@ -14,7 +13,7 @@ ghost use Rattle.rules.specs.Values as Rules;
 ghost use Rattle.values.specs.Formats.{format-at};
 ghost use Rattle.values.specs.Places.{Located};
 ghost use Rattle.values.specs.Normals.{any-normal};
-ghost use Rattle.values.specs.Fits.{fitted, bytes-size};
+ghost use Rattle.values.specs.Fits.{Carrying, fitted, bytes-size};
 
 pub mod carrying;
 pub mod numbers;
@@ -192,9 +191,9 @@ pub fn fits(s: &[u8], from: usize, to: usize, n: usize) -> Fit
     Fit::Refused(Refusal::BadValue)
 }
 
-// The content s of a value at another format and length n, to out from at on.
+// The content s of a value that is carried to another format and length n, to out from at on.
 pub fn carry(s: &[u8], from: usize, to: usize, n: usize, out: &mut [u8], at: usize)
-    requires { ⌜ (from < formats) × (to < formats) × (Rules.allowed (format-at from) (length (now s)) ≡ true) × (Rules.allowed (format-at to) n ≡ true) × (is-done (carried (format-at from) (format-at to) n (now s)) ≡ true) × (at + length (bytes-of (carried (format-at from) (format-at to) n (now s))) ≤ length (now out)) ⌝ }
+    requires { ⌜ Carrying from to n (now s) at (length (now out)) ⌝ }
     ensures { λ _. ⌜ now (out .exit) ≡ splice at (bytes-of (carried (format-at from) (format-at to) n (now (s .entry)))) (now (out .entry)) ⌝ }
 {
     let kind = kinds::conversion(from, to);

@@ -53,7 +53,7 @@ pub fn text_fits(s: &[u8], n: usize) -> bool
     length_fits(text_length(s), n)
 }
 
-// A length byte, which counts itself, and t behind it.
+// A length byte, which counts itself, and t after it.
 fn put_counted(t: &[u8], out: &mut [u8], at: usize)
     requires { ⌜ (length (now t) ≤ longest-alpha) × (at + 1 + length (now t) ≤ length (now out)) ⌝ }
     ensures { λ _. ⌜ now (out .exit) ≡ splice at (suc (length (now (t .entry))) ∷ now (t .entry)) (now (out .entry)) ⌝ }
@@ -63,7 +63,7 @@ fn put_counted(t: &[u8], out: &mut [u8], at: usize)
     buffer::put(t, out, at + 1);
 }
 
-// t, and blanks behind it up to length n.
+// t, and blanks after it up to length n.
 fn put_padded(t: &[u8], n: usize, out: &mut [u8], at: usize)
     requires { ⌜ (length (now t) ≤ n) × (at + n ≤ length (now out)) ⌝ }
     ensures { λ _. ⌜ now (out .exit) ≡ splice at (now (t .entry) ++ replicate (n - length (now (t .entry))) space) (now (out .entry)) ⌝ }

@@ -1,4 +1,4 @@
--- `conversions::answer_content` is safe: a content of an allowed length is itself of an allowed length. Assumes nothing.
+-- `conversions::answer_content` is safe: a content of an allowed length is itself of an allowed length.
 use mathlib.Core.Path.{sym, _∙_}
 use Rattle.values.proofs.Carried.{content-allowed}
 use Rattle.conversions.proofs.Asking.{has-format}

@@ -1,4 +1,4 @@
--- `conversions::answer_line` is safe: the decoded bytes lie within their area. Assumes nothing.
+-- `conversions::answer_line` is safe: the decoded bytes lie within their area.
 use native.Mathlib.Omega.{arith}
 use lib.ListN.{length-take}
 use borrow.Author.Needs.{needs}

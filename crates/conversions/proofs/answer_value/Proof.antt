@@ -1,4 +1,4 @@
--- `conversions::answer_value` is safe: the content of the first value lies in the bytes, and its length is that of the value. Assumes nothing.
+-- `conversions::answer_value` is safe: the content of the first value lies in the bytes, and its length is that of the value.
 use native.Mathlib.Omega.{arith}
 use Rattle.conversions.proofs.Asking.{first-within, first-length}
 use borrow.Author.Needs.{needs}

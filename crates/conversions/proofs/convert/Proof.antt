@@ -1,9 +1,10 @@
--- `conversions::convert` is safe: the formats have their lengths, and room is tested by the length that the value fits. Assumes nothing.
+-- `conversions::convert` is safe: the formats have their lengths, and room is tested by the length that the value fits.
 use mathlib.Core.Path.{sym, ap, _∙_}
 use native.Mathlib.Omega.{arith}
 use Rattle.values.specs.Fits.{fitted}
 use Rattle.rules.specs.Values.{carried}
 use Rattle.kinds.specs.Formats.{format-at}
+use Rattle.values.proofs.Carried.{carried-means}
 use Rattle.conversions.proofs.Asking.{has-format, fit-bytes}
 use borrow.Author.Needs.{needs}
 use Rattle.conversions.proofs.convert.Statement.{statement}
@@ -39,7 +40,11 @@ carry-requires c κs =
     let h = has-format _ _ (sym (t .before .has-length .ensures) ∙ t .if1 .taken) in
     let o = carried (format-at (a .from)) (format-at (a .to)) (a .n) (a .s .now) in
     let q = fit-bytes o _ (ap fitted (sym (c .before .before .before .fit2 .given .1)) ∙ f .fits2 .ensures) in
-    (s .pre .0, h .0, s .pre .1, h .1, q .0, omega (arith, q .1, c .before .if2 .left))
+    record {
+      asked = record { source = s .pre .0; target = h .0; size = s .pre .1; length-there = h .1; value = carried-means _ _ (a .n) (a .s .now) (q .0) };
+      fits = q .0;
+      enough = omega (arith, q .1, c .before .if2 .left);
+    }
 
 same-length : tie.Need-same-length
 same-length c = search needs

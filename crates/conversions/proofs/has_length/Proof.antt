@@ -1,4 +1,4 @@
--- `conversions::has_length` meets its contract: behind the first test the answer is that of `kinds`. Assumes nothing.
+-- `conversions::has_length` meets its contract: after the first test the answer is that of `kinds`.
 use mathlib.Core.Path.{refl}
 use borrow.Author.Tests.{lt-ltb, le-ltb}
 use borrow.Author.Needs.{needs}

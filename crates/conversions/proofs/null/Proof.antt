@@ -1,4 +1,4 @@
--- `conversions::null` is safe: the format has the length, and room is tested. Assumes nothing.
+-- `conversions::null` is safe: the format has the length, and room is tested.
 use mathlib.Core.Path.{sym, _∙_}
 use native.Mathlib.Omega.{arith}
 use Rattle.conversions.proofs.Asking.{has-format}

@@ -1,9 +1,6 @@
 -- `filling::put_blanks` meets its contract: its bytes are so many blanks.
-use mathlib.Core.Path.{refl, sym, _∙_}
 use Prim.Native.Nat.{_-_}
 use native.Mathlib.Omega.{arith}
-use mathlib.Core.List.{List}
-use Prim.Native.Nat.{ℕ}
 use lib.ListN.{replicate, length-replicate}
 use Rattle.rules.specs.Characters.{space}
 use Rattle.filling.proofs.Singles.{item-beyond, item-tested, item-written}

@@ -1,5 +1,5 @@
 -- `filling::put_bytes` meets its contract: its bytes are those.
-use mathlib.Core.Path.{refl, sym, _∙_}
+use mathlib.Core.Path.{refl}
 use Prim.Native.Nat.{_-_}
 use native.Mathlib.Omega.{arith}
 use Rattle.filling.proofs.Singles.{item-beyond, item-tested, item-written}

@@ -1,5 +1,5 @@
 -- `filling::put_count` meets its contract: its byte is the count.
-use mathlib.Core.Path.{refl, sym, _∙_}
+use mathlib.Core.Path.{refl}
 use Prim.Native.Nat.{_-_}
 use native.Mathlib.Omega.{arith}
 use mathlib.Core.List.{_∷_, []}

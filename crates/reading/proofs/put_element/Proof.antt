@@ -1,6 +1,5 @@
--- `reading::put_element` meets its contract: by what the element means, what is left behind it ends and writes as it does with it.
-use mathlib.Core.Path.{_≡_, refl, sym, _∙_}
-use native.Mathlib.Omega.{arith}
+-- `reading::put_element` meets its contract: by what the element means, what is left after it ends and writes as it does with it.
+use mathlib.Core.Path.{refl, sym, _∙_}
 use Rattle.tables.specs.Entries.{entries-of}
 use Rattle.uses.proofs.Testing.{span-known}
 use Rattle.uses.proofs.Ahead.{means-as}

@@ -1,12 +1,18 @@
 -- `reading::put_use` meets its contract: each kind of element has its own items.
-use mathlib.Core.Path.{subst}
+use mathlib.Core.Path.{_≡_, subst}
 use native.Mathlib.Omega.{arith}
 use Rattle.tables.specs.Entries.{entries-of}
 use Rattle.uses.specs.Meant.{Use-held}
+use Rattle.uses.specs.declared.Use.{Use}
+use Rattle.uses.specs.declared.Use.the-variants.{Text}
 use Rattle.reading.proofs.Elements.{use-blanks, use-text, use-group-count, use-value-count, use-span}
 use borrow.Author.Needs.{needs}
 use Rattle.reading.proofs.put_use.Statement.{statement}
 use Rattle.reading.proofs.put_use.Tie as tie
+
+-- What is known of the use, by the kind that it is.
+held : (s : tie.Start) {v : Use} → s .args .u ≡ v → Use-held (entries-of (s .args .t .now)) (s .args .f .now) v
+held s e = subst (Use-held (entries-of (s .args .t .now)) (s .args .f .now)) e (s .pre .1)
 
 enum-known-u : tie.Need-enum-known-u
 enum-known-u c = search needs
@@ -17,29 +23,18 @@ put-blanks-requires c κs = search needs
 enum-known-u-2 : tie.Need-enum-known-u-2
 enum-known-u-2 c = search needs
 
+-- The bounds of a text lie in the format.
+text-held : (c : tie.After-u2) → Use-held (entries-of (c .before .before .before .before .before .before .args .t .now)) (c .before .before .before .before .before .before .args .f .now) (Text (c .u2 .given .0 .0) (c .u2 .given .0 .1 .0))
+text-held c = held (c .before .before .before .before .before .before) (c .u2 .given .1)
+
 sub-put-bytes : tie.Need-sub-put-bytes
-sub-put-bytes c =
-    let s = c .before .before .before .before .before .before .before in
-    let a = s .args in
-    let v = c .before .u2 .given in
-    let w = subst (Use-held (entries-of (a .t .now)) (a .f .now)) (v .1) (s .pre .1) in
-    omega (arith, w .0)
+sub-put-bytes c = let w = text-held (c .before) in omega (arith, w .0)
 
 part-put-bytes-start : tie.Need-part-put-bytes-start
-part-put-bytes-start c =
-    let s = c .before .before .before .before .before .before .before in
-    let a = s .args in
-    let v = c .before .u2 .given in
-    let w = subst (Use-held (entries-of (a .t .now)) (a .f .now)) (v .1) (s .pre .1) in
-    omega (arith, w .0, w .1)
+part-put-bytes-start c = let w = text-held (c .before) in omega (arith, w .0, w .1)
 
 part-put-bytes-end : tie.Need-part-put-bytes-end
-part-put-bytes-end c =
-    let s = c .before .before .before .before .before .before .before in
-    let a = s .args in
-    let v = c .before .u2 .given in
-    let w = subst (Use-held (entries-of (a .t .now)) (a .f .now)) (v .1) (s .pre .1) in
-    omega (arith, w .0, w .1)
+part-put-bytes-end c = let w = text-held (c .before) in omega (arith, w .0, w .1)
 
 put-bytes-requires : tie.Need-put-bytes-requires
 put-bytes-requires c κs = search needs
@@ -50,9 +45,7 @@ enum-known-u-3 c = search needs
 group-count-requires : tie.Need-group-count-requires
 group-count-requires c κs =
     let s = c .before .before .before .before .before .before .before in
-    let a = s .args in
-    let v = c .before .u3 .given in
-    let w = subst (Use-held (entries-of (a .t .now)) (a .f .now)) (v .1) (s .pre .1) in
+    let w = held s (c .before .u3 .given .1) in
     (s .pre .0, w .0, w .1, s .pre .2)
 
 put-count-requires : tie.Need-put-count-requires
@@ -64,9 +57,7 @@ enum-known-u-4 c = search needs
 value-count-requires : tie.Need-value-count-requires
 value-count-requires c κs =
     let s = c .before .before .before .before .before .before .before in
-    let a = s .args in
-    let v = c .before .u4 .given in
-    let w = subst (Use-held (entries-of (a .t .now)) (a .f .now)) (v .1) (s .pre .1) in
+    let w = held s (c .before .u4 .given .1) in
     (s .pre .0, w .0, w .1, w .2, w .4, s .pre .2)
 
 put-count-requires-2 : tie.Need-put-count-requires-2
@@ -78,10 +69,7 @@ enum-known-u-5 c = search needs
 put-span-requires : tie.Need-put-span-requires
 put-span-requires c κs =
     let s = c .before .before .before .before .before .before .before .before in
-    let a = s .args in
-    let v = c .before .before .u5 .given in
-    let w = subst (Use-held (entries-of (a .t .now)) (a .f .now)) (v .1) (s .pre .1) in
-    (s .pre .0, w, s .pre .2, s .pre .3)
+    (s .pre .0, held s (c .before .before .u5 .given .1), s .pre .2, s .pre .3)
 
 same-length : tie.Need-same-length
 same-length c = search needs

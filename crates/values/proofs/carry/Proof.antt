@@ -3,29 +3,13 @@ use mathlib.Core.Path.{_≡_, sym, ap, _∙_}
 use mathlib.Core.Bool.{true, false, false≢true}
 use Rattle.rules.specs.Values.{conversion}
 use Rattle.values.specs.Formats.{format-at, kind-of}
-use Rattle.values.specs.Fits.{Carrying}
 use Rattle.kinds.specs.declared.Kind.{Kind}
 use Rattle.kinds.specs.declared.Kind.the-variants.{Never, Every, Word, Natural}
 use mathlib.Core.Logic.{inl, inr}
-use lib.ListN.{length}
-use Rattle.values.proofs.Carried.{no-conversion, carried-means}
+use Rattle.values.proofs.Carried.{no-conversion}
 use borrow.Author.Needs.{needs}
 use Rattle.values.proofs.carry.Statement.{statement}
 use Rattle.values.proofs.carry.Tie as tie
-
--- What is asked of the functions below.
-carrying : (c : tie.Start) → Carrying (c .args .from) (c .args .to) (c .args .n) (c .args .s .now) (c .args .at) (length (c .args .out .now))
-carrying c = record {
-  asked = record {
-    source = c .pre .0;
-    target = c .pre .1;
-    size = c .pre .2;
-    length-there = c .pre .3;
-    value = carried-means _ _ (c .args .n) (c .args .s .now) (c .pre .4);
-  };
-  fits = c .pre .4;
-  enough = c .pre .5;
-}
 
 -- What the kind that was found says.
 kind-is : (c : tie.After-conversion) (k : Kind) → c .conversion .result ≡ k
@@ -42,25 +26,25 @@ enum-told-2 : tie.Need-enum-told-2
 enum-told-2 c = search needs
 
 carry-every-requires : tie.Need-carry-every-requires
-carry-every-requires c κs = let k = c .before .before .before in (carrying (k .before .before .before), kind-is k Every (c .before .enum-told2 .given .1))
+carry-every-requires c κs = let k = c .before .before .before in (k .before .before .before .pre, kind-is k Every (c .before .enum-told2 .given .1))
 
 enum-told-3 : tie.Need-enum-told-3
 enum-told-3 c = search needs
 
 carry-word-requires : tie.Need-carry-word-requires
-carry-word-requires c κs = let k = c .before .before .before in (carrying (k .before .before .before), inl (kind-is k Word (c .before .enum-told3 .given .1)))
+carry-word-requires c κs = let k = c .before .before .before in (k .before .before .before .pre, inl (kind-is k Word (c .before .enum-told3 .given .1)))
 
 enum-told-4 : tie.Need-enum-told-4
 enum-told-4 c = search needs
 
 carry-word-requires-2 : tie.Need-carry-word-requires-2
-carry-word-requires-2 c κs = let k = c .before .before .before in (carrying (k .before .before .before), inr (kind-is k Natural (c .before .enum-told4 .given .1)))
+carry-word-requires-2 c κs = let k = c .before .before .before in (k .before .before .before .pre, inr (kind-is k Natural (c .before .enum-told4 .given .1)))
 
 returns : tie.Need-returns
 returns c =
     let k = c .before .before in
     let a = k .before .before .before in
-    absurd (false≢true (sym (no-conversion _ _ (a .args .n) (a .args .s .now) (carrying a .asked .value) (kind-is k Never (c .enum-told .given .1))) ∙ a .pre .4))
+    absurd (false≢true (sym (no-conversion _ _ (a .args .n) (a .args .s .now) (a .pre .asked .value) (kind-is k Never (c .enum-told .given .1))) ∙ a .pre .fits))
 
 same-length : tie.Need-same-length
 same-length c = search needs

@@ -1,4 +1,4 @@
--- `values::null_byte` meets its contract: each format but P has one byte for null, and length 0 its length byte. Assumes nothing.
+-- `values::null_byte` meets its contract: each format but P has one byte for null, and length 0 its length byte.
 use Rattle.values.proofs.Nulls.{null-byte-0, null-byte-alpha, null-byte-unpacked, null-byte-other}
 use Rattle.values.proofs.null_byte.Statement.{statement}
 use Rattle.values.proofs.null_byte.Tie as tie

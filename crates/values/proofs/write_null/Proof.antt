@@ -1,4 +1,4 @@
--- `values::write_null` meets its contract: it is one null of several. Assumes nothing.
+-- `values::write_null` meets its contract: it is one null of several.
 use mathlib.Core.Path.{ap, _∙_}
 use native.Mathlib.Omega.{arith}
 use lib.ListN.{length}

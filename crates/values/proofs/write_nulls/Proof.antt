@@ -1,4 +1,4 @@
--- `values::write_nulls` meets its contract: those of P one by one, others are one byte throughout. Assumes nothing.
+-- `values::write_nulls` meets its contract: those of P one by one, others are one byte throughout.
 use mathlib.Core.Path.{_≡_, ap, sym, _∙_, subst}
 use Prim.Native.Nat.{ℕ, _+_, _*_, _≤_}
 use native.Mathlib.Omega.{arith}

@@ -1,4 +1,4 @@
--- `values::write_packed_nulls` meets its contract: the nulls that are left write as all of them do from the start. Assumes nothing.
+-- `values::write_packed_nulls` meets its contract: the nulls that are left write as all of them do from the start.
 use native.Mathlib.Omega.{arith}
 use mathlib.Core.Path.{sym, ap}
 use Prim.Native.Nat.{ℕ, _+_, _-_}

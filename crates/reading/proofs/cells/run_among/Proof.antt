@@ -1,4 +1,4 @@
--- `reading::cells::run_among` meets its contract: the values wanted stand behind those before them, as far as the cell has them.
+-- `reading::cells::run_among` meets its contract: the values wanted stand after those before them, as far as the cell has them.
 use mathlib.Core.Path.{refl, ap}
 use Prim.Native.Nat.{ℕ, _+_, _-_, _≤_}
 use native.Mathlib.Omega.{arith}

@@ -1,6 +1,7 @@
 -- `reading::spans::put_column` meets its contract: the occurrences that are left fill the buffer as all of them do from the start.
 use mathlib.Core.Path.{_≡_, sym, subst}
 use mathlib.Core.Bool.{false}
+use mathlib.Core.List.{_++_}
 use Prim.Native.Nat.{ℕ, _+_, _-_, _≤_, _<_}
 use native.Mathlib.Omega.{arith}
 use lib.ListN.{length, getD}
@@ -24,6 +25,19 @@ Inv-loop t b places s out₀ at end write w path p₀ o₀ out p o =
 
 abbrev μ-loop : tie.MeasureT-loop
 μ-loop t b places s out₀ at end write w path p₀ o₀ out p o = s .upto + 1 - o
+
+-- Where the function starts, and the loop's turn, before a cell that is put.
+abbrev start : tie.After-put-cell Inv-loop μ-loop → tie.Start Inv-loop μ-loop
+start c = c .before .before .before .before .before .before .before .before .before .before .before
+
+abbrev turn : tie.After-put-cell Inv-loop μ-loop → tie.At-loop Inv-loop μ-loop
+turn c = c .before .before .before .before .before
+
+-- The items of the occurrence come first.
+parted : (c : tie.After-put-cell Inv-loop μ-loop) → span-items (entries-of (start c .args .t .now)) (start c .args .s) (turn c .loop .o) ≡ row-items (entries-of (start c .args .t .now)) (start c .args .s) (turn c .loop .o) ++ span-items (entries-of (start c .args .t .now)) (start c .args .s) (turn c .loop .o + 1)
+parted c =
+    let a = start c .args in
+    first-occurrence (asked-of (entries-of (a .t .now)) (a .s)) (range (a .s .«value_from») (a .s .«value_upto»)) false (turn c .loop .o) (a .s .upto) (c .before .before .before .if1 .taken)
 
 wanted-of-requires : tie.Need-wanted-of-requires Inv-loop μ-loop
 wanted-of-requires c κs =
@@ -78,41 +92,44 @@ enum-known-next : tie.Need-enum-known-next Inv-loop μ-loop
 enum-known-next c = search needs
 
 same-length : tie.Need-same-length Inv-loop μ-loop
-same-length c = let g = run-same (c .before .before .before .before .before .before .before .before .before .before .loop .inv .0) in omega arith
+same-length c = let g = run-same (turn (c .before .before .before .before .before) .loop .inv .0) in omega arith
 
 returns : tie.Need-returns Inv-loop μ-loop
 returns c =
-    let s = c .before .before .before .before .before .before .before .before .before .before .before .before .before .before .before .before in
+    let k = c .before .before .before .before .before in
+    let s = start k in
     let a = s .args in
-    let l = c .before .before .before .before .before .before .before .before .before .before .loop in
-    let w = c .before .before .before .before .before .before .before .before .before .before .before .before .wanted-of in
-    let y = c .before .before .before .before .before .before .before .cell-by in
-    let p = c .before .before .before .before .before .before .before .before .before .before .before .path-to in
-    let f = column-fills (a .t .now) (a .b .now) (a .places .now) (s .pre .0) (a .s) (s .pre .1) (s .pre .2) (l .o) (w .result) (w .ensures) (p .result .entry) (p .ensures .0) (y .result) (y .ensures) (l .p) (a .end) (a .write) (c .before .before .before .before .before .put-cell .ensures) in
-    run-off (l .inv .0) (row-items (entries-of (a .t .now)) (a .s) (l .o)) (span-items (entries-of (a .t .now)) (a .s) (l .o + 1)) (first-occurrence (asked-of (entries-of (a .t .now)) (a .s)) (range (a .s .«value_from») (a .s .«value_upto»)) false (l .o) (a .s .upto) (c .before .before .before .before .before .before .before .before .if1 .taken)) f _ (c .before .next .given .1)
+    let l = turn k .loop in
+    let w = turn k .before .before .wanted-of in
+    let p = turn k .before .path-to in
+    let y = k .before .before .cell-by in
+    let f = column-fills (a .t .now) (a .b .now) (a .places .now) (s .pre .0) (a .s) (s .pre .1) (s .pre .2) (l .o) (w .result) (w .ensures) (p .result .entry) (p .ensures .0) (y .result) (y .ensures) (l .p) (a .end) (a .write) (k .put-cell .ensures) in
+    run-off (l .inv .0) (row-items (entries-of (a .t .now)) (a .s) (l .o)) (span-items (entries-of (a .t .now)) (a .s) (l .o + 1)) (parted k) f _ (c .before .next .given .1)
 
 enum-known-next-2 : tie.Need-enum-known-next-2 Inv-loop μ-loop
 enum-known-next-2 c = search needs
 
 add-o : tie.Need-add-o Inv-loop μ-loop
 add-o c =
-    let s = c .before .before .before .before .before .before .before .before .before .before .before .before .before .before .before .before in
+    let k = c .before .before .before .before .before in
+    let s = start k in
     let u = bounds (s .args .s .from) (s .args .s .upto) (s .pre .1 .occurrences) in
-    omega (arith, c .before .before .before .before .before .before .before .before .if1 .taken, u .2)
+    omega (arith, k .before .before .before .if1 .taken, u .2)
 
 loop-less : tie.Need-loop-less Inv-loop μ-loop
-loop-less c = omega (arith, c .before .before .before .before .before .before .before .before .if1 .taken)
+loop-less c = let k = c .before .before .before .before .before in omega (arith, k .before .before .before .if1 .taken)
 
 loop-again : tie.Need-loop-again Inv-loop μ-loop
 loop-again c =
-    let s = c .before .before .before .before .before .before .before .before .before .before .before .before .before .before .before .before in
+    let k = c .before .before .before .before .before in
+    let s = start k in
     let a = s .args in
-    let l = c .before .before .before .before .before .before .before .before .before .before .loop in
-    let w = c .before .before .before .before .before .before .before .before .before .before .before .before .wanted-of in
-    let y = c .before .before .before .before .before .before .before .cell-by in
-    let p = c .before .before .before .before .before .before .before .before .before .before .before .path-to in
-    let f = column-fills (a .t .now) (a .b .now) (a .places .now) (s .pre .0) (a .s) (s .pre .1) (s .pre .2) (l .o) (w .result) (w .ensures) (p .result .entry) (p .ensures .0) (y .result) (y .ensures) (l .p) (a .end) (a .write) (c .before .before .before .before .before .put-cell .ensures) in (
-      run-on (l .inv .0) (row-items (entries-of (a .t .now)) (a .s) (l .o)) (span-items (entries-of (a .t .now)) (a .s) (l .o + 1)) (first-occurrence (asked-of (entries-of (a .t .now)) (a .s)) (range (a .s .«value_from») (a .s .«value_upto»)) false (l .o) (a .s .upto) (c .before .before .before .before .before .before .before .before .if1 .taken)) f _ (c .before .next2 .given .1),
+    let l = turn k .loop in
+    let w = turn k .before .before .wanted-of in
+    let p = turn k .before .path-to in
+    let y = k .before .before .cell-by in
+    let f = column-fills (a .t .now) (a .b .now) (a .places .now) (s .pre .0) (a .s) (s .pre .1) (s .pre .2) (l .o) (w .result) (w .ensures) (p .result .entry) (p .ensures .0) (y .result) (y .ensures) (l .p) (a .end) (a .write) (k .put-cell .ensures) in (
+      run-on (l .inv .0) (row-items (entries-of (a .t .now)) (a .s) (l .o)) (span-items (entries-of (a .t .now)) (a .s) (l .o + 1)) (parted k) f _ (c .before .next2 .given .1),
       omega arith,
     )
 

@@ -1,6 +1,7 @@
 -- `reading::spans::put_null_fields` meets its contract: the nulls that are left fill the buffer as all of them do from the start.
-use Prim.Native.Nat.{_-_}
+use Prim.Native.Nat.{_-_, _≤_, _<_}
 use native.Mathlib.Omega.{arith}
+use lib.ListN.{length}
 use Rattle.tables.specs.Entries.{entries-of}
 use Rattle.tables.proofs.Tables.{valid-most}
 use Rattle.reading.proofs.Values.{own-small, own-allowed}
@@ -14,6 +15,22 @@ Inv-loop t fields n out₀ at end write p₀ k₀ out p k = Nulling (entries-of 
 
 abbrev μ-loop : tie.MeasureT-loop
 μ-loop t fields n out₀ at end write p₀ k₀ out p k = n - k
+
+-- Where the function starts, and the loop's turn, before a field whose nulls are put.
+abbrev start : tie.After-put-nulls Inv-loop μ-loop → tie.Start Inv-loop μ-loop
+start c = c .before .before .before .before .before .before .before .before .before .before
+
+abbrev turn : tie.After-put-nulls Inv-loop μ-loop → tie.At-loop Inv-loop μ-loop
+turn c = c .before .before .before .before .before .before .before
+
+abbrev entry : tie.After-put-nulls Inv-loop μ-loop → tie.After-entry-at Inv-loop μ-loop
+entry c = c .before .before .before .before
+
+less : (c : tie.After-put-nulls Inv-loop μ-loop) → turn c .loop .k < start c .args .n
+less c = c .before .before .before .before .before .before .loop-test .taken
+
+enough : (c : tie.After-put-nulls Inv-loop μ-loop) → start c .args .n ≤ length (start c .args .fields .now)
+enough c = omega (arith, start c .pre .1, start c .pre .2)
 
 loop-holds : tie.Need-loop-holds Inv-loop μ-loop
 loop-holds c =
@@ -55,32 +72,30 @@ enum-known-next : tie.Need-enum-known-next Inv-loop μ-loop
 enum-known-next c = search needs
 
 same-length : tie.Need-same-length Inv-loop μ-loop
-same-length c = let g = c .before .before .before .before .before .before .before .before .before .before .before .before .loop .inv .going .same in omega arith
+same-length c = let g = turn (c .before .before .before .before .before) .loop .inv .going .same in omega arith
 
 returns : tie.Need-returns Inv-loop μ-loop
 returns c =
-    let s = c .before .before .before .before .before .before .before .before .before .before .before .before .before .before .before in
-    let l = c .before .before .before .before .before .before .before .before .before .before .before .before .loop in
-    let less = c .before .before .before .before .before .before .before .before .before .before .before .loop-test .taken in
-    let e = c .before .before .before .before .before .before .before .before .before .entry-at in
-    null-off (s .args .t .now) (s .pre .0) (l .inv) less (omega (arith, s .pre .1, s .pre .2)) (s .pre .3 (l .k) less) (e .result) (e .ensures) (c .before .before .before .before .before .put-nulls .ensures) _ (c .before .next .given .1)
+    let p = c .before .before .before .before .before in
+    let s = start p in
+    let e = entry p .entry-at in
+    null-off (s .args .t .now) (s .pre .0) (turn p .loop .inv) (less p) (enough p) (s .pre .3 (turn p .loop .k) (less p)) (e .result) (e .ensures) (p .put-nulls .ensures) _ (c .before .next .given .1)
 
 enum-known-next-2 : tie.Need-enum-known-next-2 Inv-loop μ-loop
 enum-known-next-2 c = search needs
 
 add-k : tie.Need-add-k Inv-loop μ-loop
-add-k c = omega (arith, c .before .before .before .before .before .before .before .before .before .before .before .loop-test .taken, c .before .before .before .before .before .before .before .before .before .before .before .before .before .before .before .pre .2)
+add-k c = let p = c .before .before .before .before .before in omega (arith, less p, start p .pre .2)
 
 loop-less : tie.Need-loop-less Inv-loop μ-loop
-loop-less c = omega (arith, c .before .before .before .before .before .before .before .before .before .before .before .loop-test .taken)
+loop-less c = omega (arith, less (c .before .before .before .before .before))
 
 loop-again : tie.Need-loop-again Inv-loop μ-loop
 loop-again c =
-    let s = c .before .before .before .before .before .before .before .before .before .before .before .before .before .before .before in
-    let l = c .before .before .before .before .before .before .before .before .before .before .before .before .loop in
-    let less = c .before .before .before .before .before .before .before .before .before .before .before .loop-test .taken in
-    let e = c .before .before .before .before .before .before .before .before .before .entry-at in
-    null-on (s .args .t .now) (s .pre .0) (l .inv) less (omega (arith, s .pre .1, s .pre .2)) (s .pre .3 (l .k) less) (e .result) (e .ensures) (c .before .before .before .before .before .put-nulls .ensures) _ (c .before .next2 .given .1)
+    let p = c .before .before .before .before .before in
+    let s = start p in
+    let e = entry p .entry-at in
+    null-on (s .args .t .now) (s .pre .0) (turn p .loop .inv) (less p) (enough p) (s .pre .3 (turn p .loop .k) (less p)) (e .result) (e .ensures) (p .put-nulls .ensures) _ (c .before .next2 .given .1)
 
 same-length-2 : tie.Need-same-length-2 Inv-loop μ-loop
 same-length-2 c = c .before .loop .inv .going .same

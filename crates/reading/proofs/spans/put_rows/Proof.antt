@@ -1,4 +1,4 @@
--- `reading::spans::put_rows` meets its contract: behind the occurrences that are put together, those that are left fill the buffer as all of these do from their start.
+-- `reading::spans::put_rows` meets its contract: after the occurrences that are put together, those that are left fill the buffer as all of these do from their start.
 use Prim.Native.Nat.{_+_, _-_, _≤_}
 use native.Mathlib.Omega.{arith}
 use Rattle.tables.specs.Entries.{entries-of}
