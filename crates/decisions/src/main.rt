@@ -62,7 +62,7 @@ fn decide_call(bytes: &[u8], c: Call, update: bool) -> u8
     number(decide(&bytes[0..table], &bytes[record..format], update))
 }
 
-// The line that answers a line, to the front of out; the place behind it.
+// The line that answers a line, to the front of out; the place after it.
 fn answer_line(line: &[u8], bytes: &mut [u8], out: &mut [u8]) -> usize
     requires { ⌜ (length (now line) ≤ 2 * length (now bytes)) × (8 ≤ length (now out)) ⌝ }
     ensures { λ r. ⌜ r ≤ length (now (out .entry)) ⌝ }

@@ -6,7 +6,7 @@ use mathlib.Core.Option.{Option, none, some}
 use Prim.Native.Nat.{ℕ}
 use native.Mathlib.Omega.{arith}
 use lib.Dec.{T, eqb, eqb→eq, eqb-refl}
-use Rattle.rules.specs.Outcome.{Outcome, done, refused, _>>=_, need, as-number}
+use Rattle.rules.specs.Outcome.{Outcome, done, refused, _>>=_, need, as-number, is-done}
 use Rattle.rules.specs.Lists.{same, nothing}
 
 pub done-inj : {A : Type 0} {a b : A} → done a ≡ done b → a ≡ b
@@ -94,6 +94,11 @@ from-some-pair p k = let q = some-inj p in k (ap (λ r. r .0) q) (ap (λ r. r .1
 
 pub not-both : _≡_ {A = Bool} false true → ⊥
 not-both p = let z : _≡_ {A = ℕ} 0 1 = cc in omega arith
+
+-- the value of an outcome that is done
+pub from-is-done : {A C : Type 0} (o : Outcome A) → is-done o ≡ true → ((a : A) → o ≡ done a → C) → C
+from-is-done (done a) e k = k a refl
+from-is-done (refused n) e k = absurd (not-both e)
 
 pub true-T : {b : Bool} → b ≡ true → T b
 true-T e = rw e tt

@@ -1,7 +1,7 @@
 -- A table's entries six bytes at a time: what `entries` answers of the first six, and what a done one says of entry i.
 --
 use mathlib.Core.Path.{_≡_, refl, sym, ap, subst, _∙_}
-use mathlib.Core.Bool.{Bool, true, false, not, _&&_, _||_}
+use mathlib.Core.Bool.{Bool, true, false, _&&_, _||_}
 use mathlib.Core.List.{List, [], _∷_}
 use mathlib.Core.Option.{none, some}
 use Prim.Native.Nat.{ℕ, zero, suc, _+_, _*_, _/_, _%_, _-_, _≤_, _<_}
@@ -12,32 +12,18 @@ use lib.Dec.{T, eqb, leb}
 use lib.ListN.{length, getD, drop, length-drop, drop-of-length-le}
 use lib.Seq.{drop-drop}
 use Rattle.rules.specs.Outcome.{Outcome, done, refused, _>>=_, need, is-done}
+use Rattle.rules.specs.Limits.{entry-size}
 use Rattle.rules.specs.Lists.{Bytes, look-up}
-use Rattle.rules.specs.Characters.{space, letter, digit, letter-A, letter-B, letter-E, letter-F, letter-P, letter-U}
-use Rattle.rules.specs.Values.{Format, alpha, binary, fixed, packed, unpacked, allowed}
+use Rattle.rules.specs.Characters.{space, letter}
+use Rattle.rules.specs.Values.{Format, allowed}
 use Rattle.rules.specs.Table.{What, field, group, Entry, format-of, format-letters, is-name, name-of, what-of, entries}
-use Rattle.tables.proofs.Bools.{and-true, and-false, or-true, or-false}
+use Rattle.tables.proofs.Bools.{or-false}
 use Rattle.rules.proofs.Steps.{from-bind, from-need, done-inj, not-done, by-test, by-option, T-true, and-left, and-right}
-use Rattle.tables.specs.Entries.{blank, format-at, number-of, letter-number, decoded, entry-of-bytes, group-letter, is-group, format-number, size-of, is-multiple, is-periodic, bytes-at}
+use Rattle.tables.specs.Entries.{blank, entry-place, letter-number, decoded, entry-of-bytes, group-letter, is-group, format-number, size-of, is-multiple, is-periodic, bytes-at}
 use Rattle.tables.specs.Validity.{right-of}
 use Rattle.kinds.proofs.Letters.{number-small, letter-some, letter-none}
-use Rattle.tables.specs.declared.Entry.{Entry as Decoded}
 
 -- ---- names
-
--- by the answers that decide it: b a digit, b no digit, a no letter
-module _ (a b : ℕ) where
-  pub name-digit : letter a ≡ true → digit b ≡ true → is-name a b ≡ not (eqb a letter-E)
-  unfolding is-name
-  name-digit e d = rw (e, d, or-true (letter b), and-true (eqb a letter-E))
-
-  pub name-letter : letter a ≡ true → digit b ≡ false → is-name a b ≡ letter b
-  unfolding is-name
-  name-letter e d = rw (e, d, or-false (letter b), and-false (eqb a letter-E)) (and-true (letter b))
-
-  pub name-neither : letter a ≡ false → is-name a b ≡ false
-  unfolding is-name
-  name-neither e = rw e
 
 -- two names of two bytes each
 module _ (a b c d : ℕ) (h : b < 256) (k : d < 256) where
@@ -79,8 +65,8 @@ module _ (level letter size option : ℕ) where
 
 -- ---- six bytes
 
-pub six : (bs : Bytes) → 6 ≤ length bs
-    → bs ≡ getD bs 0 0 ∷ getD bs 1 0 ∷ getD bs 2 0 ∷ getD bs 3 0 ∷ getD bs 4 0 ∷ getD bs 5 0 ∷ drop 6 bs
+pub six : (bs : Bytes) → entry-size ≤ length bs
+    → bs ≡ getD bs 0 0 ∷ getD bs 1 0 ∷ getD bs 2 0 ∷ getD bs 3 0 ∷ getD bs 4 0 ∷ getD bs 5 0 ∷ drop entry-size bs
 six [] h = absurd (omega arith)
 six (a ∷ []) h = absurd (omega arith)
 six (a ∷ b ∷ []) h = absurd (omega arith)
@@ -170,9 +156,9 @@ pub record First (n : ℕ) (bs : Bytes) (es : List Entry) : Type 0 where
   pub first : Entry
   pub rest : List Entry
   pub is : es ≡ first ∷ rest
-  pub long : 6 ≤ length bs
+  pub long : entry-size ≤ length bs
   pub made : Made bs first
-  pub behind : entries n (drop 6 bs) ≡ done rest
+  pub behind : entries n (drop entry-size bs) ≡ done rest
 
 pub entries-first : (n : ℕ) (bs : Bytes) (es : List Entry) → entries (suc n) bs ≡ done es → First n bs es
 unfolding entries entry-of-bytes group-letter
@@ -201,22 +187,22 @@ entries-first n (a ∷ b ∷ l ∷ f ∷ s ∷ o ∷ bs) es p =
       behind = k;
     }
 
-pub entries-length : (n : ℕ) (bs : Bytes) (es : List Entry) → entries n bs ≡ done es → (length es ≡ n) × (length bs ≡ n * 6)
+pub entries-length : (n : ℕ) (bs : Bytes) (es : List Entry) → entries n bs ≡ done es → (length es ≡ n) × (length bs ≡ n * entry-size)
 unfolding entries
 entries-length zero [] es p = (ap length (sym (done-inj p)), refl)
 entries-length zero (b ∷ bs) es p = absurd (not-done p)
 entries-length (suc n) bs es p =
     let x = entries-first n bs es p in
-    let h = entries-length n (drop 6 bs) (x .rest) (x .behind) in
-    (ap length (x .is) ∙ ap suc (h .0), omega (arith, h .1, length-drop 6 bs, x .long))
+    let h = entries-length n (drop entry-size bs) (x .rest) (x .behind) in
+    (ap length (x .is) ∙ ap suc (h .0), omega (arith, h .1, length-drop entry-size bs, x .long))
 
-pub entry-made : (n : ℕ) (bs : Bytes) (es : List Entry) (i : ℕ) → entries n bs ≡ done es → i < n → Made (drop (i * 6) bs) (getD es i blank)
+pub entry-made : (n : ℕ) (bs : Bytes) (es : List Entry) (i : ℕ) → entries n bs ≡ done es → i < n → Made (drop (i * entry-size) bs) (getD es i blank)
 entry-made zero bs es i p h = absurd (not-suc-le-zero h)
 entry-made (suc n) bs es zero p h = let x = entries-first n bs es p in rw (x .is) (x .made)
 entry-made (suc n) bs es (suc i) p h =
     let x = entries-first n bs es p in
-    let e : suc i * 6 ≡ 6 + i * 6 = omega arith in
-    rw (x .is, e, ← drop-drop (i * 6) 6 bs) (entry-made n (drop 6 bs) (x .rest) i (x .behind) (le-of-suc-le-suc h))
+    let e : suc i * entry-size ≡ entry-size + i * entry-size = omega arith in
+    rw (x .is, e, ← drop-drop (i * entry-size) entry-size bs) (entry-made n (drop entry-size bs) (x .rest) i (x .behind) (le-of-suc-le-suc h))
 
 -- ---- a turn of the loop over the entries
 
@@ -237,20 +223,20 @@ unfolding entries
 entries-six m a b l f s o bs =
     is-done-both (is-name a b) 1 (what-of l f s o) _ (is-done (entries m bs)) (λ w. is-done-then (entries m bs) _)
 
-pub entries-turn : (m : ℕ) (bs : Bytes) → 6 ≤ length bs → is-done (entries (suc m) bs) ≡ (right-of bs && is-done (entries m (drop 6 bs)))
+pub entries-turn : (m : ℕ) (bs : Bytes) → entry-size ≤ length bs → is-done (entries (suc m) bs) ≡ (right-of bs && is-done (entries m (drop entry-size bs)))
 unfolding right-of
-entries-turn m bs h = ap (λ l. is-done (entries (suc m) l)) (six bs h) ∙ entries-six m _ _ _ _ _ _ (drop 6 bs)
+entries-turn m bs h = ap (λ l. is-done (entries (suc m) l)) (six bs h) ∙ entries-six m _ _ _ _ _ _ (drop entry-size bs)
 
 entries-end : is-done (entries 0 []) ≡ true
 unfolding entries
 entries-end = refl
 
-module _ (t : Bytes) (n i : ℕ) (size : n * 6 + 6 ≡ length t) where
+module _ (t : Bytes) (n i : ℕ) (size : entry-place n ≡ length t) where
   entries-at : i < n → is-done (entries (n - i) (bytes-at t i)) ≡ (right-of (bytes-at t i) && is-done (entries (n - (i + 1)) (bytes-at t (i + 1))))
   entries-at h =
       let e : n - i ≡ suc (n - (i + 1)) = omega arith in
-      let q : (i + 1) * 6 + 6 ≡ i * 6 + 6 + 6 = omega arith in
-      rw (e, q, ← drop-drop 6 (i * 6 + 6) t) (entries-turn (n - (i + 1)) (bytes-at t i) (rw length-drop (omega arith)))
+      let q : entry-place (i + 1) ≡ entry-place i + entry-size = omega arith in
+      rw (e, q, ← drop-drop entry-size (entry-place i) t) (entries-turn (n - (i + 1)) (bytes-at t i) (rw length-drop (omega arith)))
 
   pub right-turn : i < n → right-of (bytes-at t i) ≡ true
       → is-done (entries (n - (i + 1)) (bytes-at t (i + 1))) ≡ is-done (entries (n - i) (bytes-at t i))
@@ -262,4 +248,4 @@ module _ (t : Bytes) (n i : ℕ) (size : n * 6 + 6 ≡ length t) where
   pub last-turn : i ≤ n → n ≤ i → true ≡ is-done (entries (n - i) (bytes-at t i))
   last-turn h k =
       let e : n - i ≡ 0 = omega arith in
-      rw (e, drop-of-length-le t {i = i * 6 + 6} (omega arith)) (sym entries-end)
+      rw (e, drop-of-length-le t {i = entry-place i} (omega arith)) (sym entries-end)

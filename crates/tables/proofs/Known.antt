@@ -3,10 +3,9 @@ use mathlib.Core.Path.{_≡_, refl, ap, subst, _∙_}
 use mathlib.Core.Bool.{Bool, true, false}
 use mathlib.Core.List.{_∷_}
 use Prim.Native.Nat.{ℕ, suc, _+_, _≤_, _<_}
-use native.Mathlib.Omega.{arith}
-use lib.ListN.{length, getD, drop, length-drop}
+use lib.ListN.{length, getD, drop}
 use Rattle.rules.specs.Outcome.{done}
-use Rattle.rules.specs.Limits.{deepest-level}
+use Rattle.rules.specs.Limits.{deepest-level, formats}
 use Rattle.rules.specs.Lists.{Bytes}
 use Rattle.rules.specs.Values.{Format, allowed}
 use Rattle.rules.specs.Table.{What, field, group, fields-below, parts-from}
@@ -15,7 +14,7 @@ use Rattle.tables.specs.Entries.{Valid, entries-of, blank, is-group, for
 use Rattle.tables.specs.Places.{found-at}
 use Rattle.tables.specs.Groups.{group-end}
 use Rattle.tables.proofs.Names.{one-name, find-name}
-use Rattle.tables.proofs.Nesting.{level-range, group-next, run-short}
+use Rattle.tables.proofs.Nesting.{level-range, group-next}
 use Rattle.tables.proofs.Partings.{parts-periodic, parts-members}
 use Rattle.kinds.proofs.Letters.{number-back, number-small}
 use Rattle.tables.proofs.EntryBytes.{Sound}
@@ -23,7 +22,7 @@ use Rattle.tables.proofs.Bools.{clash}
 use Rattle.tables.proofs.Tables.{valid-levels, valid-names, valid-sound}
 
 field-numbers : (l : ℕ) (w : What) → is-group w ≡ false → Sound l w
-    → (format-number w < 5) × (allowed (format-at (format-number w)) (size-of w) ≡ true)
+    → (format-number w < formats) × (allowed (format-at (format-number w)) (size-of w) ≡ true)
 field-numbers l (field f s m) e k = (number-small f, ap (λ (g : Format). allowed g s) (number-back f) ∙ k)
 field-numbers l (group p) e k = clash e
 
@@ -41,22 +40,11 @@ module _ (t : Bytes) (v : Valid t) where
     pub level-known : (1 ≤ getD (entries-of t) i blank .level) × (getD (entries-of t) i blank .level ≤ deepest-level)
     level-known = level-range (entries-of t) (valid-levels t v) i h
 
-    -- a field has a length that its format allows
-    pub length-known : (f : Format) (s : ℕ) (m : Bool) → getD (entries-of t) i blank .what ≡ field f s m → allowed f s ≡ true
-    length-known f s m e = subst (Sound (getD (entries-of t) i blank .level)) e (valid-sound t v i h)
-
     -- the code's numbers of a field: a format that is one, and a length that it allows
     pub field-known : is-group (getD (entries-of t) i blank .what) ≡ false
-        → (format-number (getD (entries-of t) i blank .what) < 5)
+        → (format-number (getD (entries-of t) i blank .what) < formats)
         × (allowed (format-at (format-number (getD (entries-of t) i blank .what))) (size-of (getD (entries-of t) i blank .what)) ≡ true)
     field-known e = field-numbers (getD (entries-of t) i blank .level) (getD (entries-of t) i blank .what) e (valid-sound t v i h)
-
-    -- the members of entry i end within the table
-    pub end-known : (i < group-end (entries-of t) i) × (group-end (entries-of t) i ≤ length (entries-of t))
-    unfolding group-end
-    end-known =
-        let r = run-short (getD (entries-of t) i blank .level) (drop (suc i) (entries-of t)) in
-        (omega arith, omega (arith, r, length-drop (suc i) (entries-of t)))
 
     -- a periodic group has level 1
     pub periodic-level : getD (entries-of t) i blank .what ≡ group true → getD (entries-of t) i blank .level ≡ 1

@@ -3,15 +3,14 @@ use mathlib.Core.Path.{_≡_, refl, sym, _∙_}
 use mathlib.Core.Bool.{Bool, true, false, not, _&&_}
 use mathlib.Core.List.{List, [], _∷_}
 use Prim.Native.Nat.{ℕ, _+_, _≤_, _<_}
-use native.Mathlib.Numerals.{add-one}
 use lib.Dec.{eqb}
 use lib.ListN.{length, getD, drop, drop-of-length-le}
-use lib.Seq.{drop-cons}
 use Rattle.rules.specs.Lists.{all}
 use Rattle.rules.specs.Values.{alpha}
 use Rattle.rules.specs.Table.{What, field, group, Entry, levels, differ, names}
 use Rattle.tables.specs.Entries.{is-group, blank}
 use Rattle.tables.specs.Validity.{follows, unused}
+use Rattle.tables.proofs.EntryFields.{rest-at}
 
 -- all that `levels` asks of the entry before is whether it is a group
 abbrev pub mark : Bool → What
@@ -54,13 +53,10 @@ differ-cons e es = refl
 
 -- ---- a turn at entry i, and the end
 module _ (es : List Entry) (i : ℕ) where
-  rest-at : i < length es → drop i es ≡ getD es i blank ∷ drop (i + 1) es
-  rest-at h = rw (add-one) (drop-cons es i blank h)
-
   levels-at : i < length es → (g : Bool) (l : ℕ)
       → levels (mark g) l (drop i es)
       ≡ (follows g l (getD es i blank .level) && levels (mark (is-group (getD es i blank .what))) (getD es i blank .level) (drop (i + 1) es))
-  levels-at h g l = rw (rest-at h) (levels-cons g l (getD es i blank) (drop (i + 1) es))
+  levels-at h g l = rw (rest-at es i h) (levels-cons g l (getD es i blank) (drop (i + 1) es))
 
   pub levels-turn : i < length es → (g h : Bool) (l k : ℕ) → k ≡ getD es i blank .level → h ≡ is-group (getD es i blank .what) → follows g l k ≡ true
       → levels (mark h) k (drop (i + 1) es) ≡ levels (mark g) l (drop i es)

@@ -1,5 +1,6 @@
 pub mod Bools
 pub mod EntryBytes
+pub mod EntryFields
 pub mod Levels
 pub mod Marks
 pub mod Tables

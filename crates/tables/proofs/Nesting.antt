@@ -9,7 +9,7 @@ use native.Mathlib.Omega.{arith}
 use borrow.Author.Tests.{lt-ltb, le-ltb, leb-true, eqb-true}
 use lib.Dec.{eqb, leb}
 use lib.ListN.{length, getD, drop, drop-of-length-le, length-drop}
-use lib.Seq.{drop-cons, drop-drop, getD-drop}
+use lib.Seq.{drop-drop, getD-drop}
 use Rattle.rules.specs.Limits.{deepest-level}
 use Rattle.rules.specs.Table.{What, field, group, Field, Entry, levels, inside-of, fields-below}
 use Rattle.rules.proofs.Steps.{by-test}
@@ -18,6 +18,7 @@ use Rattle.tables.specs.Entries.{blank, is-group, is-periodic}
 use Rattle.tables.specs.Validity.{follows}
 use Rattle.tables.specs.Places.{inside-before, inside-at}
 use Rattle.tables.specs.Groups.{run-below, group-end, numbers-below, with-number, with-field, field-by, field-at}
+use Rattle.tables.proofs.EntryFields.{rest-at}
 use Rattle.tables.proofs.Levels.{mark, levels-cons, levels-nil}
 use Rattle.tables.proofs.Bools.{clash, and-true, and-false, or-false, and-both}
 use Rattle.tables.proofs.EntryBytes.{Sound}
@@ -177,27 +178,24 @@ numbers-split l deep at (e ∷ es) k = by-order deep (e .level)
 
 -- ---- the same at entry i
 module _ (es : List Entry) (l i : ℕ) where
-  at-rest : i < length es → drop i es ≡ getD es i blank ∷ drop (i + 1) es
-  at-rest h = rw add-one (drop-cons es i blank h)
-
   pub run-more : i < length es → l < getD es i blank .level → run-below l (drop i es) ≡ suc (run-below l (drop (i + 1) es))
-  run-more h k = rw (at-rest h) (run-deeper l (getD es i blank) (drop (i + 1) es) k)
+  run-more h k = rw (rest-at es i h) (run-deeper l (getD es i blank) (drop (i + 1) es) k)
 
   pub run-stop : i < length es → getD es i blank .level ≤ l → run-below l (drop i es) ≡ 0
-  run-stop h k = rw (at-rest h) (run-ends l (getD es i blank) (drop (i + 1) es) k)
+  run-stop h k = rw (rest-at es i h) (run-ends l (getD es i blank) (drop (i + 1) es) k)
 
   pub run-none : length es ≤ i → run-below l (drop i es) ≡ 0
   run-none h = rw (drop-of-length-le es h) (run-nil l)
 
   pub numbers-stop : i < length es → getD es i blank .level ≤ l → numbers-below l i (drop i es) ≡ []
-  numbers-stop h k = rw (at-rest h) (numbers-ends l (getD es i blank) (drop (i + 1) es) i k)
+  numbers-stop h k = rw (rest-at es i h) (numbers-ends l (getD es i blank) (drop (i + 1) es) i k)
 
   pub numbers-none : length es ≤ i → numbers-below l i (drop i es) ≡ []
   numbers-none h = rw (drop-of-length-le es h) (numbers-nil l i)
 
   numbers-more : i < length es → l < getD es i blank .level
       → numbers-below l i (drop i es) ≡ with-number (getD es i blank .what) i (numbers-below l (i + 1) (drop (i + 1) es))
-  numbers-more h k = rw (at-rest h, add-one) (numbers-deeper l (getD es i blank) (drop (suc i) es) i k)
+  numbers-more h k = rw (rest-at es i h, add-one) (numbers-deeper l (getD es i blank) (drop (suc i) es) i k)
 
   pub numbers-field : i < length es → l < getD es i blank .level → is-group (getD es i blank .what) ≡ false
       → numbers-below l i (drop i es) ≡ i ∷ numbers-below l (i + 1) (drop (i + 1) es)

@@ -10,14 +10,15 @@ use borrow.Author.Tests.{eq-eqb, ne-eqb, eqb-true}
 use lib.Dec.{eqb}
 use lib.ListN.{length, getD, take, drop, drop-of-length-le, length-drop}
 use lib.Seq.{drop-cons, getD-drop}
-use Rattle.rules.specs.Outcome.{Outcome, done, refused, _>>=_, is-done}
+use Rattle.rules.specs.Outcome.{done, refused, _>>=_, is-done}
 use Rattle.rules.specs.Values.{Format}
 use Rattle.rules.specs.Table.{What, field, group, Field, Entry, differ, names}
 use Rattle.rules.specs.Use.{fields-to}
-use Rattle.rules.proofs.Steps.{by-test, from-bind, done-inj, not-done}
+use Rattle.rules.proofs.Steps.{by-test, from-bind, from-is-done, done-inj, not-done}
 use Rattle.tables.specs.Entries.{blank, is-group, is-multiple, is-periodic}
 use Rattle.tables.specs.Groups.{with-field, fields-in, Spanned}
 use Rattle.tables.proofs.Bools.{clash}
+use Rattle.tables.proofs.EntryFields.{no-fields, first-field}
 use Rattle.tables.proofs.Names.{one-name}
 use Rattle.tables.proofs.EntryBytes.{is-done-then}
 
@@ -119,20 +120,12 @@ record Reached (n : ℕ) (es : List Entry) (fs : List Field) : Type 0 where
   pub named : getD es last blank .name ≡ n
   pub fields : fs ≡ fields-in (take (suc last) es)
 
-in-nil : fields-in [] ≡ []
-unfolding fields-in
-in-nil = refl
-
-in-cons : (e : Entry) (es : List Entry) → fields-in (e ∷ es) ≡ with-field (e .name) (e .what) (fields-in es)
-unfolding fields-in
-in-cons e es = refl
-
 further : (n : ℕ) (e : Entry) (es : List Entry) (fs : List Field) → Reached n es fs → Reached n (e ∷ es) (with-field (e .name) (e .what) fs)
 further n e es fs r = record {
   last = suc (r .last);
   within = omega (arith, r .within);
   named = r .named;
-  fields = ap (with-field (e .name) (e .what)) (r .fields) ∙ sym (in-cons e (take (suc (r .last)) es));
+  fields = ap (with-field (e .name) (e .what)) (r .fields) ∙ sym (first-field e (take (suc (r .last)) es));
 }
 
 reached-by : (n m l : ℕ) (w : What) (es : List Entry) (fs : List Field) → fields-to n (record { name = m; level = l; what = w } ∷ es) ≡ done fs
@@ -144,7 +137,7 @@ reached-by n m l (field f s false) es fs d r = by-test (eqb m n)
       last = 0;
       within = omega arith;
       named = eqb-true m n e;
-      fields = done-inj (sym d ∙ to-last n m l es f s e) ∙ sym (in-cons _ [] ∙ ap (with-field m (field f s false)) in-nil);
+      fields = done-inj (sym d ∙ to-last n m l es f s e) ∙ sym (first-field _ [] ∙ ap (with-field m (field f s false)) no-fields);
     })
     (λ e. from-bind (fields-to n es) _ (sym (to-more n m l es f s e) ∙ d) λ gs g k.
     subst (Reached n (record { name = m; level = l; what = field f s false } ∷ es)) (done-inj k)
@@ -157,10 +150,6 @@ reached-by n m l (group false) es fs d r = by-test (eqb m n)
 reached : (n : ℕ) (es : List Entry) (fs : List Field) → fields-to n es ≡ done fs → Reached n es fs
 reached n [] fs d = absurd (not-done (sym (to-none [] n 0) ∙ d))
 reached n (e ∷ es) fs d = reached-by n (e .name) (e .level) (e .what) es fs d (λ gs g. reached n es gs g)
-
-from-is-done : {A C : Type 0} (o : Outcome A) → is-done o ≡ true → ((a : A) → o ≡ done a → C) → C
-from-is-done (done a) e k = k a refl
-from-is-done (refused n) e k = clash (sym e)
 
 module _ (es : List Entry) (d : differ (names es) ≡ true) (i j : ℕ) (h : j < length es) where
   -- the last entry of a series is the one of the last name
@@ -179,14 +168,3 @@ module _ (es : List Entry) (d : differ (names es) ≡ true) (i j : ℕ) (h : j <
     upto = λ t. from-is-done (fields-to (getD es j blank .name) (drop i es)) (sym e ∙ t) (λ gs g. series-last gs g .0);
     fields = λ t. from-is-done (fields-to (getD es j blank .name) (drop i es)) (sym e ∙ t) (λ gs g. series-last gs g .1);
   }
-
--- the fields from entry k on to entry j, one at a time
-pub fields-in-at : (es : List Entry) (k j : ℕ) → k ≤ j → j < length es
-    → fields-in (take (suc j - k) (drop k es))
-    ≡ with-field (getD es k blank .name) (getD es k blank .what) (fields-in (take (suc j - (k + 1)) (drop (k + 1) es)))
-fields-in-at es k j h l =
-    let e : suc j - k ≡ suc (suc j - (k + 1)) = omega arith in
-    rw (e, drop-cons es k blank (omega arith), add-one) (in-cons (getD es k blank) (take (suc j - suc k) (drop (suc k) es)))
-
-pub fields-in-end : (es : List Entry) (k j : ℕ) → j < k → fields-in (take (suc j - k) (drop k es)) ≡ []
-fields-in-end es k j h = let e : suc j - k ≡ 0 = omega arith in rw e in-nil

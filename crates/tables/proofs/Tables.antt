@@ -9,12 +9,12 @@ use lib.Dec.{eqb, leb}
 use lib.ListN.{length, getD, take, drop, length-drop}
 use lib.Seq.{drop-drop}
 use Rattle.rules.specs.Outcome.{Outcome, done, refused, _>>=_, need, is-done}
-use Rattle.rules.specs.Limits.{most-entries}
+use Rattle.rules.specs.Limits.{most-entries, table-head-size, entry-size}
 use Rattle.rules.specs.Lists.{Bytes, same}
 use Rattle.rules.specs.Values.{alpha, binary, fixed, packed, unpacked}
 use Rattle.rules.specs.Table.{What, field, group, Entry, entries, levels, differ, names, table-head, table}
 use Rattle.rules.proofs.Steps.{by-test, from-bind, from-need}
-use Rattle.tables.specs.Entries.{listed, Has-entry, Valid, entries-of, blank, format-at, format-number, decoded, what-by, entry-of, entry-of-bytes, bytes-at, group-number, is-group}
+use Rattle.tables.specs.Entries.{listed, entry-place, Has-entry, Valid, entries-of, blank, format-number, decoded, entry-of-bytes, bytes-at, group-number, is-group}
 use Rattle.tables.specs.Validity.{read-entries, Right, headed}
 use Rattle.tables.proofs.Bools.{clash, and-true, and-both, and-four}
 use Rattle.tables.specs.declared.Entry.{Entry as Decoded}
@@ -26,23 +26,23 @@ done-listed (refused n) e = clash (sym e)
 
 -- ---- entries that are right by themselves
 module _ (n : ℕ) (t : Bytes) (v : Right n t) where
-  read : entries n (drop 6 t) ≡ done (read-entries n t)
+  read : entries n (drop table-head-size t) ≡ done (read-entries n t)
   unfolding read-entries
-  read = done-listed (entries n (drop 6 t)) v
+  read = done-listed (entries n (drop table-head-size t)) v
 
   pub read-count : length (read-entries n t) ≡ n
-  read-count = entries-length n (drop 6 t) (read-entries n t) read .0
+  read-count = entries-length n (drop table-head-size t) (read-entries n t) read .0
 
   pub read-reach : (i : ℕ) → i < n → Has-entry t i
-  read-reach i h = omega (arith, entries-length n (drop 6 t) (read-entries n t) read .1, length-drop 6 t)
+  read-reach i h = omega (arith, entries-length n (drop table-head-size t) (read-entries n t) read .1, length-drop table-head-size t)
 
-  read-length : 1 ≤ n → length t ≡ n * 6 + 6
-  read-length h = omega (arith, entries-length n (drop 6 t) (read-entries n t) read .1, length-drop 6 t)
+  read-length : 1 ≤ n → length t ≡ entry-place n
+  read-length h = omega (arith, entries-length n (drop table-head-size t) (read-entries n t) read .1, length-drop table-head-size t)
 
   pub read-made : (i : ℕ) → i < n → Made (bytes-at t i) (getD (read-entries n t) i blank)
   read-made i h =
-      let e : i * 6 + 6 ≡ 6 + i * 6 = omega arith in
-      rw (e, ← drop-drop (i * 6) 6 t) (entry-made n (drop 6 t) (read-entries n t) i read h)
+      let e : entry-place i ≡ table-head-size + i * entry-size = omega arith in
+      rw (e, ← drop-drop (i * entry-size) table-head-size t) (entry-made n (drop table-head-size t) (read-entries n t) i read h)
 
   pub read-decoded : (i : ℕ) → i < n → entry-of-bytes (bytes-at t i) ≡ decoded (getD (read-entries n t) i blank)
   read-decoded i h = read-made i h .read
@@ -76,13 +76,13 @@ module _ (t : Bytes) where
   table-tests : is-done (table t)
       ≡ (same (take 5 t) table-head
       && ((leb 1 (getD t 5 0) && leb (getD t 5 0) most-entries)
-      && (is-done (entries (getD t 5 0) (drop 6 t)) && right-names (read-entries (getD t 5 0) t))))
+      && (is-done (entries (getD t 5 0) (drop table-head-size t)) && right-names (read-entries (getD t 5 0) t))))
   unfolding table read-entries
   table-tests =
       need-then (same (take 5 t) table-head) 1 _
       ∙ ap (λ b. same (take 5 t) table-head && b)
       (need-then (leb 1 (getD t 5 0) && leb (getD t 5 0) most-entries) 1 _
-      ∙ ap (λ b. (leb 1 (getD t 5 0) && leb (getD t 5 0) most-entries) && b) (then-need (entries (getD t 5 0) (drop 6 t)) right-names 1))
+      ∙ ap (λ b. (leb 1 (getD t 5 0) && leb (getD t 5 0) most-entries) && b) (then-need (entries (getD t 5 0) (drop table-head-size t)) right-names 1))
 
 -- ---- what a valid table is
 pub record Tabled (t : Bytes) : Type 0 where
@@ -103,7 +103,7 @@ tabled t v =
     record { head = a .0; some = leb-true _ _ (n .0); most = leb-true _ _ (n .1); right = c .0; levelled = d .0; differing = d .1 }
 
 module _ (t : Bytes) where
-  pub valid-length : Valid t → length t ≡ getD t 5 0 * 6 + 6
+  pub valid-length : Valid t → length t ≡ entry-place (getD t 5 0)
   valid-length v = let x = tabled t v in read-length (getD t 5 0) t (x .right) (x .some)
 
   pub valid-headed : Valid t → headed t ≡ true
@@ -111,34 +111,34 @@ module _ (t : Bytes) where
   valid-headed v =
       let x = tabled t v in
       let l = valid-length v in
-      rw (le-leb 6 (length t) (omega arith), x .head, le-leb 1 (getD t 5 0) (x .some), le-leb (getD t 5 0) most-entries (x .most), eq-eqb (length t) (getD t 5 0 * 6 + 6) l)
+      rw (le-leb table-head-size (length t) (omega arith), x .head, le-leb 1 (getD t 5 0) (x .some), le-leb (getD t 5 0) most-entries (x .most), eq-eqb (length t) (entry-place (getD t 5 0)) l)
 
   headed-each : headed t ≡ true
-      → (6 ≤ length t) × (same (take 5 t) table-head ≡ true) × ((leb 1 (getD t 5 0) && leb (getD t 5 0) most-entries) ≡ true) × (getD t 5 0 * 6 + 6 ≡ length t)
+      → (table-head-size ≤ length t) × (same (take 5 t) table-head ≡ true) × ((leb 1 (getD t 5 0) && leb (getD t 5 0) most-entries) ≡ true) × (entry-place (getD t 5 0) ≡ length t)
   unfolding headed
   headed-each e =
-      let x = and-four (leb 6 (length t)) (same (take 5 t) table-head) (leb 1 (getD t 5 0) && leb (getD t 5 0) most-entries) (eqb (length t) (getD t 5 0 * 6 + 6)) e in
-      (leb-true 6 (length t) (x .0), x .1, x .2, sym (eqb-true (length t) (getD t 5 0 * 6 + 6) (x .3)))
+      let x = and-four (leb table-head-size (length t)) (same (take 5 t) table-head) (leb 1 (getD t 5 0) && leb (getD t 5 0) most-entries) (eqb (length t) (entry-place (getD t 5 0))) e in
+      (leb-true table-head-size (length t) (x .0), x .1, x .2, sym (eqb-true (length t) (entry-place (getD t 5 0)) (x .3)))
 
-  pub headed-long : headed t ≡ true → 6 ≤ length t
+  pub headed-long : headed t ≡ true → table-head-size ≤ length t
   headed-long e = headed-each e .0
 
-  pub headed-length : headed t ≡ true → getD t 5 0 * 6 + 6 ≡ length t
+  pub headed-length : headed t ≡ true → entry-place (getD t 5 0) ≡ length t
   headed-length e = headed-each e .3
 
-  pub valid-by : headed t ≡ true → is-done (table t) ≡ (is-done (entries (getD t 5 0) (drop 6 t)) && right-names (read-entries (getD t 5 0) t))
+  pub valid-by : headed t ≡ true → is-done (table t) ≡ (is-done (entries (getD t 5 0) (drop table-head-size t)) && right-names (read-entries (getD t 5 0) t))
   valid-by e = table-tests t ∙ rw (headed-each e .1, headed-each e .2)
 
   pub headless : headed t ≡ false → false ≡ is-done (table t)
   headless e = by-test (is-done (table t)) (λ v. sym e ∙ valid-headed v ∙ sym v) (λ v. sym v)
 
 -- ---- the entries of a valid table
-table-reads : (t : Bytes) (es : List Entry) → table t ≡ done es → entries (getD t 5 0) (drop 6 t) ≡ done es
+table-reads : (t : Bytes) (es : List Entry) → table t ≡ done es → entries (getD t 5 0) (drop table-head-size t) ≡ done es
 unfolding table
 table-reads t es p =
     from-need (same (take 5 t) table-head) 1 _ p λ h p₁.
     from-need (leb 1 (getD t 5 0) && leb (getD t 5 0) most-entries) 1 _ p₁ λ n p₂.
-    from-bind (entries (getD t 5 0) (drop 6 t)) _ p₂ λ fs r p₃.
+    from-bind (entries (getD t 5 0) (drop table-head-size t)) _ p₂ λ fs r p₃.
     from-need (right-names fs) 1 _ p₃ λ l p₄.
     r ∙ p₄
 
@@ -149,9 +149,6 @@ module _ (t : Bytes) (v : Valid t) where
 
   pub valid-count : length (entries-of t) ≡ getD t 5 0
   valid-count = ap length same-entries ∙ read-count (getD t 5 0) t (tabled t v .right)
-
-  pub valid-some : 1 ≤ length (entries-of t)
-  valid-some = omega (arith, valid-count, tabled t v .some)
 
   pub valid-most : length (entries-of t) ≤ most-entries
   valid-most = omega (arith, valid-count, tabled t v .most)
@@ -178,17 +175,3 @@ module _ (t : Bytes) (v : Valid t) where
     -- a field's length is one that its format allows, and a periodic group has level 1
     pub valid-sound : Sound (getD (entries-of t) i blank .level) (getD (entries-of t) i blank .what)
     valid-sound = valid-made .sound
-
--- ---- an entry of the code and what it means
-what-back : (n l : ℕ) (w : What)
-    → what-by (eqb (format-number w) group-number) (decoded (record { name = n; level = l; what = w })) ≡ w
-unfolding format-at
-what-back n l (field alpha s m) = refl
-what-back n l (field binary s m) = refl
-what-back n l (field fixed s m) = refl
-what-back n l (field packed s m) = refl
-what-back n l (field unpacked s m) = refl
-what-back n l (group p) = refl
-
-pub entry-of-decoded : (e : Entry) → entry-of (decoded e) ≡ e
-entry-of-decoded e = ap (λ (w : What). record { name = e .name; level = e .level; what = w }) (what-back (e .name) (e .level) (e .what))

@@ -54,7 +54,7 @@ abbrev pub format-number : What → ℕ
 format-number (field f n m) = number-of f
 format-number (group p) = group-number
 
--- An entry as the code has it, and back.
+-- An entry as the code has it.
 abbrev pub decoded : Entry → Decoded
 decoded e = record {
   name = e .name;
@@ -64,13 +64,6 @@ decoded e = record {
   multiple = is-multiple (e .what);
   periodic = is-periodic (e .what);
 }
-
-abbrev pub what-by : Bool → Decoded → What
-what-by true r = group (r .periodic)
-what-by false r = field (format-at (r .format)) (r .size) (r .multiple)
-
-abbrev pub entry-of : Decoded → Entry
-entry-of r = record { name = r .name; level = r .level; what = what-by (eqb (r .format) group-number) r }
 
 -- The first six bytes as an entry, whether or not they are right; and whether the letter among them is a group's.
 unfoldable pub entry-of-bytes : Bytes → Decoded

@@ -19,7 +19,7 @@ unfoldable pub run-below : ℕ → List Entry → ℕ
 run-below level [] = 0
 run-below level (e ∷ es) = cond (ltb level (e .level)) (suc (run-below level es)) 0
 
--- The number behind the members of entry i.
+-- The number of the first entry after the members of entry i.
 unfoldable pub group-end : List Entry → ℕ → ℕ
 group-end es i = suc i + run-below (getD es i blank .level) (drop (suc i) es)
 
@@ -40,7 +40,7 @@ abbrev pub with-field : ℕ → What → List Field → List Field
 with-field n (field f s m) fs = record { name = n; format = f; size = s; multiple = m } ∷ fs
 with-field n (group p) fs = fs
 
--- The entry numbers of the fields of a group of a level, from the entries behind it, of which the first has the number given.
+-- The entry numbers of the fields of a group of a level, from the entries after it, of which the first has the number given.
 unfoldable pub numbers-below : ℕ → ℕ → List Entry → List ℕ
 numbers-below level at [] = []
 numbers-below level at (e ∷ es) = cond (ltb level (e .level)) (with-number (e .what) at (numbers-below level (suc at) es)) []
@@ -50,7 +50,7 @@ unfoldable pub fields-in : List Entry → List Field
 fields-in [] = []
 fields-in (e ∷ es) = with-field (e .name) (e .what) (fields-in es)
 
--- What a walk over the entries behind a group leaves: it stands behind the members, and the fields' numbers are written from
+-- What a walk over the entries after a group leaves: it ends after the members, and the fields' numbers are written from
 -- `count` on, with every other byte as it was.
 pub record Expanded (es : List Entry) (level at count : ℕ) (before after : List ℕ) (r : Expansion) : Type 0 where
   pub past : r .next ≡ at + run-below level (drop at es)

@@ -30,7 +30,7 @@ abbrev pub Finds : ℕ → List Entry → Found → Type 0
 Finds n es (At i) = (i < length es) × (find n es ≡ done (found-at es i))
 Finds n es Nothing = find n es ≡ refused 4
 
--- The periodic group that entry i is or lies in: its entry j, with i not behind its last member.
+-- The periodic group that entry i is or lies in: its entry j, with i not after its last member.
 pub record Home (es : List Entry) (i j : ℕ) : Type 0 where
   pub upto : j ≤ i
   pub level : getD es j blank .level ≡ 1

@@ -87,7 +87,7 @@ pub fn level_in(t: &[u8], i: usize) -> u8
     entry_byte(t, i, LEVEL)
 }
 
-// Whether a group's letter stands in entry i.
+// Whether entry i has a group's letter.
 pub fn group_in(t: &[u8], i: usize) -> bool
     requires { ⌜ Has-entry (now t) i ⌝ }
     ensures { λ r. ⌜ r ≡ group-letter (bytes-at (now (t .entry)) i) ⌝ }

@@ -27,13 +27,13 @@ pub fn group_end(t: &[u8], i: usize) -> usize
     j
 }
 
-// Where a walk over entries stands: the next entry, and how many fields were written.
+// How far a walk over entries has come: the next entry, and how many fields were written.
 struct Expansion {
     next: usize,
     count: usize,
 }
 
-// Writes the numbers of the fields among the entries from at on that are deeper than level, a group's members by a call of its own.
+// Writes the numbers of the fields among the entries at and after `at` that are deeper than level, a group's members by a call of its own.
 fn expand_from(
     t: &[u8],
     at: usize,

@@ -6,6 +6,7 @@ use Prim.Native.Nat.{ℕ, _<_, _≤_}
 use native.Mathlib.Omega.{arith}
 use borrow.Author.Tests.{lt-ltb, le-ltb}
 use Rattle.rules.specs.Outcome.{done, refused}
+use Rattle.rules.specs.Limits.{formats}
 use Rattle.rules.specs.Values.{allowed, converts}
 use Rattle.rules.specs.Table.{Field, format-of}
 use Rattle.rules.specs.Use.{format-in-effect, length-in-effect, Asked, asked}
@@ -15,26 +16,26 @@ use Rattle.rules.proofs.Steps.{by-option, from-need, done-inj, not-done, T-true
 use Rattle.tables.proofs.Bools.{and-both}
 use Rattle.uses.specs.Effect.{numbered}
 
-pub numbered-known : (k : ℕ) → k < 5 → numbered k ≡ some (format-at k)
+pub numbered-known : (k : ℕ) → k < formats → numbered k ≡ some (format-at k)
 unfolding numbered
-numbered-known k h = rw (lt-ltb k 5 h)
+numbered-known k h = rw (lt-ltb k formats h)
 
-pub numbered-none : (k : ℕ) → 5 ≤ k → numbered k ≡ none
+pub numbered-none : (k : ℕ) → formats ≤ k → numbered k ≡ none
 unfolding numbered
-numbered-none k h = rw (le-ltb k 5 h)
+numbered-none k h = rw (le-ltb k formats h)
 
 letter-numbered : (b : ℕ) → format-of b ≡ numbered (letter-number b)
 letter-numbered b = by-option (format-of b)
     (λ f e. let n = letter-some b f e in
     e ∙ ap some (sym (number-back f)) ∙ sym (ap numbered n ∙ numbered-known (number-of f) (number-small f)))
-    (λ e. e ∙ sym (ap numbered (letter-none b e) ∙ numbered-none 5 (omega arith)))
+    (λ e. e ∙ sym (ap numbered (letter-none b e) ∙ numbered-none formats (omega arith)))
 
 module _ (f : Field) where
   pub letters : (b : ℕ) → format-in-effect f (some b) ≡ numbered (letter-number b)
   unfolding format-in-effect
   letters b = letter-numbered b
 
-  pub own-format : (g : ℕ) → g < 5 → f .format ≡ format-at g → format-in-effect f none ≡ numbered g
+  pub own-format : (g : ℕ) → g < formats → f .format ≡ format-at g → format-in-effect f none ≡ numbered g
   unfolding format-in-effect
   own-format g h e = ap some e ∙ sym (numbered-known g h)
 
@@ -48,11 +49,11 @@ module _ (f : Field) where
 
 module _ (f : Field) (l g : Option ℕ) where
   module _ (k n : ℕ) (e : format-in-effect f g ≡ numbered k) (s : length-in-effect f l ≡ n) where
-    pub asked-none : 5 ≤ k → refused 5 ≡ asked f l g
+    pub asked-none : formats ≤ k → refused 5 ≡ asked f l g
     unfolding asked
     asked-none h = rw (e ∙ numbered-none k h, asked)
 
-    module _ (h : k < 5) where
+    module _ (h : k < formats) where
       pub asked-fits : allowed (format-at k) n ≡ true → converts (f .format) (format-at k) ≡ true
           → done (record { field = f; format = format-at k; size = n }) ≡ asked f l g
       unfolding asked

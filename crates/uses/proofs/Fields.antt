@@ -9,6 +9,7 @@ use borrow.Author.Tests.{ltb-true, ltb-false}
 use lib.Dec.{eqb, ltb}
 use lib.ListN.{length, getD, take, drop, length-drop}
 use Rattle.rules.specs.Outcome.{Outcome, done, refused, _>>=_, need, is-done}
+use Rattle.rules.specs.Limits.{formats}
 use Rattle.rules.specs.Lists.{all, filter}
 use Rattle.rules.specs.Table.{What, field, group, Field, Entry, fields-below}
 use Rattle.rules.specs.Use.{plain, as-stored, fields-to}
@@ -18,6 +19,7 @@ use Rattle.kinds.specs.Formats.{format-at}
 use Rattle.tables.specs.Entries.{blank, is-group, is-multiple, size-of, format-number}
 use Rattle.tables.specs.Groups.{run-below, group-end, field-by, field-at, with-field, fields-in}
 use Rattle.tables.proofs.Bools.{clash}
+use Rattle.tables.proofs.EntryFields.{no-fields, first-field}
 use Rattle.tables.proofs.Nesting.{below-deeper, below-ends, below-nil, run-nil, run-deeper, run-ends, run-short}
 use Rattle.uses.specs.Meant.{fields-from}
 use Rattle.kinds.proofs.Letters.{number-back, number-small}
@@ -33,7 +35,7 @@ unfolding field-by
 size-by n (field f s m) = refl
 size-by n (group p) = refl
 
-format-by : (n : ℕ) (w : What) → is-group w ≡ false → (field-by n w .format ≡ format-at (format-number w)) × (format-number w < 5)
+format-by : (n : ℕ) (w : What) → is-group w ≡ false → (field-by n w .format ≡ format-at (format-number w)) × (format-number w < formats)
 unfolding field-by
 format-by n (field f s m) e = (sym (number-back f), number-small f)
 format-by n (group p) e = clash e
@@ -48,19 +50,11 @@ module _ (es : List Entry) (i : ℕ) where
   size-at = size-by (getD es i blank .name) (getD es i blank .what)
 
   pub format-of-field : is-group (getD es i blank .what) ≡ false
-      → (field-at es i .format ≡ format-at (format-number (getD es i blank .what))) × (format-number (getD es i blank .what) < 5)
+      → (field-at es i .format ≡ format-at (format-number (getD es i blank .what))) × (format-number (getD es i blank .what) < formats)
   unfolding field-at
   format-of-field e = format-by (getD es i blank .name) (getD es i blank .what) e
 
 -- The fields of a group stand among the entries behind it that are deeper.
-pub no-fields : fields-in [] ≡ []
-unfolding fields-in
-no-fields = refl
-
-pub first-field : (e : Entry) (es : List Entry) → fields-in (e ∷ es) ≡ with-field (e .name) (e .what) (fields-in es)
-unfolding fields-in
-first-field e es = refl
-
 below-run : (l : ℕ) (es : List Entry) → fields-below l es ≡ fields-in (take (run-below l es) es)
 below-run l [] = rw (run-nil l, below-nil l) (sym no-fields)
 below-run l (e ∷ es) =

@@ -3,11 +3,12 @@ use mathlib.Core.Path.{_≡_, refl, sym, _∙_}
 use mathlib.Core.Bool.{Bool, true, false}
 use mathlib.Core.List.{List, [], _∷_}
 use mathlib.Core.Option.{Option}
-use Prim.Native.Nat.{ℕ, _<_}
+use Prim.Native.Nat.{ℕ, _<_, _≤_}
 use borrow.Author.Tests.{eqb-true}
 use lib.Dec.{eqb}
 use lib.ListN.{length, getD}
 use Rattle.rules.specs.Outcome.{Outcome, done, refused}
+use Rattle.rules.specs.Limits.{longest-blanks}
 use Rattle.rules.specs.declared.Refusal.the-variants.{UnknownName}
 use Rattle.rules.specs.Values.{Format}
 use Rattle.rules.specs.Table.{What, field, group, Entry, is-inside}
@@ -135,7 +136,7 @@ module _ (es : List Entry) (n m : ℕ) where
 
 -- Blanks, and a text.
 module _ (es : List Entry) (last : List ℕ) where
-  pub blanks-mean : (n k : ℕ) → k ≡ n → k < 256 → Means es last (element.Blanks n) (meant.As (code.Blanks k))
+  pub blanks-mean : (n k : ℕ) → k ≡ n → k ≤ longest-blanks → Means es last (element.Blanks n) (meant.As (code.Blanks k))
   unfolding use-of
   blanks-mean n k e h = record { answer = λ f ls m. rw e; held = λ f s. h }
 

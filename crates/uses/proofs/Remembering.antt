@@ -9,25 +9,17 @@ use lib.Dec.{eqb}
 use lib.ListN.{length, getD, set, length-set}
 use lib.Seq.{getD-set-same, getD-set-other}
 use Rattle.rules.specs.Lists.{Bytes, filter, look-up}
-use Rattle.rules.specs.Table.{What, field, group, Entry}
+use Rattle.rules.specs.Table.{field, Entry}
 use Rattle.rules.specs.Use.{Asked, Indexes, last-index, indexes-after}
 use Rattle.rules.proofs.Steps.{by-test}
 use Rattle.tables.specs.Entries.{blank}
-use Rattle.tables.specs.Groups.{field-by, field-at}
+use Rattle.tables.specs.Groups.{field-at}
+use Rattle.tables.proofs.EntryFields.{name-at}
 use Rattle.tables.proofs.Bools.{clash}
 use Rattle.uses.specs.Meant.{use-meant, asked-by, Span-held, Remembers, Remembered}
 use Rattle.uses.specs.declared.Span.{Span}
 use Rattle.uses.specs.declared.Use.{Use}
 use Rattle.uses.specs.declared.Use.the-variants.{Values}
-
-name-by : (n : ℕ) (w : What) → field-by n w .name ≡ n
-unfolding field-by
-name-by n (field f s m) = refl
-name-by n (group p) = refl
-
-name-at : (es : List Entry) (i : ℕ) → field-at es i .name ≡ getD es i blank .name
-unfolding field-at
-name-at es i = name-by (getD es i blank .name) (getD es i blank .what)
 
 -- The MU fields of a span.
 abbrev marks : ℕ → List Asked → Indexes

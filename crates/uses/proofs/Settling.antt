@@ -9,6 +9,7 @@ use native.Mathlib.Omega.{arith}
 use lib.ListN.{length, getD, take, drop}
 use lib.Seq.{drop-cons}
 use Rattle.rules.specs.Outcome.{Outcome, done, refused, is-done}
+use Rattle.rules.specs.Limits.{formats}
 use Rattle.rules.specs.Numbers.{refusal-number}
 use Rattle.rules.specs.declared.Refusal.the-variants.{UseRule}
 use Rattle.rules.specs.Lists.{Bytes, absent, all}
@@ -23,6 +24,7 @@ use Rattle.tables.specs.Entries.{Valid, entries-of, blank, is-group, is-multipl
 use Rattle.tables.specs.Places.{inside-at, found-at}
 use Rattle.tables.specs.Groups.{field-at, fields-in, group-end}
 use Rattle.tables.proofs.Bools.{clash}
+use Rattle.tables.proofs.EntryFields.{field-periodic}
 use Rattle.formats.specs.declared.Named.{Named}
 use Rattle.uses.specs.Spread.{occurrences, bracket, spread-of}
 use Rattle.uses.specs.Effect.{length-given, letter-given, asked-at}
@@ -33,7 +35,7 @@ use Rattle.uses.specs.declared.effect.Effect.the-variants as effect
 use Rattle.uses.specs.declared.Use.the-variants as code
 use Rattle.uses.specs.declared.Meant.the-variants as meant
 use Rattle.uses.proofs.Spreading.{one-ordered, upto-one, value-one}
-use Rattle.uses.proofs.Together.{field-periodic, group-some, group-begins, group-inside, group-together, series-outside}
+use Rattle.uses.proofs.Together.{group-some, group-begins, group-inside, group-together, series-outside}
 use Rattle.uses.proofs.Effects.{asked-right}
 use Rattle.uses.proofs.Fields.{group-fields, group-upto, plain-none-multiple, series-none-multiple, series-five}
 
@@ -161,7 +163,7 @@ module _ (es : List Entry) (i last : ℕ) (n : Named) (h : i < length es) (g : i
   pub field-as : (r : Ranges) (k m : ℕ)
       → spread-of (spreads.Over r) ≡ spread (inside-at es i) (field-at es i .multiple) last (occurrences n) (bracket n)
       → asked-at (field-at es i) (effect.At k m) ≡ asked (field-at es i) (length-given n) (letter-given n)
-      → k < 5 → Settles es (field-use es i last n) (meant.As (code.Values (field-span i r k m)))
+      → k < formats → Settles es (field-use es i last n) (meant.As (code.Values (field-span i r k m)))
   field-as r k m p q b =
       let o = spread-in-order (inside-at es i) (field-at es i .multiple) last (occurrences n) (bracket n) _ (sym p) in
       let a = asked-right (field-at es i) (length-given n) (letter-given n) _ (sym q) in

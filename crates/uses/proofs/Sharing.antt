@@ -7,14 +7,15 @@ use native.Mathlib.Omega.{arith}
 use lib.Dec.{eqb, eqb→eq}
 use lib.ListN.{length, getD}
 use Rattle.rules.specs.Lists.{Bytes, any}
-use Rattle.rules.specs.Table.{What, field, group, Entry}
+use Rattle.rules.specs.Table.{field, Entry}
 use Rattle.rules.specs.Use.{Asked, as-stored}
 use Rattle.rules.specs.Use as rules
 use Rattle.rules.specs.Update.{meet, share, name-alike}
 use Rattle.rules.proofs.Steps.{by-test, true-T, eqb-same}
 use Rattle.buffer.proofs.Cases.{by-order}
 use Rattle.tables.specs.Entries.{blank, is-group}
-use Rattle.tables.specs.Groups.{field-by, field-at}
+use Rattle.tables.specs.Groups.{field-at}
+use Rattle.tables.proofs.EntryFields.{name-at}
 use Rattle.tables.proofs.Bools.{clash, and-true, and-false, or-true}
 use Rattle.formats.specs.Elements.{range}
 use Rattle.uses.specs.Meant.{fields-from, asked-of, use-meant, Span-held}
@@ -23,14 +24,9 @@ use Rattle.uses.specs.declared.Span.{Span}
 use Rattle.uses.specs.declared.Use.the-variants.{Values}
 use Rattle.uses.proofs.SpanFields.{no-entry, field-entry, group-entry, asked-one, asked-stored}
 
-name-by : (n : ℕ) (w : What) → field-by n w .name ≡ n
-unfolding field-by
-name-by n (field f s m) = refl
-name-by n (group p) = refl
-
 stored-name : (es : List Entry) (k : ℕ) → as-stored (field-at es k) .field .name ≡ getD es k blank .name
-unfolding as-stored field-at
-stored-name es k = name-by (getD es k blank .name) (getD es k blank .what)
+unfolding as-stored
+stored-name es k = name-at es k
 
 -- One of a list meets a test: the first, or another.
 from-or : {C : Type 0} (a b : Bool) → (a || b) ≡ true → (a ≡ true → C) → (b ≡ true → C) → C

@@ -17,7 +17,7 @@ use Rattle.formats.specs.Elements.{range}
 use Rattle.uses.specs.Meant.{asked-by, asked-of, fields-from, use-meant}
 use Rattle.uses.specs.declared.Span.{Span}
 use Rattle.uses.specs.declared.Use.the-variants.{Values}
-use Rattle.uses.proofs.Fields.{no-fields, first-field}
+use Rattle.tables.proofs.EntryFields.{no-fields, first-field}
 
 pub span-items : (es : List Entry) (f : Bytes) (s : Span)
     → items-of (use-meant es f (Values s)) ≡ value-items (asked-of es s) (range (s .from) (s .upto)) (range (s .«value_from») (s .«value_upto»)) (s .bare)

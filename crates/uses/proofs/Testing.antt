@@ -16,8 +16,7 @@ use Rattle.rules.specs.Format as rules
 use Rattle.rules.specs.Format.{elements}
 use Rattle.rules.specs.Use as rules-use
 use Rattle.rules.specs.Use.{Indexes, last-index, indexes-after, use-of, uses}
-use Rattle.rules.proofs.Steps.{from-bind, from-need, done-inj, not-done}
-use Rattle.tables.proofs.Bools.{clash}
+use Rattle.rules.proofs.Steps.{from-bind, from-need, from-is-done, done-inj, not-done}
 use Rattle.formats.specs.Elements.{element-of}
 use Rattle.formats.specs.Syntax.{parsed, element-before, elements-behind, by-step}
 use Rattle.formats.specs.declared.Element.{Element}
@@ -54,10 +53,6 @@ pub record Testing (es : List Entry) (f : Bytes) (last : List ℕ) (at : ℕ) : 
   pub parsed : parsed (drop at f) ≡ done left
   pub remembers : Remembers es last indexes
   pub rest : (r : Verdict) → Tested (uses es indexes left) r → Tested (uses-of es f) r
-
-pub from-is-done : {A C : Type 0} (o : Outcome A) → is-done o ≡ true → ((a : A) → o ≡ done a → C) → C
-from-is-done (done a) e k = k a refl
-from-is-done (refused n) e k = clash (sym e)
 
 pub no-index : (n : ℕ) → last-index n [] ≡ 0
 unfolding last-index look-up

@@ -20,14 +20,9 @@ use Rattle.buffer.proofs.Cases.{by-order}
 use Rattle.tables.specs.Entries.{Valid, entries-of, blank, is-group, is-periodic}
 use Rattle.tables.specs.Places.{inside-at, inside-before, Home}
 use Rattle.tables.specs.Groups.{run-below, group-end}
-use Rattle.tables.proofs.Bools.{clash}
 use Rattle.tables.proofs.Tables.{valid-sound}
 use Rattle.tables.proofs.Known.{level-known, member-next, one-entry, periodic-level}
 use Rattle.tables.proofs.Nesting.{members-inside, periodic-what, run-nil, run-deeper, run-ends, run-more, run-then}
-
-pub field-periodic : (w : What) → is-group w ≡ false → is-periodic w ≡ false
-field-periodic (field f s m) e = refl
-field-periodic (group p) e = clash e
 
 -- A run, and what is left of it further on.
 run-on : (l : ℕ) (es : List Entry) (k : ℕ) → k ≤ run-below l es → run-below l es ≡ k + run-below l (drop k es)

@@ -15,7 +15,7 @@ use Rattle.uses.specs.declared.Use.{Use}
 use Rattle.uses.specs.declared.Turn.{Turn}
 use Rattle.uses.specs.declared.Turn.the-variants.{More, Last, Refused}
 
--- The uses of the elements from a place of a format on, behind the last index so far of each entry.
+-- The uses of the elements from a place of a format on, after the last index so far of each entry.
 pub record Ahead (es : List Entry) (f : Bytes) (last : List ℕ) (at : ℕ) (us : List rules-use.Use) : Type 0 where
   pub indexes : Indexes
   pub left : List rules.Element
@@ -23,7 +23,7 @@ pub record Ahead (es : List Entry) (f : Bytes) (last : List ℕ) (at : ℕ) (us 
   pub parsed : parsed (drop at f) ≡ done left
   pub meant : uses es indexes left ≡ done us
 
--- Those uses by a step of the code: a use and those behind it, or the last.
+-- Those uses by a step of the code: a use and those after it, or the last.
 abbrev pub by-next : List Entry → Bytes → List ℕ → Turn → List rules-use.Use → Type 0
 by-next es f after (More u place) us = (vs : List rules-use.Use) × (us ≡ use-meant es f u ∷ vs) × Ahead es f after place vs
 by-next es f after (Last u) us = us ≡ use-meant es f u ∷ []

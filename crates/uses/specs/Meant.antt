@@ -5,7 +5,7 @@ use mathlib.Core.List.{List, [], _∷_, map}
 use Prim.Native.Nat.{ℕ, suc, _-_, _+_, _<_, _≤_}
 use lib.ListN.{length, take, drop, getD}
 use Rattle.rules.specs.Outcome.{Outcome, done, refused, _>>=_}
-use Rattle.rules.specs.Limits.{formats, most-entries, highest-index, longest-text}
+use Rattle.rules.specs.Limits.{formats, most-entries, highest-index, longest-blanks, longest-text}
 use Rattle.rules.specs.Numbers.{refusal-number}
 use Rattle.rules.specs.declared.Refusal.{Refusal}
 use Rattle.rules.specs.Lists.{Bytes, all, filter}
@@ -90,7 +90,7 @@ pub record Span-held (es : List Entry) (s : Span) : Type 0 where
   pub grouped : s .standard ≡ true → inside-at es (s .first) ≡ true → (i : ℕ) × (s .first ≡ suc i) × (is-group (getD es i blank .what) ≡ true) × (s .end ≡ group-end es i)
 
 abbrev pub Use-held : List Entry → Bytes → Use → Type 0
-Use-held es f (code.Blanks n) = n < 256
+Use-held es f (code.Blanks n) = n ≤ longest-blanks
 Use-held es f (code.Text from upto) = (from < upto) × (upto ≤ length f) × (upto ≤ from + longest-text)
 Use-held es f (code.GroupCount i) = (i < length es) × (getD es i blank .what ≡ group true)
 Use-held es f (code.ValueCount i k) =

@@ -1,9 +1,6 @@
 -- `decisions::decide` meets its contract: each test's refusal is the first, since those before it passed.
-use mathlib.Core.Path.{_≡_, sym, _∙_}
-use mathlib.Core.Bool.{true}
+use mathlib.Core.Path.{sym, _∙_}
 use borrow.Author.Tests.{not-true, not-false}
-use Rattle.rules.specs.Outcome.{is-done}
-use Rattle.rules.specs.Format.{elements}
 use Rattle.tables.specs.Entries.{Valid}
 use Rattle.decisions.proofs.Deciding.{by-table, by-syntax, by-uses, by-none, by-twice, by-once}
 use borrow.Author.Needs.{needs}

@@ -4,6 +4,7 @@ use native.Mathlib.Omega.{arith}
 use native.Mathlib.Nat.{sub-zero}
 use Prim.Native.Nat.{_≤_, _-_}
 use lib.ListN.{drop}
+use Rattle.rules.specs.Limits.{table-head-size}
 use Rattle.rules.specs.Outcome.{is-done}
 use Rattle.rules.specs.Table.{entries}
 use Rattle.tables.specs.Entries.{bytes-at}
@@ -13,7 +14,7 @@ use Rattle.tables.proofs.validity.entries_right.Statement.{statement}
 use Rattle.tables.proofs.validity.entries_right.Tie as tie
 
 abbrev Inv-loop : tie.InvT-loop
-Inv-loop t n i₀ i = (i ≤ n) × (is-done (entries (n - i) (bytes-at t i)) ≡ is-done (entries n (drop 6 t)))
+Inv-loop t n i₀ i = (i ≤ n) × (is-done (entries (n - i) (bytes-at t i)) ≡ is-done (entries n (drop table-head-size t)))
 
 abbrev μ-loop : tie.MeasureT-loop
 μ-loop t n i₀ i = n - i

@@ -1,12 +1,29 @@
 -- `uses::elements::next_use` meets its contract: the element at the place is the first that is left, and its use the first use.
 use mathlib.Core.Path.{sym, _∙_}
 use native.Mathlib.Omega.{arith}
+use lib.ListN.{drop}
 use Rattle.tables.specs.Entries.{entries-of}
+use Rattle.formats.specs.Syntax.{parsed, Stepped}
+use Rattle.formats.specs.declared.syntax.Step.the-variants.{At}
+use Rattle.uses.specs.Meant.{Means}
+use Rattle.uses.specs.declared.Meant.the-variants.{As}
 use Rattle.uses.proofs.Testing.{span-known}
 use Rattle.uses.proofs.Ahead.{step-as, means-as, next-bad, next-last, next-refused, next-more}
 use borrow.Author.Needs.{needs}
 use Rattle.uses.proofs.elements.next_use.Statement.{statement}
 use Rattle.uses.proofs.elements.next_use.Tie as tie
+
+-- The element at the place, and what it means.
+element : (c : tie.After-e)
+    → (let a = c .before .before .before .before .before .args in
+    Stepped (a .f .now) (a .at) (parsed (drop (a .at) (a .f .now))) (At (c .e .given .0 .0) (c .e .given .0 .1 .0)))
+element c = step-as (c .e .given .1) (c .before .before .next .ensures)
+
+meant : (c : tie.After-u)
+    → (let e = c .before .before .before .before .before in
+    let a = e .before .before .before .before .before .args in
+    Means (entries-of (a .t .now)) (a .last .now) (e .e .given .0 .0) (As (c .u .given .0 .0)))
+meant c = means-as (c .u .given .1) (c .before .before .use-of .ensures)
 
 next-requires : tie.Need-next-requires
 next-requires c κs = search needs
@@ -21,24 +38,24 @@ enum-known-u : tie.Need-enum-known-u
 enum-known-u c = search needs
 
 is-last-requires : tie.Need-is-last-requires
-is-last-requires c κs = step-as (c .before .before .before .before .before .before .e .given .1) (c .before .before .before .before .before .before .before .before .next .ensures) .place .1
+is-last-requires c κs = let u = c .before in element (u .before .before .before .before .before) .place .1
 
 returns : tie.Need-returns
 returns c =
-    let n = step-as (c .before .before .before .before .before .before .before .before .e .given .1) (c .before .before .before .before .before .before .before .before .before .before .next .ensures) in
-    next-last n (sym (c .before .is-last .ensures) ∙ c .if1 .taken) (means-as (c .before .before .before .u .given .1) (c .before .before .before .before .before .use-of .ensures))
+    let u = c .before .before .before in
+    next-last (element (u .before .before .before .before .before)) (sym (c .before .is-last .ensures) ∙ c .if1 .taken) (meant u)
 
 remember-requires : tie.Need-remember-requires
 remember-requires c κs =
-    let s = c .before .before .before .before .before .before .before .before .before .before .before .before .before .before in
-    let n = step-as (c .before .before .before .before .before .before .before .before .before .e .given .1) (c .before .before .before .before .before .before .before .before .before .before .before .next .ensures) in
-    let m = means-as (c .before .before .before .before .u .given .1) (c .before .before .before .before .before .before .use-of .ensures) in
-    (s .pre .0, span-known (entries-of (s .args .t .now)) (s .args .f .now) (c .before .before .before .before .u .given .0 .0) (m .held (s .args .f .now) (n .place .2)), s .pre .2)
+    let u = c .before .before .before .before in
+    let e = u .before .before .before .before .before in
+    let s = e .before .before .before .before .before in
+    (s .pre .0, span-known (entries-of (s .args .t .now)) (s .args .f .now) (u .u .given .0 .0) (meant u .held (s .args .f .now) (element e .place .2)), s .pre .2)
 
 add-t16 : tie.Need-add-t16
 add-t16 c =
-    let n = step-as (c .before .before .before .before .before .before .before .before .before .before .e .given .1) (c .before .before .before .before .before .before .before .before .before .before .before .before .next .ensures) in
-    omega (arith, n .place .1)
+    let u = c .before .before .before .before .before in
+    omega (arith, element (u .before .before .before .before .before) .place .1)
 
 enum-told : tie.Need-enum-told
 enum-told c = search needs
@@ -48,14 +65,11 @@ enum-told-2 c = search needs
 
 returns-2 : tie.Need-returns-2
 returns-2 c =
-    let n = step-as (c .before .before .before .before .before .before .before .before .before .before .e .given .1) (c .before .before .before .before .before .before .before .before .before .before .before .before .next .ensures) in
-    let m = means-as (c .before .before .before .before .before .u .given .1) (c .before .before .before .before .before .before .before .use-of .ensures) in
-    next-more n (sym (c .before .before .before .is-last .ensures) ∙ c .before .before .if1 .left) m (c .remember .ensures)
+    let u = c .before .before .before .before .before in
+    next-more (element (u .before .before .before .before .before)) (sym (c .before .before .before .is-last .ensures) ∙ c .before .before .if1 .left) (meant u) (c .remember .ensures)
 
 returns-3 : tie.Need-returns-3
-returns-3 c =
-    let n = step-as (c .before .before .before .before .before .e .given .1) (c .before .before .before .before .before .before .before .next .ensures) in
-    next-refused n (means-as (c .enum-told .given .1) (c .before .before .use-of .ensures))
+returns-3 c = next-refused (element (c .before .before .before .before .before)) (means-as (c .enum-told .given .1) (c .before .before .use-of .ensures))
 
 returns-4 : tie.Need-returns-4
 returns-4 c = next-bad (step-as (c .enum-told2 .given .1) (c .before .before .next .ensures))

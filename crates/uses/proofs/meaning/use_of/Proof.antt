@@ -1,4 +1,5 @@
 -- `uses::meaning::use_of` meets its contract, element by element.
+use native.Mathlib.Omega.{arith}
 use Rattle.tables.specs.Entries.{entries-of}
 use Rattle.uses.proofs.Finding.{blanks-mean, text-means}
 use borrow.Author.Needs.{needs}
@@ -35,7 +36,7 @@ use-of-names-requires c κs = search needs
 returns : tie.Need-returns
 returns c =
     let s = c .before .before .before .before .before in
-    rw (c .before .before .e .given .1) (blanks-mean (entries-of (s .args .t .now)) _ _ _ (c .byte .ensures .0) (c .byte .ensures .1))
+    rw (c .before .before .e .given .1) (blanks-mean (entries-of (s .args .t .now)) _ _ _ (c .byte .ensures .0) (omega (arith, c .byte .ensures .1)))
 
 returns-2 : tie.Need-returns-2
 returns-2 c = let s = c .before .before .before .before in rw (c .before .e2 .given .1) (text-means (entries-of (s .args .t .now)) _ _ _)
