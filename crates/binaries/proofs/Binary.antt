@@ -14,7 +14,7 @@ use Rattle.rules.specs.Limits.{lowest-word}
 use Rattle.rules.specs.Lists.{Bytes, bytes-of, spelled, digits}
 use Rattle.rules.specs.Values.{number, binary, meaning, normal, carried, converted, conversion, in-range, in-normal-form}
 use Rattle.rules.proofs.Done.{is-done-need, done-need, no-length-byte}
-use Rattle.rules.proofs.Digits.{Below, below-drop, spelled-turn, spelled-end, spelled-behind, spelled-below, spelled-grows, digits-spelled, own-digits, digits-zero}
+use Rattle.rules.proofs.Digits.{Below, below-drop, spelled-turn, spelled-end, spelled-after, spelled-below, spelled-grows, digits-spelled, own-digits, digits-zero}
 use Rattle.buffer.proofs.Cases.{by-order}
 use Rattle.words.specs.Words.{pick, word-of, value-of}
 use Rattle.words.specs.declared.Word.{Word}
@@ -62,7 +62,7 @@ module _ (s : Bytes) (i : ℕ) (h : i < length s) where
   too-large n p l =
       let d = getD s i 0 in
       let e = spelled-turn 256 s i 0 h in
-      let f = spelled-behind 256 (drop (i + 1) s) (0 * 256 + d) in
+      let f = spelled-after 256 (drop (i + 1) s) (0 * 256 + d) in
       let k : 256 ^ n ≤ 256 ^ length (drop (i + 1) s) = pow-le-pow-right {n = 256} (lit< tt) {i = n} {j = length (drop (i + 1) s)} (rw length-drop (omega arith)) in
       omega (arith, mul-le-mul-right (256 ^ length (drop (i + 1) s)) p)
 

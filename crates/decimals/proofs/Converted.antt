@@ -10,7 +10,7 @@ use Rattle.decimals.specs.Decimals.{magnitude-of, Readable, places, inne
 use Rattle.decimals.specs.Conversion.{first-spelled}
 use Rattle.decimals.proofs.Halves.{packed-high, packed-low, unpacked-at}
 use Rattle.decimals.proofs.Sound.{Sound}
-use Rattle.decimals.proofs.Written.{front-drop, front-behind}
+use Rattle.decimals.proofs.Written.{front-drop, front-after-zeros}
 use Rattle.decimals.proofs.FirstDigits.{first-none, first-digit, first-less}
 use Rattle.decimals.proofs.Before.{before-last, before-small}
 
@@ -72,4 +72,4 @@ module _ {p : Bool} {s : Bytes} (v : Sound p s) (n : ℕ) where
   copied-all h =
       let o = v .some in
       let e : n - length s + (length s - 1) ≡ n - 1 = omega arith in
-      rw (before-last v, ← e) (sym (front-behind p (n - length s) (length s - 1) (magnitude-of p s / 10) (before-small v)))
+      rw (before-last v, ← e) (sym (front-after-zeros p (n - length s) (length s - 1) (magnitude-of p s / 10) (before-small v)))

@@ -58,15 +58,15 @@ unfolding byte-base
 base-some true = lit< tt
 base-some false = lit< tt
 
-pub front-behind : (p : Bool) (k m y : ℕ) → y < byte-base p ^ m → front p (k + m) y ≡ replicate k (inner-written p 0) ++ front p m y
-front-behind p k zero y h =
+pub front-after-zeros : (p : Bool) (k m y : ℕ) → y < byte-base p ^ m → front p (k + m) y ≡ replicate k (inner-written p 0) ++ front p m y
+front-after-zeros p k zero y h =
     let z : y ≡ 0 = let q = rw (pow-zero (byte-base p)) at h in omega arith in
     let e : k + 0 ≡ k = omega arith in
     rw (e, z, front-none p 0, append-nil) (zero-front p k)
-front-behind p k (suc m) y h =
+front-after-zeros p k (suc m) y h =
     let e : k + suc m ≡ suc (k + m) = omega arith in
     let q = div-lt-iff-lt-mul (base-some p) .1 (rw (pow-suc (byte-base p) m) at h) in
-    rw (e, front-more p (k + m) y, front-behind p k m (y / byte-base p) q, front-more p m y)
+    rw (e, front-more p (k + m) y, front-after-zeros p k m (y / byte-base p) q, front-more p m y)
     (append-assoc (replicate k (inner-written p 0)) (front p m (y / byte-base p)) (inner-written p (y % byte-base p) ∷ []))
 
 -- ---- the bytes of digits and a sign
@@ -128,15 +128,15 @@ length-written p n below x h =
 
 -- ---- a store after bytes that are still to be written
 
-behind : (out : List ℕ) (at : ℕ) (a : List ℕ) (q v : ℕ) → q ≡ at + length a → q < length out → splice at a (set out q v) ≡ splice at (a ++ (v ∷ [])) out
+store-after : (out : List ℕ) (at : ℕ) (a : List ℕ) (q v : ℕ) → q ≡ at + length a → q < length out → splice at a (set out q v) ≡ splice at (a ++ (v ∷ [])) out
 unfolding splice
-behind [] at a q v e h = absurd (omega arith)
-behind (x ∷ out) zero [] zero v e h = refl
-behind (x ∷ out) zero [] (suc q) v e h = absurd (omega arith)
-behind (x ∷ out) zero (b ∷ a) zero v e h = absurd (omega arith)
-behind (x ∷ out) zero (b ∷ a) (suc q) v e h = ap (λ (l : List ℕ). b ∷ l) (behind out zero a q v (omega arith) (omega arith))
-behind (x ∷ out) (suc at) a zero v e h = absurd (omega arith)
-behind (x ∷ out) (suc at) a (suc q) v e h = ap (λ (l : List ℕ). x ∷ l) (behind out at a q v (omega arith) (omega arith))
+store-after [] at a q v e h = absurd (omega arith)
+store-after (x ∷ out) zero [] zero v e h = refl
+store-after (x ∷ out) zero [] (suc q) v e h = absurd (omega arith)
+store-after (x ∷ out) zero (b ∷ a) zero v e h = absurd (omega arith)
+store-after (x ∷ out) zero (b ∷ a) (suc q) v e h = ap (λ (l : List ℕ). b ∷ l) (store-after out zero a q v (omega arith) (omega arith))
+store-after (x ∷ out) (suc at) a zero v e h = absurd (omega arith)
+store-after (x ∷ out) (suc at) a (suc q) v e h = ap (λ (l : List ℕ). x ∷ l) (store-after out at a q v (omega arith) (omega arith))
 
 -- the last byte first, and then those before it
 pub written-last-first : (p : Bool) (n : ℕ) (below : Bool) (x at : ℕ) (out out′ : List ℕ) (q v : ℕ) → 0 < n → at + n ≤ length out → q ≡ at + (n - 1)
@@ -144,7 +144,7 @@ pub written-last-first : (p : Bool) (n : ℕ) (below : Bool) (x at : ℕ) (out o
     → out′ ≡ splice at (written p n below x) out
 written-last-first p n below x at out out′ q v o h eq ev e =
     let l = length-front p (n - 1) (x / 10) in
-    e ∙ behind out at (front p (n - 1) (x / 10)) q v (omega arith) (omega arith) ∙ rw (ev, ← written-front p n below x o)
+    e ∙ store-after out at (front p (n - 1) (x / 10)) q v (omega arith) (omega arith) ∙ rw (ev, ← written-front p n below x o)
 
 -- writing from the right: with the bytes of the rest before place i, what is written is all of it
 pub record Writing (p : Bool) (n x at : ℕ) (out₀ out : List ℕ) (rest i : ℕ) : Type 0 where
@@ -168,7 +168,7 @@ writing-turn {p} {n} {x} {at} {out₀} {out} {rest} {i} {q} {v} {more} w h eq ev
       fits = w .fits;
       upto = omega arith;
       same = simp length-set (w .same);
-      left = rw (em, ev) (behind out at (front p (i - 1) (rest / byte-base p)) q _ (omega arith) (omega arith) ∙ rw (← front-more p (i - 1) rest, ← e) (w .left));
+      left = rw (em, ev) (store-after out at (front p (i - 1) (rest / byte-base p)) q _ (omega arith) (omega arith) ∙ rw (← front-more p (i - 1) rest, ← e) (w .left));
     }
 
 pub writing-end : {p : Bool} {n x at : ℕ} {out₀ out : List ℕ} {rest i : ℕ} → Writing p n x at out₀ out rest i → i ≤ 0 → out ≡ splice at (front p n x) out₀

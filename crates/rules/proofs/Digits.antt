@@ -37,24 +37,24 @@ pub spelled-end : (b : ℕ) (ds : List ℕ) (i x : ℕ) → length ds ≤ i → 
 spelled-end b ds i x h = rw (drop-of-length-le ds h) (spelled-none b x)
 
 -- What stands before n digits counts the base to the power of n times.
-pub spelled-behind : (b : ℕ) (ds : List ℕ) (x : ℕ) → spelled b ds x ≡ x * b ^ length ds + spelled b ds 0
+pub spelled-after : (b : ℕ) (ds : List ℕ) (x : ℕ) → spelled b ds x ≡ x * b ^ length ds + spelled b ds 0
 unfolding spelled
-spelled-behind b [] x = rw (pow-zero b) (omega arith)
-spelled-behind b (d ∷ ds) x =
-    let h = spelled-behind b ds (x * b + d) in
-    let g = spelled-behind b ds (0 * b + d) in
+spelled-after b [] x = rw (pow-zero b) (omega arith)
+spelled-after b (d ∷ ds) x =
+    let h = spelled-after b ds (x * b + d) in
+    let g = spelled-after b ds (0 * b + d) in
     rw (pow-suc b (length ds)) (omega arith)
 
 pub spelled-grows : (b : ℕ) (ds : List ℕ) (x : ℕ) → 0 < b → x ≤ spelled b ds x
 spelled-grows b ds x o =
     let m : x * 1 ≤ x * b ^ length ds = mul-le-mul-left x (one-le-pow (length ds) b o) in
-    rw (spelled-behind b ds x) (omega arith)
+    rw (spelled-after b ds x) (omega arith)
 
 pub spelled-below : (b : ℕ) (ds : List ℕ) → Below b ds → spelled b ds 0 < b ^ length ds
 unfolding spelled
 spelled-below b [] h = rw (pow-zero b) (omega arith)
 spelled-below b (d ∷ ds) h =
-    let g = spelled-behind b ds (0 * b + d) in
+    let g = spelled-after b ds (0 * b + d) in
     let k = spelled-below b ds (λ i. h (suc i)) in
     rw (pow-suc b (length ds)) (omega (arith, mul-le-mul-right (b ^ length ds) (h 0)))
 
@@ -65,7 +65,7 @@ spelled-full b d ds h =
     let z : 0 * b + d ≡ d = rw (zero-mul b) (omega arith) in
     let m : 1 * b ^ length ds ≤ d * b ^ length ds = mul-le-mul-right (b ^ length ds) h in
     let o : 1 * b ^ length ds ≡ b ^ length ds = one-mul (b ^ length ds) in
-    rw (z, spelled-behind b ds d) (omega arith)
+    rw (z, spelled-after b ds d) (omega arith)
 
 pub spelled-snoc : (b : ℕ) (ds : List ℕ) (d x : ℕ) → spelled b (ds ++ (d ∷ [])) x ≡ spelled b ds x * b + d
 unfolding spelled
