@@ -135,11 +135,12 @@ fn run_among(b: &[u8], cell: usize, w: Wanted) -> Run
     requires { ⌜ Wants w × ((vs : List Bytes) × Cell-holds (now b) (format-at (w .own)) (w .standard) true vs (At cell)) ⌝ }
     ensures { λ r. ⌜ ((vs : List Bytes) → Cell-holds (now (b .entry)) (format-at (w .own)) (w .standard) true vs (At cell) → Exist w (now (b .entry)) vs r) ⌝ }
 {
-    let n = b[cell] as usize;
+    let n = records::counts::count_at(b, cell);
     if n < w.first {
         return Run { at: 0, count: 0 };
     }
-    let at = records::behind::skip(b, cell + 1, w.first - 1, w.standard);
+    let from = records::counts::after_count(b, cell);
+    let at = records::behind::skip(b, from, w.first - 1, w.standard);
     if n < w.last {
         return Run {
             at,

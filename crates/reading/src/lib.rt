@@ -48,11 +48,11 @@ fn put_use(
         Use::Text(from, upto) => filling::put_bytes(&f[from..upto], out, at, end, write),
         Use::GroupCount(i) => {
             let count = records::places::group_count(t, b, places, i);
-            filling::put_count(count, out, at, end, write)
+            filling::put_count(count as u8, out, at, end, write)
         }
         Use::ValueCount(i, k) => {
             let count = records::places::value_count(t, b, places, i, k);
-            filling::put_count(count, out, at, end, write)
+            filling::put_count(count as u8, out, at, end, write)
         }
         Use::Values(s) => spans::put_span(t, b, places, s, out, at, end, write),
     }

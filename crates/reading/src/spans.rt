@@ -152,7 +152,7 @@ fn rows_together(
         if s.first == path.group + 1 {
             if s.end == tables::group_end(t, path.group) {
                 let count = records::places::group_count(t, b, places, path.group);
-                return rows_existing(count as usize, s.from, s.upto);
+                return rows_existing(count, s.from, s.upto);
             }
         }
     }

@@ -48,6 +48,9 @@ group-count-requires c κs =
     let w = held s (c .before .u3 .given .1) in
     (s .pre .0, w .0, w .1, s .pre .2)
 
+cast-put-count : tie.Need-cast-put-count
+cast-put-count c = omega (arith, c .group-count .ensures .0)
+
 put-count-requires : tie.Need-put-count-requires
 put-count-requires c κs = search needs
 
@@ -59,6 +62,9 @@ value-count-requires c κs =
     let s = c .before .before .before .before .before .before .before in
     let w = held s (c .before .u4 .given .1) in
     (s .pre .0, w .0, w .1, w .2, w .4, s .pre .2)
+
+cast-put-count-2 : tie.Need-cast-put-count-2
+cast-put-count-2 c = omega (arith, c .value-count .ensures .0)
 
 put-count-requires-2 : tie.Need-put-count-requires-2
 put-count-requires-2 c κs = search needs
@@ -100,7 +106,7 @@ returns-3 c =
     let a = s .args in
     let v = c .before .before .before .before .before .before .u3 .given in
     let n = c .before .before .before .before .group-count in
-    use-group-count (entries-of (a .t .now)) (a .b .now) (a .places .now) (a .f .now) (a .at) (a .end) (a .write) (v .0 .0) (n .result) (v .1) (n .ensures) (c .before .before .put-count .ensures)
+    use-group-count (entries-of (a .t .now)) (a .b .now) (a .places .now) (a .f .now) (a .at) (a .end) (a .write) (v .0 .0) (n .result) (v .1) (n .ensures .1) (c .before .before .put-count .ensures)
 
 same-length-4 : tie.Need-same-length-4
 same-length-4 c = search needs
@@ -111,7 +117,7 @@ returns-4 c =
     let a = s .args in
     let v = c .before .before .before .before .before .before .u4 .given in
     let n = c .before .before .before .before .value-count in
-    use-value-count (entries-of (a .t .now)) (a .b .now) (a .places .now) (a .f .now) (a .at) (a .end) (a .write) (v .0 .0) (v .0 .1 .0) (n .result) (v .1) (n .ensures) (c .before .before .put-count2 .ensures)
+    use-value-count (entries-of (a .t .now)) (a .b .now) (a .places .now) (a .f .now) (a .at) (a .end) (a .write) (v .0 .0) (v .0 .1 .0) (n .result) (v .1) (n .ensures .1) (c .before .before .put-count2 .ensures)
 
 same-length-5 : tie.Need-same-length-5
 same-length-5 c = search needs
@@ -124,4 +130,4 @@ returns-5 c =
     use-span (entries-of (a .t .now)) (a .b .now) (a .places .now) (a .f .now) (a .at) (a .end) (a .write) _ (v .1) (c .before .before .put-span .ensures)
 
 pub put-use-spec : {M : Type 1} → statement M
-put-use-spec = tie.close (tie.spec enum-known-u put-blanks-requires enum-known-u-2 sub-put-bytes part-put-bytes-start part-put-bytes-end put-bytes-requires enum-known-u-3 group-count-requires put-count-requires enum-known-u-4 value-count-requires put-count-requires-2 enum-known-u-5 put-span-requires same-length returns same-length-2 returns-2 same-length-3 returns-3 same-length-4 returns-4 same-length-5 returns-5)
+put-use-spec = tie.close (tie.spec enum-known-u put-blanks-requires enum-known-u-2 sub-put-bytes part-put-bytes-start part-put-bytes-end put-bytes-requires enum-known-u-3 group-count-requires cast-put-count put-count-requires enum-known-u-4 value-count-requires cast-put-count-2 put-count-requires-2 enum-known-u-5 put-span-requires same-length returns same-length-2 returns-2 same-length-3 returns-3 same-length-4 returns-4 same-length-5 returns-5)

@@ -1,88 +1,102 @@
 -- `reading::cells::run_among` meets its contract: the values wanted stand after those before them, as far as the cell has them.
-use mathlib.Core.Path.{refl, ap}
+use mathlib.Core.Path.{_≡_, refl, ap, _∙_}
+use mathlib.Core.Bool.{true}
+use mathlib.Core.List.{List}
 use Prim.Native.Nat.{ℕ, _+_, _-_, _≤_}
 use native.Mathlib.Omega.{arith}
-use lib.ListN.{length}
+use lib.ListN.{length, drop, getD}
+use Rattle.rules.specs.Limits.{count-size}
+use Rattle.rules.specs.Lists.{Bytes}
+use Rattle.rules.specs.Record.{times, stored-value}
 use Rattle.kinds.specs.Formats.{format-at}
+use Rattle.records.specs.Walk.{rest-of, Walked}
+use Rattle.records.specs.declared.Reach.the-variants.{At}
+use Rattle.records.specs.declared.places.Cell.the-variants.{At as Stands}
+use Rattle.reading.specs.Cells.{Cell-holds}
 use Rattle.reading.proofs.Existing.{exist-none, cell-many, before-first, exist-some, exist-all}
 use borrow.Author.Needs.{needs}
 use Rattle.reading.proofs.cells.run_among.Statement.{statement}
 use Rattle.reading.proofs.cells.run_among.Tie as tie
 
-shared-slice-read-n : tie.Need-shared-slice-read-n
-shared-slice-read-n c = let s = c .before .before in let a = s .args in cell-many (a .w) (a .b .now) (s .pre .1 .0) (a .cell) (s .pre .1 .1) .0
-
-cast-n : tie.Need-cast-n
-cast-n c = let s = c .before .before in let a = s .args in let m = cell-many (a .w) (a .b .now) (s .pre .1 .0) (a .cell) (s .pre .1 .1) in omega (arith, m .1, m .2)
+count-at-requires : tie.Need-count-at-requires
+count-at-requires c κs = let s = c .before in let a = s .args in cell-many (a .w) (a .b .now) (s .pre .1 .0) (a .cell) (s .pre .1 .1) .0
 
 returns : tie.Need-returns
 returns c vs x =
-    let s = c .before .before .before .before in
-    let a = s .args in
+    let a = c .before .before .before .before .args in
     let m = cell-many (a .w) (a .b .now) vs (a .cell) x in
-    exist-none (a .w) (a .b .now) vs (omega (arith, m .1, c .if1 .taken))
+    exist-none (a .w) (a .b .now) vs (omega (arith, m .1, c .before .before .count-at .ensures .0, c .if1 .taken))
 
-add-skip : tie.Need-add-skip
-add-skip c = search needs
+after-count-requires : tie.Need-after-count-requires
+after-count-requires c κs = let s = c .before .before .before .before in let a = s .args in cell-many (a .w) (a .b .now) (s .pre .1 .0) (a .cell) (s .pre .1 .1) .0
 
 sub-skip : tie.Need-sub-skip
 sub-skip c = search needs
 
+-- The first of the values that are wanted is there.
+there : (c : tie.Else1) {n : ℕ} → getD (c .before .before .before .before .args .b .now) (c .before .before .before .before .args .cell) 0 ≡ n → c .before .before .before .before .args .w .first ≤ n
+there c m = omega (arith, m, c .before .before .count-at .ensures .0, c .if1 .left)
+
 skip-requires : tie.Need-skip-requires
 skip-requires c κs =
-    let s = c .before .before .before .before .before in
+    let s = c .before .before .before .before .before .before in
     let a = s .args in
     let vs = s .pre .1 .0 in
     let x = s .pre .1 .1 in
     let m = cell-many (a .w) (a .b .now) vs (a .cell) x in
-    let there : a .w .first ≤ length vs = omega (arith, m .1, c .before .if1 .left) in
-    (omega (arith, m .0), (format-at (a .w .own), before-first (a .w) (a .b .now) vs (a .cell) x (s .pre .0) there))
+    let from = c .before .after-count .ensures in
+    (omega (arith, m .0, from), (format-at (a .w .own), rw from (before-first (a .w) (a .b .now) vs (a .cell) x (s .pre .0) (there (c .before .before) (m .1)))))
 
-add-t11 : tie.Need-add-t11
-add-t11 c = search needs
+-- Where the first of them stands.
+first-at : (c : tie.After-skip) {vs : List Bytes} → Cell-holds (c .before .before .before .before .before .before .before .args .b .now) (format-at (c .before .before .before .before .before .before .before .args .w .own)) (c .before .before .before .before .before .before .before .args .w .standard) true vs (Stands (c .before .before .before .before .before .before .before .args .cell))
+    → Walked (c .before .before .before .before .before .before .before .args .b .now) (rest-of (times (c .before .before .before .before .before .before .before .args .w .first - 1) (stored-value (format-at (c .before .before .before .before .before .before .before .args .w .own)) (c .before .before .before .before .before .before .before .args .w .standard)) (drop (c .before .before .before .before .before .before .before .args .cell + count-size) (c .before .before .before .before .before .before .before .args .b .now)))) (At (c .skip .result))
+first-at c {vs} x =
+    let s = c .before .before .before .before .before .before .before in
+    let a = s .args in
+    let m = cell-many (a .w) (a .b .now) vs (a .cell) x in
+    rw (c .before .before .after-count .ensures) at (c .skip .ensures) (format-at (a .w .own)) (before-first (a .w) (a .b .now) vs (a .cell) x (s .pre .0) (there (c .before .before .before) (m .1)))
 
-sub-t12 : tie.Need-sub-t12
-sub-t12 c = search needs
+add-t9 : tie.Need-add-t9
+add-t9 c = search needs
+
+sub-t10 : tie.Need-sub-t10
+sub-t10 c = search needs
 
 returns-2 : tie.Need-returns-2
 returns-2 c vs x =
-    let s = c .before .before .before .before .before .before .before .before .before in
-    let a = s .args in
-    let m = cell-many (a .w) (a .b .now) vs (a .cell) x in
-    let there : a .w .first ≤ length vs = omega (arith, m .1, c .before .before .before .before .before .if1 .left) in
-    let y = c .before .before .before .skip in
-    let walked = y .ensures (format-at (a .w .own)) (before-first (a .w) (a .b .now) vs (a .cell) x (s .pre .0) there) in
-    exist-all (a .w) (a .b .now) vs (a .cell) x (s .pre .0) there (y .result) _ walked (omega (arith, m .1, c .before .if2 .taken)) (ap (λ (n : ℕ). n + 1 - a .w .first) (m .1))
-
-add-t10 : tie.Need-add-t10
-add-t10 c = search needs
-
-sub-t9 : tie.Need-sub-t9
-sub-t9 c = search needs
-
-returns-3 : tie.Need-returns-3
-returns-3 c vs x =
     let s = c .before .before .before .before .before .before .before .before .before .before in
     let a = s .args in
     let m = cell-many (a .w) (a .b .now) vs (a .cell) x in
-    let there : a .w .first ≤ length vs = omega (arith, m .1, c .before .before .before .before .before .before .if1 .left) in
-    let y = c .before .before .before .before .skip in
-    let walked = y .ensures (format-at (a .w .own)) (before-first (a .w) (a .b .now) vs (a .cell) x (s .pre .0) there) in
-    exist-some (a .w) (a .b .now) vs (a .cell) x (s .pre .0) there (y .result) _ walked (omega (arith, m .1, c .before .before .if2 .left, s .pre .0 .first)) refl
+    let n = c .before .before .before .before .before .before .before .before .count-at .ensures .0 in
+    exist-all (a .w) (a .b .now) vs (a .cell) x (s .pre .0) (there (c .before .before .before .before .before .before) (m .1)) (c .before .before .before .skip .result) _ (first-at (c .before .before .before) x)
+    (omega (arith, m .1, n, c .before .if2 .taken)) (ap (λ (k : ℕ). k + 1 - a .w .first) (n ∙ m .1))
+
+add-t8 : tie.Need-add-t8
+add-t8 c = search needs
+
+sub-t11 : tie.Need-sub-t11
+sub-t11 c = search needs
+
+returns-3 : tie.Need-returns-3
+returns-3 c vs x =
+    let s = c .before .before .before .before .before .before .before .before .before .before .before in
+    let a = s .args in
+    let m = cell-many (a .w) (a .b .now) vs (a .cell) x in
+    exist-some (a .w) (a .b .now) vs (a .cell) x (s .pre .0) (there (c .before .before .before .before .before .before .before) (m .1)) (c .before .before .before .before .skip .result) _ (first-at (c .before .before .before .before) x)
+    (omega (arith, m .1, c .before .before .before .before .before .before .before .before .before .count-at .ensures .0, c .before .before .if2 .left, s .pre .0 .first)) refl
 
 pub run-among-spec : {M : Type 1} → statement M
 run-among-spec =
     tie.close
     (tie.spec
-    shared-slice-read-n
-    cast-n
+    count-at-requires
     returns
-    add-skip
+    after-count-requires
     sub-skip
     skip-requires
-    add-t11
-    sub-t12
+    add-t9
+    sub-t10
     returns-2
-    add-t10
-    sub-t9
+    add-t8
+    sub-t11
     returns-3)

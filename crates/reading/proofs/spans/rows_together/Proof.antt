@@ -28,9 +28,6 @@ group-count-requires c κs =
     let g = group-of (s .pre .1) (s .pre .2) (s .pre .3) (c .before .before .before .before .before .before .if1 .taken) in
     (s .pre .0, g .0, g .1, s .pre .4)
 
-cast-rows-existing : tie.Need-cast-rows-existing
-cast-rows-existing c = search needs
-
 rows-existing-requires : tie.Need-rows-existing-requires
 rows-existing-requires c κs =
     let s = c .before .before .before .before .before .before .before .before .before .before in
@@ -42,7 +39,7 @@ returns c =
     let s = c .before .before .before .before .before .before .before .before .before .before .before in
     let a = s .args in
     let d = c .before .before in
-    let whole = adjoin-some (a .b .now) (a .places .now) (s .pre .1) (a .path) _ (c .before .group-count .ensures)
+    let whole = adjoin-some (a .b .now) (a .places .now) (s .pre .1) (a .path) _ (c .before .group-count .ensures .1)
     (d .before .before .before .before .before .before .if1 .taken) (d .before .before .before .if2 .taken) (d .if3 .taken ∙ d .before .before .group-end .ensures) in
     subst (λ (n : ℕ). Adjoin (entries-of (a .t .now)) (a .b .now) (a .places .now) (a .s) (a .path) n) (sym (c .rows-existing .ensures)) whole
 
@@ -59,4 +56,4 @@ returns-4 c = let s = c .before .before .before in adjoin-none (s .args .b .now)
 
 pub rows-together-spec : {M : Type 1} → statement M
 rows-together-spec =
-    tie.close (tie.spec add-if2 group-end-requires group-count-requires cast-rows-existing rows-existing-requires returns returns-2 returns-3 returns-4)
+    tie.close (tie.spec add-if2 group-end-requires group-count-requires rows-existing-requires returns returns-2 returns-3 returns-4)
