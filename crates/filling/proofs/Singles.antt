@@ -43,6 +43,10 @@ pub nothing-put : (room at : ℕ) (out : Bytes) (write : Bool) (bs : Bytes) → 
 unfolding bytes-of
 nothing-put room at out write bs e = rw (e, inside-room room [] (omega arith)) (record { answer = ap done (sym (add-zero at)); same = refl; bytes = λ k. sym (left-empty write at (done []) out refl) })
 
+-- An outcome is done, with n bytes.
+abbrev pub Long : Outcome Bytes → ℕ → Type 0
+Long o n = (o ≡ done (bytes-of o)) × (n ≡ length (bytes-of o))
+
 -- The same of an outcome: its refusal, or how long its bytes are.
 module _ (o : Outcome Bytes) where
   module _ (room at : ℕ) (out : Bytes) (write : Bool) where
@@ -50,7 +54,7 @@ module _ (o : Outcome Bytes) where
     unfolding in-room bytes-of
     value-refused x e = rw e (record { answer = refl; same = refl; bytes = λ k. sym (left-empty write at (refused (refusal-number x)) out refl) })
 
-    module _ (n : ℕ) (e : (o ≡ done (bytes-of o)) × (n ≡ length (bytes-of o))) where
+    module _ (n : ℕ) (e : Long o n) where
       pub value-beyond : room < n → Filling (in-room room o) at write out out (Refused BeyondBuffer)
       value-beyond h = subst (λ x. Filling (in-room room x) at write out out (Refused BeyondBuffer)) (sym (e .0)) (item-beyond room at (bytes-of o) out write (omega (arith, e .1)))
 
