@@ -123,7 +123,7 @@ fn answer_content(
     Reply::NoCase
 }
 
-// The length of a value of so many bytes.
+// The length of a value of some bytes.
 fn size_of(letter: u8, length: usize) -> usize {
     if letter == b'V' { 0 } else { length }
 }

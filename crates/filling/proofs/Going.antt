@@ -13,6 +13,7 @@ use Rattle.rules.specs.Lists.{Bytes, bytes-of}
 use Rattle.rules.specs.Numbers.{refusal-number}
 use Rattle.rules.specs.declared.Refusal.{Refusal}
 use Rattle.rules.proofs.Steps.{from-bind, from-need, need-true, done-inj, refused-inj, not-done, by-test, by-outcome, not-both}
+use Rattle.buffer.specs.Splice.{splice}
 use Rattle.buffer.proofs.Laws.{splice-nil, splice-then}
 use Rattle.filling.specs.Filling.{ended, placed, left-as, Counts, together, Filling, Going}
 use Rattle.filling.specs.declared.Next.{Next}
@@ -84,6 +85,11 @@ unfolding bytes-of
 left-before false at a o out h s = refl
 left-before true at a (done b) out h s = splice-then at a b out (at + length a) refl h
 left-before true at a (refused k) out h s = absurd (not-both (s refl))
+
+-- Of an outcome without bytes nothing is written.
+pub left-empty : (write : Bool) (at : ℕ) (o : Outcome Bytes) (out : Bytes) → bytes-of o ≡ [] → left-as write at o out ≡ out
+left-empty false at o out e = refl
+left-empty true at o out e = ap (λ bs. splice at bs out) e ∙ splice-nil at out
 
 -- Both are refused alike, and nothing is written where nothing is to be.
 pub going-both-off : {whole rest : Outcome Bytes} {start at : ℕ} {write : Bool} {out₀ out : Bytes} (k : ℕ) → whole ≡ refused k → rest ≡ refused k → length out ≡ length out₀
@@ -169,15 +175,11 @@ module _ (end : ℕ) (xs ys : List (Outcome Bytes)) {whole : Outcome Bytes} {sta
 pub going-end : (room : ℕ) {whole : Outcome Bytes} {start at : ℕ} {write : Bool} {out₀ out : Bytes}
     → Going whole (together room []) start at write out₀ out → Filling whole start write out₀ out (At at)
 unfolding together bytes-of
-going-end room {whole} {start} {at} {write} {out₀} {out} g = record {
+going-end room {at = at} {write} {out = out} g = record {
   answer = ap done (sym (add-zero at)) ∙ g .answer;
   same = g .same;
-  bytes = λ s. sym (nothing-written write) ∙ g .bytes (λ w. refl);
+  bytes = λ s. sym (left-empty write at (done []) out refl) ∙ g .bytes (λ w. refl);
 }
-  where
-    nothing-written : (w : Bool) → left-as w at (done []) out ≡ out
-    nothing-written false = refl
-    nothing-written true = splice-nil at out
 
 -- The end by a callee that takes all that is left.
 pub going-last : {whole rest : Outcome Bytes} {start at : ℕ} {write : Bool} {out₀ out out′ : Bytes} {n : Next}

@@ -13,9 +13,10 @@ use Rattle.rules.specs.Numbers.{refusal-number}
 use Rattle.rules.specs.declared.Refusal.{Refusal}
 use Rattle.rules.specs.declared.Refusal.the-variants.{BeyondBuffer}
 use Rattle.buffer.specs.Splice.{splice}
-use Rattle.buffer.proofs.Laws.{splice-nil, length-splice}
-use Rattle.filling.specs.Filling.{left-as, in-room, Filling}
+use Rattle.buffer.proofs.Laws.{length-splice}
+use Rattle.filling.specs.Filling.{in-room, Filling}
 use Rattle.filling.specs.declared.Next.the-variants.{At, Refused}
+use Rattle.filling.proofs.Going.{left-empty}
 
 inside-room : (room : ℕ) (bs : Bytes) → length bs ≤ room → in-room room (done bs) ≡ done bs
 unfolding in-room
@@ -28,11 +29,7 @@ beyond-room room bs h = rw (lt-leb (length bs) room h) refl
 module _ (room at : ℕ) (bs out : Bytes) (write : Bool) where
   pub item-beyond : room < length bs → Filling (in-room room (done bs)) at write out out (Refused BeyondBuffer)
   unfolding bytes-of
-  item-beyond h = rw (beyond-room room bs h) (record { answer = refl; same = refl; bytes = λ k. unchanged write })
-    where
-      unchanged : (w : Bool) → out ≡ left-as w at (refused 7) out
-      unchanged true = sym (splice-nil at out)
-      unchanged false = refl
+  item-beyond h = rw (beyond-room room bs h) (record { answer = refl; same = refl; bytes = λ k. sym (left-empty write at (refused 7) out refl) })
 
   pub item-tested : (n : ℕ) → write ≡ false → length bs ≤ room → n ≡ at + length bs → Filling (in-room room (done bs)) at write out out (At n)
   item-tested n w h e = rw (inside-room room bs h, e, w) (record { answer = refl; same = refl; bytes = λ k. refl })
@@ -44,24 +41,20 @@ module _ (room at : ℕ) (bs out : Bytes) (write : Bool) where
 -- No bytes: nothing changes.
 pub nothing-put : (room at : ℕ) (out : Bytes) (write : Bool) (bs : Bytes) → bs ≡ [] → Filling (in-room room (done bs)) at write out out (At at)
 unfolding bytes-of
-nothing-put room at out write bs e = rw (e, inside-room room [] (omega arith)) (record { answer = ap done (sym (add-zero at)); same = refl; bytes = λ k. unchanged write })
-  where
-    unchanged : (w : Bool) → out ≡ left-as w at (done []) out
-    unchanged true = sym (splice-nil at out)
-    unchanged false = refl
+nothing-put room at out write bs e = rw (e, inside-room room [] (omega arith)) (record { answer = ap done (sym (add-zero at)); same = refl; bytes = λ k. sym (left-empty write at (done []) out refl) })
+
+-- An outcome is done, with n bytes.
+abbrev pub Long : Outcome Bytes → ℕ → Type 0
+Long o n = (o ≡ done (bytes-of o)) × (n ≡ length (bytes-of o))
 
 -- The same of an outcome: its refusal, or how long its bytes are.
 module _ (o : Outcome Bytes) where
   module _ (room at : ℕ) (out : Bytes) (write : Bool) where
     pub value-refused : (x : Refusal) → o ≡ refused (refusal-number x) → Filling (in-room room o) at write out out (Refused x)
     unfolding in-room bytes-of
-    value-refused x e = rw e (record { answer = refl; same = refl; bytes = λ k. unchanged write })
-      where
-        unchanged : (w : Bool) → out ≡ left-as w at (refused (refusal-number x)) out
-        unchanged true = sym (splice-nil at out)
-        unchanged false = refl
+    value-refused x e = rw e (record { answer = refl; same = refl; bytes = λ k. sym (left-empty write at (refused (refusal-number x)) out refl) })
 
-    module _ (n : ℕ) (e : (o ≡ done (bytes-of o)) × (n ≡ length (bytes-of o))) where
+    module _ (n : ℕ) (e : Long o n) where
       pub value-beyond : room < n → Filling (in-room room o) at write out out (Refused BeyondBuffer)
       value-beyond h = subst (λ x. Filling (in-room room x) at write out out (Refused BeyondBuffer)) (sym (e .0)) (item-beyond room at (bytes-of o) out write (omega (arith, e .1)))
 

@@ -31,14 +31,14 @@ abbrev pub left-as : Bool → ℕ → Outcome Bytes → Bytes → Bytes
 left-as true at o out = splice at (bytes-of o) out
 left-as false at o out = out
 
--- An item in so much room: "an item ends beyond the record buffer" is 7.
+-- An item in limited room: "an item ends beyond the record buffer" is 7.
 unfoldable pub in-room : ℕ → Outcome Bytes → Outcome Bytes
 in-room room o = do
   b ← o
   _ ← need (leb (length b) room) 7
   done b
 
--- Outcomes one after the other in so much room, as items are filled.
+-- Outcomes one after the other in limited room, as items are filled.
 unfoldable pub together : ℕ → List (Outcome Bytes) → Outcome Bytes
 together room [] = done []
 together room (o ∷ os) = do

@@ -1,4 +1,4 @@
--- Those of the values wanted that exist, where a cell stands: after the values before them, so many as the cell has or as are wanted.
+-- Those of the values wanted that exist, where a cell stands: after the values before them, as many as the cell has or as are wanted.
 use mathlib.Core.Path.{_≡_, refl, sym, _∙_, ap}
 use mathlib.Core.Bool.{true, false}
 use mathlib.Core.List.{List, []}

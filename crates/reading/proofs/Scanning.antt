@@ -36,7 +36,7 @@ use Rattle.filling.proofs.Going.{going-start, going-then, going-off, going-end}
 use Rattle.reading.proofs.Items.{filled-together}
 use Rattle.reading.proofs.Turns.{no-items, no-uses, left-bad}
 
--- All that a format asks for in so much room.
+-- All that a format asks for, in limited room.
 abbrev whole : List Entry → Bytes → Record → ℕ → Outcome Bytes
 whole es f r end = uses-of es f >>= λ us. filled (parts es) r end (items us)
 

@@ -37,22 +37,21 @@ Fields-numbered es ns n = (k : ℕ) → k < n → (getD ns k 0 < length es) × (
 abbrev pub nulls-of : List Field → List (Outcome Bytes)
 nulls-of fs = map (λ (f : Field). done (null (f .format) (f .size))) fs
 
--- The items of a span in one occurrence; and in those from one on.
+-- The items of a span in one occurrence; in those from one up to another; and in those from one on.
 abbrev pub row-items : List Entry → Span → ℕ → List Item
 row-items es s o = value-items (asked-of es s) (just o) (range (s .«value_from») (s .«value_upto»)) false
 
+abbrev pub rows-items : List Entry → Span → ℕ → ℕ → List Item
+rows-items es s o last = value-items (asked-of es s) (range o last) (range (s .«value_from») (s .«value_upto»)) false
+
 abbrev pub span-items : List Entry → Span → ℕ → List Item
-span-items es s o = value-items (asked-of es s) (range o (s .upto)) (range (s .«value_from») (s .«value_upto»)) false
+span-items es s o = rows-items es s o (s .upto)
 
 -- The way to the first entry of a span, and where that lies in a periodic group, the width of the span's fields.
 pub record Way (es : List Entry) (s : Span) (path : Path) (width : ℕ) : Type 0 where
   pub entry : path .entry ≡ s .first
   pub leads : Leads es path
   pub wide : path .inside ≡ true → Wide (fields-of (slice (s .first) (s .end) es)) width
-
--- The items of a span in the occurrences from one up to another.
-abbrev pub rows-items : List Entry → Span → ℕ → ℕ → List Item
-rows-items es s o last = value-items (asked-of es s) (range o last) (range (s .«value_from») (s .«value_upto»)) false
 
 -- The span is the whole of the periodic group in which its first entry lies, and n of its occurrences exist, from its first on.
 pub record Whole (es : List Entry) (b : Bytes) (places : List ℕ) (s : Span) (path : Path) (n : ℕ) : Type 0 where

@@ -120,7 +120,7 @@ module _ {from to n : ℕ} {s : Bytes} (a : Carriable from to n s) (b : Bool) (c
         (carried-normal (format-at from) (format-at to) n s (a .value) (range-kind b) c
         (carried-range (format-at from) (format-at to) n s (a .value) (range-kind b) c d))
 
--- A value that is asked for is refused with 9, or so long as its length says.
+-- A value that is asked for is refused with 9, or as long as its length says.
 module _ {from to n : ℕ} {s : Bytes} (a : Carriable from to n s) where
   abbrev there : Outcome Bytes
   there = carried (format-at from) (format-at to) n s

@@ -153,7 +153,7 @@ module _ (k n : ℕ) (h : k < formats) where
     null-byte-other a u = by-filler 0 (five (λ (j : ℕ). (j ≡ 0 → ⊥) → (j ≡ 4 → ⊥) → getD fillers j 0 ≡ 0)
         (λ x y. absurd (x refl)) (λ x y. refl) (λ x y. refl) (λ x y. refl) (λ x y. absurd (y refl)) k h a u)
 
--- The same bytes so many times.
+-- The same bytes several times.
 pub length-copies : (n : ℕ) (x : Bytes) → length (join (replicate n x)) ≡ n * length x
 unfolding join
 length-copies zero x = sym (zero-mul (length x))

@@ -37,7 +37,7 @@ fn wide(x: u8) -> usize
     x as usize
 }
 
-// The first value of length 0 from at on.
+// The first value of length 0 at a place.
 fn first_variable(s: &[u8], at: usize) -> First
     requires { ⌜ at ≤ length (now s) ⌝ }
     ensures { λ r. ⌜ Located (now (s .entry)) at (first-value 0 (drop at (now (s .entry)))) r ⌝ }
@@ -58,7 +58,7 @@ fn first_variable(s: &[u8], at: usize) -> First
     First::Value(at + 1, at + count)
 }
 
-// The first value of a length from at on.
+// The first value of a length at a place.
 pub fn first_value(s: &[u8], at: usize, size: usize) -> First
     requires { ⌜ at ≤ length (now s) ⌝ }
     ensures { λ r. ⌜ Located (now (s .entry)) at (first-value size (drop at (now (s .entry)))) r ⌝ }
@@ -97,7 +97,7 @@ fn null_byte(format: usize, size: usize) -> u8
     0
 }
 
-// Null of format P, to out from at on.
+// Writes null of format P at a place.
 fn write_packed_null(size: usize, out: &mut [u8], at: usize)
     requires { ⌜ (0 < size) × (at + size ≤ length (now out)) ⌝ }
     ensures { λ _. ⌜ now (out .exit) ≡ splice at (null packed size) (now (out .entry)) ⌝ }
@@ -107,7 +107,7 @@ fn write_packed_null(size: usize, out: &mut [u8], at: usize)
     out[end] = 0x0F;
 }
 
-// n nulls of format P, to out from at on.
+// Writes n nulls of format P at a place, one after the other.
 fn write_packed_nulls(n: usize, size: usize, out: &mut [u8], at: usize)
     requires { ⌜ (0 < size) × (at + length (join (replicate n (null packed size))) ≤ length (now out)) ⌝ }
     ensures { λ _. ⌜ now (out .exit) ≡ splice at (join (replicate n (null packed size))) (now (out .entry)) ⌝ }
@@ -121,7 +121,7 @@ fn write_packed_nulls(n: usize, size: usize, out: &mut [u8], at: usize)
     }
 }
 
-// n nulls, to out from at on.
+// Writes n nulls at a place, one after the other.
 pub fn write_nulls(n: usize, format: usize, size: usize, out: &mut [u8], at: usize)
     requires { ⌜ (format < formats) × (Rules.allowed (format-at format) size ≡ true) × (at + length (join (replicate n (null (format-at format) size))) ≤ length (now out)) ⌝ }
     ensures { λ _. ⌜ now (out .exit) ≡ splice at (join (replicate n (null (format-at format) size))) (now (out .entry)) ⌝ }
@@ -138,7 +138,7 @@ pub fn write_nulls(n: usize, format: usize, size: usize, out: &mut [u8], at: usi
     );
 }
 
-// Null, to out from at on.
+// Writes null at a place.
 pub fn write_null(format: usize, size: usize, out: &mut [u8], at: usize)
     requires { ⌜ (format < formats) × (Rules.allowed (format-at format) size ≡ true) × (at + length (null (format-at format) size) ≤ length (now out)) ⌝ }
     ensures { λ _. ⌜ now (out .exit) ≡ splice at (null (format-at format) size) (now (out .entry)) ⌝ }
@@ -191,7 +191,7 @@ pub fn fits(s: &[u8], from: usize, to: usize, n: usize) -> Fit
     Fit::Refused(Refusal::BadValue)
 }
 
-// The content s of a value that is carried to another format and length n, to out from at on.
+// Writes the content s of a value, which is carried to another format and length n, at a place.
 pub fn carry(s: &[u8], from: usize, to: usize, n: usize, out: &mut [u8], at: usize)
     requires { ⌜ Carrying from to n (now s) at (length (now out)) ⌝ }
     ensures { λ _. ⌜ now (out .exit) ≡ splice at (bytes-of (carried (format-at from) (format-at to) n (now (s .entry)))) (now (out .entry)) ⌝ }

@@ -55,7 +55,7 @@ pub fn fits_word(v: Signed, format: usize, n: usize) -> bool
     decimals::fits_word(v, format == PACKED, n)
 }
 
-// v in n bytes of a format, to out from at on.
+// Writes v in n bytes of a format, which it fits.
 pub fn write_word(v: Signed, format: usize, n: usize, out: &mut [u8], at: usize)
     requires { ⌜ (0 < format) × (format < formats) × (allowed (format-at format) n ≡ true) × (is-done (normal (format-at format) n (signed-value v)) ≡ true) × (at + n ≤ length (now out)) ⌝ }
     ensures { λ _. ⌜ now (out .exit) ≡ splice at (bytes-of (normal (format-at format) n (signed-value v))) (now (out .entry)) ⌝ }

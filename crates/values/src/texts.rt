@@ -72,7 +72,7 @@ fn put_padded(t: &[u8], n: usize, out: &mut [u8], at: usize)
     buffer::fill(out, next, n - t.len(), SPACE);
 }
 
-// The text t, which fits length n, at that length, to out from at on.
+// Writes the text t, which fits length n, at that length.
 pub fn put_at(t: &[u8], n: usize, out: &mut [u8], at: usize)
     requires { ⌜ (is-done (normal alpha n (text (now t))) ≡ true) × (at + length (bytes-of (normal alpha n (text (now t)))) ≤ length (now out)) ⌝ }
     ensures { λ _. ⌜ now (out .exit) ≡ splice at (bytes-of (normal alpha n (text (now (t .entry))))) (now (out .entry)) ⌝ }
@@ -84,7 +84,7 @@ pub fn put_at(t: &[u8], n: usize, out: &mut [u8], at: usize)
     }
 }
 
-// The text of s at length n, to out from at on.
+// Writes the text of s, which fits length n, at that length.
 pub fn carry_text(s: &[u8], n: usize, out: &mut [u8], at: usize)
     requires { ⌜ (is-done (carried alpha alpha n (now s)) ≡ true) × (at + length (bytes-of (carried alpha alpha n (now s))) ≤ length (now out)) ⌝ }
     ensures { λ _. ⌜ now (out .exit) ≡ splice at (bytes-of (carried alpha alpha n (now (s .entry)))) (now (out .entry)) ⌝ }

@@ -1,4 +1,4 @@
--- `filling::put_blanks` meets its contract: its bytes are so many blanks.
+-- `filling::put_blanks` meets its contract: its bytes are n blanks.
 use Prim.Native.Nat.{_-_}
 use native.Mathlib.Omega.{arith}
 use lib.ListN.{replicate, length-replicate}

@@ -1,4 +1,4 @@
--- `filling::put_nulls` meets its contract: its bytes are so many nulls.
+-- `filling::put_nulls` meets its contract: its bytes are n nulls.
 use mathlib.Core.Path.{sym, _∙_, ap}
 use Prim.Native.Nat.{ℕ, _-_, _*_}
 use native.Mathlib.Omega.{arith}

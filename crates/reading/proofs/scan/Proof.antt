@@ -3,7 +3,8 @@ use mathlib.Core.Path.{_≡_, refl, sym, _∙_}
 use Prim.Native.Nat.{_≤_, _-_}
 use native.Mathlib.Omega.{arith}
 use lib.ListN.{length, drop}
-use Rattle.formats.specs.Syntax.{parsed}
+use Rattle.formats.specs.Syntax.{parsed, Stepped}
+use Rattle.formats.specs.declared.syntax.Step.the-variants.{At}
 use Rattle.tables.specs.Entries.{entries-of}
 use Rattle.uses.specs.Meant.{indexes-kept}
 use Rattle.uses.proofs.Ahead.{step-as}
@@ -42,40 +43,50 @@ returns-2 c = scan-bad (c .before .before .before .loop .inv .2) (step-as (c .en
 enum-known-e : tie.Need-enum-known-e Inv-loop μ-loop
 enum-known-e c = search needs
 
+-- Where the function starts, and the loop's turn, before an element that was found; and how it was.
+abbrev start : tie.After-e Inv-loop μ-loop → tie.Start Inv-loop μ-loop
+start c = c .before .before .before .before .before .before .before .before .before
+
+abbrev turn : tie.After-e Inv-loop μ-loop → tie.At-loop Inv-loop μ-loop
+turn c = c .before .before .before
+
+stepped : (c : tie.After-e Inv-loop μ-loop) → Stepped (start c .args .f .now) (turn c .loop .at) (parsed (drop (turn c .loop .at) (start c .args .f .now))) (At (c .e .given .0 .0) (c .e .given .0 .1 .0))
+stepped c = step-as (c .e .given .1) (c .before .before .next .ensures)
+
 put-element-requires : tie.Need-put-element-requires Inv-loop μ-loop
 put-element-requires c κs =
-    let s = c .before .before .before .before .before .before .before .before .before .before .before .before in
-    let l = c .before .before .before .before .before .before .loop in
-    let n = step-as (c .before .before .before .e .given .1) (c .before .before .before .before .before .next .ensures) in
-    (s .pre .0, n .place .2, l .inv .1, s .pre .1, (l .inv .2 .fits, omega (arith, s .pre .2, l .inv .2 .same)))
+    let e = c .before .before .before in
+    let s = start e in
+    let l = turn e .loop in
+    (s .pre .0, stepped e .place .2, l .inv .1, s .pre .1, (l .inv .2 .fits, omega (arith, s .pre .2, l .inv .2 .same)))
 
 is-last-requires : tie.Need-is-last-requires Inv-loop μ-loop
-is-last-requires c κs = step-as (c .before .before .before .before .before .before .e .given .1) (c .before .before .before .before .before .before .before .before .next .ensures) .place .1
+is-last-requires c κs = let e = c .before .before .before .before .before .before in stepped e .place .1
 
 answer-requires : tie.Need-answer-requires Inv-loop μ-loop
 answer-requires c κs = search needs
 
 same-length-2 : tie.Need-same-length-2 Inv-loop μ-loop
-same-length-2 c = let w = c .before .before .before .before .before .before .before .before .before .before .before .before .loop .inv .2 in omega (arith, w .same, c .before .before .before .before .before .put-element .ensures .kept)
+same-length-2 c = let e = c .before .before .before .before .before .before .before .before .before in omega (arith, turn e .loop .inv .2 .same, c .before .before .before .before .before .put-element .ensures .kept)
 
 returns-3 : tie.Need-returns-3 Inv-loop μ-loop
 returns-3 c =
-    let n = step-as (c .before .before .before .before .before .before .before .before .before .e .given .1) (c .before .before .before .before .before .before .before .before .before .before .before .next .ensures) in
+    let e = c .before .before .before .before .before .before .before .before .before in
     let q = sym (c .before .before .is-last .ensures) ∙ c .before .if2 .taken in
-    scan-as-answer _ _ (c .answer .ensures) (scan-last n (c .before .before .before .before .before .before .before .before .before .before .before .before .loop .inv .2) (c .before .before .before .before .before .put-element .ensures) q)
+    scan-as-answer _ _ (c .answer .ensures) (scan-last (stepped e) (turn e .loop .inv .2) (c .before .before .before .before .before .put-element .ensures) q)
 
 add-at : tie.Need-add-at Inv-loop μ-loop
-add-at c = let n = step-as (c .before .before .before .before .before .before .before .before .e .given .1) (c .before .before .before .before .before .before .before .before .before .before .next .ensures) in omega (arith, n .place .1)
+add-at c = let e = c .before .before .before .before .before .before .before .before in omega (arith, stepped e .place .1)
 
 loop-less : tie.Need-loop-less Inv-loop μ-loop
-loop-less c = let n = step-as (c .before .before .before .before .before .before .before .before .e .given .1) (c .before .before .before .before .before .before .before .before .before .before .next .ensures) in omega (arith, n .place .0, n .place .1)
+loop-less c = let e = c .before .before .before .before .before .before .before .before in omega (arith, stepped e .place .0, stepped e .place .1)
 
 loop-again : tie.Need-loop-again Inv-loop μ-loop
 loop-again c =
-    let l = c .before .before .before .before .before .before .before .before .before .before .before .loop in
-    let n = step-as (c .before .before .before .before .before .before .before .before .e .given .1) (c .before .before .before .before .before .before .before .before .before .before .next .ensures) in
+    let e = c .before .before .before .before .before .before .before .before in
+    let l = turn e .loop in
     let p = c .before .before .before .before .put-element .ensures in
-    (omega (arith, n .place .1), p .same ∙ l .inv .1, scan-more n (l .inv .2) p (sym (c .before .is-last .ensures) ∙ c .if2 .left))
+    (omega (arith, stepped e .place .1), p .same ∙ l .inv .1, scan-more (stepped e) (l .inv .2) p (sym (c .before .is-last .ensures) ∙ c .if2 .left))
 
 pub scan-spec : {M : Type 1} → statement M
 scan-spec =

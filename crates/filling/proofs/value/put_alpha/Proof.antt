@@ -5,14 +5,14 @@ use Prim.Native.Nat.{_-_}
 use native.Mathlib.Omega.{arith}
 use lib.ListN.{length, take}
 use borrow.Author.Tests.{not-true, not-false}
-use Rattle.rules.specs.Outcome.{Outcome, done, is-done}
+use Rattle.rules.specs.Outcome.{Outcome, is-done}
 use Rattle.rules.specs.Lists.{Bytes, bytes-of}
 use Rattle.rules.specs.Values.{text, alpha, normal, carried}
 use Rattle.rules.specs.declared.Refusal.the-variants.{OutOfRange}
 use Rattle.buffer.specs.Splice.{splice}
 use Rattle.values.proofs.Strip.{cut-size, carried-text, text-refused}
 use Rattle.values.proofs.Carried.{done-bytes}
-use Rattle.filling.proofs.Singles.{value-refused, value-beyond, value-tested, value-written}
+use Rattle.filling.proofs.Singles.{Long, value-refused, value-beyond, value-tested, value-written}
 use borrow.Author.Needs.{needs}
 use Rattle.filling.proofs.value.put_alpha.Statement.{statement}
 use Rattle.filling.proofs.value.put_alpha.Tie as tie
@@ -22,30 +22,36 @@ abbrev given : tie.Start → Outcome Bytes
 given s = carried alpha alpha (s .args .size) (s .args .s .now)
 
 -- Its text, by the length that was found.
-cut : (c : tie.After-text-length) → length (take (c .text-length .result) (c .before .before .before .args .s .now)) ≡ c .text-length .result
-cut c = let t = c .text-length in cut-size (c .before .before .before .args .s .now) (t .result) (t .ensures .0) (t .ensures .1)
+abbrev start : tie.After-text-length → tie.Start
+start c = c .before .before .before
 
-is-text : (c : tie.After-text-length) → given (c .before .before .before) ≡ normal alpha (c .before .before .before .args .size) (text (take (c .text-length .result) (c .before .before .before .args .s .now)))
+abbrev found : tie.After-text-length → Bytes
+found c = take (c .text-length .result) (start c .args .s .now)
+
+cut : (c : tie.After-text-length) → length (found c) ≡ c .text-length .result
+cut c = let t = c .text-length in cut-size (start c .args .s .now) (t .result) (t .ensures .0) (t .ensures .1)
+
+is-text : (c : tie.After-text-length) → given (start c) ≡ normal alpha (start c .args .size) (text (found c))
 is-text c =
-    let a = c .before .before .before .args in
+    let a = start c .args in
     let t = c .text-length in
     carried-text (a .s .now) (t .result) (t .ensures .0) (t .ensures .1) (a .size)
 
 -- Whether it fits.
-answer : (c : tie.After-length-fits) → c .length-fits .result ≡ is-done (given (c .before .before .before .before))
+answer : (c : tie.After-length-fits) → c .length-fits .result ≡ is-done (given (start (c .before)))
 answer c = c .length-fits .ensures _ (cut (c .before)) ∙ ap is-done (sym (is-text (c .before)))
 
-fits : (c : tie.Else1) → is-done (given (c .before .before .before .before .before)) ≡ true
+fits : (c : tie.Else1) → is-done (given (start (c .before .before))) ≡ true
 fits c = sym (answer (c .before)) ∙ not-false (c .before .length-fits .result) (c .if1 .left)
 
-text-done : (c : tie.Else1) → is-done (normal alpha (c .before .before .before .before .before .args .size) (text (take (c .before .before .text-length .result) (c .before .before .before .before .before .args .s .now)))) ≡ true
+text-done : (c : tie.Else1) → is-done (normal alpha (start (c .before .before) .args .size) (text (found (c .before .before)))) ≡ true
 text-done c = sym (ap is-done (is-text (c .before .before))) ∙ fits c
 
 -- How long its bytes are.
-sized : (c : tie.After-length-at) → (given (c .before .before .before .before .before .before) ≡ done (bytes-of (given (c .before .before .before .before .before .before)))) × (c .length-at .result ≡ length (bytes-of (given (c .before .before .before .before .before .before))))
+sized : (c : tie.After-length-at) → Long (given (start (c .before .before .before))) (c .length-at .result)
 sized c =
     let t = c .before .before .before in (
-      done-bytes (given (t .before .before .before)) (fits (c .before)),
+      done-bytes (given (start t)) (fits (c .before)),
       c .length-at .ensures _ (cut t) (text-done (c .before)) ∙ ap (λ o. length (bytes-of o)) (sym (is-text t)),
     )
 
@@ -69,7 +75,7 @@ sub-if2 c = search needs
 
 returns-2 : tie.Need-returns-2
 returns-2 c =
-    let s = c .before .before .before .before .before .before .before in
+    let s = start (c .before .before .before .before) in
     let a = s .args in
     value-beyond (given s) (a .end - a .at) (a .at) (a .out .now) (a .write) _ (sized (c .before)) (c .if2 .taken)
 
@@ -93,7 +99,7 @@ returns-3 : tie.Need-returns-3
 returns-3 c =
     let n = c .before .before .before .before .before .before .before in
     let t = n .before .before .before in
-    let s = t .before .before .before in
+    let s = start t in
     let a = s .args in
     let l = c .before .before .before .before .before .before .if2 .left in
     value-written (given s) (a .end - a .at) (a .at) (a .out .now) (a .write) _ (sized n) (c .before .before .before .before .before .if3 .taken) (omega (arith, l)) (omega (arith, l))
@@ -104,7 +110,7 @@ add-t12 c = search needs
 
 returns-4 : tie.Need-returns-4
 returns-4 c =
-    let s = c .before .before .before .before .before .before .before .before in
+    let s = start (c .before .before .before .before .before) in
     let a = s .args in
     value-tested (given s) (a .end - a .at) (a .at) (a .out .now) (a .write) _ (sized (c .before .before)) (c .if3 .left) (omega (arith, c .before .if2 .left))
 

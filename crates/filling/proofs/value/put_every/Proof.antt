@@ -3,16 +3,15 @@ use mathlib.Core.Path.{_≡_, sym, _∙_}
 use mathlib.Core.Bool.{true}
 use Prim.Native.Nat.{_-_}
 use native.Mathlib.Omega.{arith}
-use lib.ListN.{length}
 use borrow.Author.Tests.{not-true, not-false}
-use Rattle.rules.specs.Outcome.{Outcome, done, is-done}
-use Rattle.rules.specs.Lists.{Bytes, bytes-of}
+use Rattle.rules.specs.Outcome.{Outcome, is-done}
+use Rattle.rules.specs.Lists.{Bytes}
 use Rattle.rules.specs.Values.{carried}
 use Rattle.rules.specs.declared.Refusal.the-variants.{OutOfRange}
 use Rattle.kinds.specs.Formats.{format-at}
 use Rattle.values.proofs.Numbered.{longest-size}
 use Rattle.values.proofs.Chosen.{asked-refused, asked-bytes}
-use Rattle.filling.proofs.Singles.{value-refused, value-beyond, value-tested, value-written}
+use Rattle.filling.proofs.Singles.{Long, value-refused, value-beyond, value-tested, value-written}
 use borrow.Author.Needs.{needs}
 use Rattle.filling.proofs.value.put_every.Statement.{statement}
 use Rattle.filling.proofs.value.put_every.Tie as tie
@@ -21,12 +20,15 @@ use Rattle.filling.proofs.value.put_every.Tie as tie
 abbrev given : tie.Start → Outcome Bytes
 given s = carried (format-at (s .args .own)) (format-at (s .args .format)) (s .args .size) (s .args .s .now)
 
-fits : (c : tie.Else1) → is-done (given (c .before .before .before .before)) ≡ true
+abbrev start : tie.Else1 → tie.Start
+start c = c .before .before .before .before
+
+fits : (c : tie.Else1) → is-done (given (start c)) ≡ true
 fits c = sym (c .before .every-fits .ensures) ∙ not-false (c .before .every-fits .result) (c .if1 .left)
 
 -- How long its bytes are.
-sized : (c : tie.After-carried-size) → (given (c .before .before .before .before .before) ≡ done (bytes-of (given (c .before .before .before .before .before)))) × (c .carried-size .result ≡ length (bytes-of (given (c .before .before .before .before .before))))
-sized c = let b = asked-bytes (c .before .before .before .before .before .pre .0) (fits (c .before)) in (b .0, c .carried-size .ensures ∙ b .1)
+sized : (c : tie.After-carried-size) → Long (given (start (c .before))) (c .carried-size .result)
+sized c = let b = asked-bytes (start (c .before) .pre .0) (fits (c .before)) in (b .0, c .carried-size .ensures ∙ b .1)
 
 every-fits-requires : tie.Need-every-fits-requires
 every-fits-requires c κs = search needs
@@ -47,15 +49,16 @@ sub-if2 c = search needs
 
 returns-2 : tie.Need-returns-2
 returns-2 c =
-    let s = c .before .before .before .before .before .before in
+    let s = start (c .before .before) in
     let a = s .args in
     value-beyond (given s) (a .end - a .at) (a .at) (a .out .now) (a .write) _ (sized (c .before)) (c .if2 .taken)
 
 carry-every-requires : tie.Need-carry-every-requires
 carry-every-requires c κs =
-    let s = c .before .before .before .before .before .before .before .before in
+    let e = c .before .before .before .before in
+    let s = start e in
     let b = sized (c .before .before .before) in
-    (record { asked = s .pre .0; fits = fits (c .before .before .before .before); enough = omega (arith, b .1, c .before .before .if2 .left) }, s .pre .1)
+    (record { asked = s .pre .0; fits = fits e; enough = omega (arith, b .1, c .before .before .if2 .left) }, s .pre .1)
 
 add-t18 : tie.Need-add-t18
 add-t18 c = search needs
@@ -65,17 +68,18 @@ same-length c = search needs
 
 returns-3 : tie.Need-returns-3
 returns-3 c =
-    let s = c .before .before .before .before .before .before .before .before .before .before .before in
+    let n = c .before .before .before .before .before .before in
+    let s = start (n .before) in
     let a = s .args in
     let l = c .before .before .before .before .before .if2 .left in
-    value-written (given s) (a .end - a .at) (a .at) (a .out .now) (a .write) _ (sized (c .before .before .before .before .before .before)) (c .before .before .before .before .if3 .taken) (omega (arith, l)) (omega (arith, l)) (c .before .before .carry-every .ensures)
+    value-written (given s) (a .end - a .at) (a .at) (a .out .now) (a .write) _ (sized n) (c .before .before .before .before .if3 .taken) (omega (arith, l)) (omega (arith, l)) (c .before .before .carry-every .ensures)
 
 add-t13 : tie.Need-add-t13
 add-t13 c = search needs
 
 returns-4 : tie.Need-returns-4
 returns-4 c =
-    let s = c .before .before .before .before .before .before .before in
+    let s = start (c .before .before .before) in
     let a = s .args in
     value-tested (given s) (a .end - a .at) (a .at) (a .out .now) (a .write) _ (sized (c .before .before)) (c .if3 .left) (omega (arith, c .before .if2 .left))
 

@@ -49,108 +49,123 @@ enum-known-first c = search needs
 enum-told : tie.Need-enum-told Inv-loop μ-loop
 enum-told c = search needs
 
+-- Where the function starts, and the occurrences that are put together, before the others.
+abbrev start : tie.After-first Inv-loop μ-loop → tie.Start Inv-loop μ-loop
+start c = c .before .before .before .before .before .before .before .before .before .before .before .before
+
+abbrev put-first : tie.After-first Inv-loop μ-loop → tie.After-put-together Inv-loop μ-loop
+put-first c = c .before .before .before .before
+
+abbrev counted : tie.After-first Inv-loop μ-loop → tie.After-rows-together Inv-loop μ-loop
+counted c = c .before .before .before .before .before .before
+
+abbrev first : tie.At-loop Inv-loop μ-loop → tie.After-first Inv-loop μ-loop
+first c = c .before .before .before
+
 same-length : tie.Need-same-length Inv-loop μ-loop
-same-length c =
-    let s = c .before .before .before .before .before .before .before .before .before .before .before .before in
-    c .before .before .before .before .put-together .ensures (s .pre .3 .0) (s .pre .3 .1) .same
+same-length c = let t = c .before .before .before .before in let s = t .before .before .before .before .before .before .before .before in t .put-together .ensures (s .pre .3 .0) (s .pre .3 .1) .same
 
 returns : tie.Need-returns Inv-loop μ-loop
 returns c =
-    let s = c .before .before .before .before .before .before .before .before .before .before .before .before in
-    rows-refused (s .pre .1) _ (c .before .before .before .before .before .before .rows-together .ensures .upto) (s .pre .3) (s .pre .4 .0) (s .pre .4 .1) (c .before .before .before .before .put-together .ensures) _ (c .enum-told .given .1)
+    let t = c .before .before .before .before in
+    let s = t .before .before .before .before .before .before .before .before in
+    rows-refused (s .pre .1) _ (t .before .before .rows-together .ensures .upto) (s .pre .3) (s .pre .4 .0) (s .pre .4 .1) (t .put-together .ensures) _ (c .enum-told .given .1)
 
 add-o : tie.Need-add-o Inv-loop μ-loop
 add-o c =
-    let s = c .before .before .before .before .before .before .before .before .before .before .before .before .before .before in
-    let a = s .args in
-    let u = bounds (a .s .from) (a .s .upto) (s .pre .1 .occurrences) in
-    omega (arith, u .2, c .before .before .before .before .before .before .before .before .rows-together .ensures .upto)
+    let f = c .before .before in
+    let a = start f .args in
+    let u = bounds (a .s .from) (a .s .upto) (start f .pre .1 .occurrences) in
+    omega (arith, u .2, counted f .rows-together .ensures .upto)
 
 -- The occurrences that are put together are put, and the others are left.
 begun : (c : tie.After-first Inv-loop μ-loop)
-    → (let s = c .before .before .before .before .before .before .before .before .before .before .before .before in let a = s .args in let n = c .before .before .before .before .before .before .rows-together .result in
-    Running (entries-of (a .t .now)) (a .b .now) (a .places .now) (a .end) (span-items (entries-of (a .t .now)) (a .s) (a .s .from)) (span-items (entries-of (a .t .now)) (a .s) (a .s .from + n))
-    (a .at) (c .first .given .0 .0) (a .write) (a .out .now) (c .before .before .before .before .put-together .last .1 .1 .1 .1 .1 .1 .1 .0))
+    → (let a = start c .args in
+    Running (entries-of (a .t .now)) (a .b .now) (a .places .now) (a .end) (span-items (entries-of (a .t .now)) (a .s) (a .s .from)) (span-items (entries-of (a .t .now)) (a .s) (a .s .from + counted c .rows-together .result))
+    (a .at) (c .first .given .0 .0) (a .write) (a .out .now) (put-first c .put-together .last .1 .1 .1 .1 .1 .1 .1 .0))
 begun c =
-    let s = c .before .before .before .before .before .before .before .before .before .before .before .before in
-    rows-begun (s .pre .1) _ (c .before .before .before .before .before .before .rows-together .ensures .upto) (s .pre .3) (s .pre .4 .0) (s .pre .4 .1) (c .before .before .before .before .put-together .ensures) _ (c .first .given .1)
+    let s = start c in
+    rows-begun (s .pre .1) _ (counted c .rows-together .ensures .upto) (s .pre .3) (s .pre .4 .0) (s .pre .4 .1) (put-first c .put-together .ensures) _ (c .first .given .1)
 
 loop-holds : tie.Need-loop-holds Inv-loop μ-loop
 loop-holds c =
-    let s = c .before .before .before .before .before .before .before .before .before .before .before .before .before .before in
+    let f = c .before .before in
+    let s = start f in
     let a = s .args in
-    let g = begun (c .before .before) in
+    let g = begun f in
     (run-start (entries-of (a .t .now)) (a .b .now) (a .places .now) (a .end) _ _ (a .write) _ (s .pre .3) (g .fits) (g .room), omega (arith, bounds (a .s .from) (a .s .upto) (s .pre .1 .occurrences) .0))
 
 put-row-requires : tie.Need-put-row-requires Inv-loop μ-loop
 put-row-requires c κs =
-    let s = c .before .before .before .before .before .before .before .before .before .before .before .before .before .before .before .before .before .before in
+    let l = c .before .before .before in
+    let s = start (first l) in
     let a = s .args in
-    let l = c .before .before .before .loop in
-    let p = c .before .before .before .before .before .before .before .before .before .before .before .before .before .before .path-to in
-    let w = c .before .before .before .before .before .before .before .before .before .before .before .before .before .width in (
+    let w = counted (first l) .before in
+    let p = w .before in (
       s .pre .0,
       s .pre .1,
       s .pre .2,
-      way (entries-of (a .t .now)) (a .s) (s .pre .1) (s .pre .2) (p .result) (w .result) (p .ensures .0) (p .ensures .1) (w .ensures),
-      l .inv .1,
+      way (entries-of (a .t .now)) (a .s) (s .pre .1) (s .pre .2) (p .path-to .result) (w .width .result) (p .path-to .ensures .0) (p .path-to .ensures .1) (w .width .ensures),
+      l .loop .inv .1,
       c .before .if1 .taken,
       s .pre .3,
-      (l .inv .0 .fits, l .inv .0 .room),
+      (l .loop .inv .0 .fits, l .loop .inv .0 .room),
     )
 
 enum-known-next : tie.Need-enum-known-next Inv-loop μ-loop
 enum-known-next c = search needs
 
+-- The loop's turn, before an occurrence that is put.
+abbrev turn : tie.After-put-row Inv-loop μ-loop → tie.At-loop Inv-loop μ-loop
+turn c = c .before .before .before .before
+
 same-length-2 : tie.Need-same-length-2 Inv-loop μ-loop
 same-length-2 c =
-    let g = run-same (c .before .before .before .before .before .before .before .before .before .loop .inv .0) in
-    let h = run-same (begun (c .before .before .before .before .before .before .before .before .before .before .before .before)) in
-    omega (arith, g, h)
+    let l = turn (c .before .before .before .before .before) in
+    omega (arith, run-same (l .loop .inv .0), run-same (begun (first l)))
 
 returns-2 : tie.Need-returns-2 Inv-loop μ-loop
 returns-2 c =
-    let s = c .before .before .before .before .before .before .before .before .before .before .before .before .before .before .before .before .before .before .before .before .before .before .before .before in
-    let a = s .args in
+    let p = c .before .before .before .before .before in
+    let a = start (first (turn p)) .args in
     let es = entries-of (a .t .now) in
-    let l = c .before .before .before .before .before .before .before .before .before .loop in
-    fills-rest (begun (c .before .before .before .before .before .before .before .before .before .before .before .before))
-    (run-off (l .inv .0) (row-items es (a .s) (l .o)) (span-items es (a .s) (l .o + 1)) (rows-first es (a .s) (l .o) (a .s .upto) (c .before .before .before .before .before .before .before .if1 .taken)) (c .before .before .before .before .before .put-row .ensures) _ (c .before .next .given .1))
+    let l = turn p .loop in
+    fills-rest (begun (first (turn p)))
+    (run-off (l .inv .0) (row-items es (a .s) (l .o)) (span-items es (a .s) (l .o + 1)) (rows-first es (a .s) (l .o) (a .s .upto) (p .before .before .if1 .taken)) (p .put-row .ensures) _ (c .before .next .given .1))
 
 enum-known-next-2 : tie.Need-enum-known-next-2 Inv-loop μ-loop
 enum-known-next-2 c = search needs
 
 add-o-2 : tie.Need-add-o-2 Inv-loop μ-loop
 add-o-2 c =
-    let s = c .before .before .before .before .before .before .before .before .before .before .before .before .before .before .before .before .before .before .before .before .before .before .before .before in
+    let p = c .before .before .before .before .before in
+    let s = start (first (turn p)) in
     let u = bounds (s .args .s .from) (s .args .s .upto) (s .pre .1 .occurrences) in
-    omega (arith, c .before .before .before .before .before .before .before .if1 .taken, u .2)
+    omega (arith, p .before .before .if1 .taken, u .2)
 
 loop-less : tie.Need-loop-less Inv-loop μ-loop
-loop-less c = omega (arith, c .before .before .before .before .before .before .before .if1 .taken)
+loop-less c = let p = c .before .before .before .before .before in omega (arith, p .before .before .if1 .taken)
 
 loop-again : tie.Need-loop-again Inv-loop μ-loop
 loop-again c =
-    let s = c .before .before .before .before .before .before .before .before .before .before .before .before .before .before .before .before .before .before .before .before .before .before .before .before in
-    let a = s .args in
+    let p = c .before .before .before .before .before in
+    let a = start (first (turn p)) .args in
     let es = entries-of (a .t .now) in
-    let l = c .before .before .before .before .before .before .before .before .before .loop in (
-      run-on (l .inv .0) (row-items es (a .s) (l .o)) (span-items es (a .s) (l .o + 1)) (rows-first es (a .s) (l .o) (a .s .upto) (c .before .before .before .before .before .before .before .if1 .taken)) (c .before .before .before .before .before .put-row .ensures) _ (c .before .next2 .given .1),
+    let l = turn p .loop in (
+      run-on (l .inv .0) (row-items es (a .s) (l .o)) (span-items es (a .s) (l .o + 1)) (rows-first es (a .s) (l .o) (a .s .upto) (p .before .before .if1 .taken)) (p .put-row .ensures) _ (c .before .next2 .given .1),
       omega arith,
     )
 
 same-length-3 : tie.Need-same-length-3 Inv-loop μ-loop
 same-length-3 c =
-    let g = run-same (c .before .before .loop .inv .0) in
-    let h = run-same (begun (c .before .before .before .before .before)) in
-    omega (arith, g, h)
+    let l = c .before .before in
+    omega (arith, run-same (l .loop .inv .0), run-same (begun (first l)))
 
 returns-3 : tie.Need-returns-3 Inv-loop μ-loop
 returns-3 c =
-    let s = c .before .before .before .before .before .before .before .before .before .before .before .before .before .before .before .before .before in
-    let a = s .args in
-    let l = c .before .before .loop in
-    fills-rest (begun (c .before .before .before .before .before)) (run-end (l .inv .0) (rows-none (entries-of (a .t .now)) (a .s) (l .o) (a .s .upto) (c .if1 .left)))
+    let l = c .before .before in
+    let a = start (first l) .args in
+    fills-rest (begun (first l)) (run-end (l .loop .inv .0) (rows-none (entries-of (a .t .now)) (a .s) (l .loop .o) (a .s .upto) (c .if1 .left)))
 
 pub put-rows-spec : {M : Type 1} → statement M
 put-rows-spec =
