@@ -4,10 +4,11 @@ use mathlib.Core.Bool.{true, false}
 use mathlib.Core.List.{List, [], _∷_, _++_, map}
 use mathlib.Core.Option.{none, some}
 use Prim.Native.Nat.{ℕ, zero, suc, _+_, _*_, _-_, _/_, _%_, _^_, _≤_, _<_}
-use native.Mathlib.Nat.{le-of-suc-le-suc, not-suc-le-zero, pow-suc}
+use native.Mathlib.Nat.{le-of-suc-le-suc, not-suc-le-zero, pow-suc, pow-le-pow-right}
 use native.Mathlib.Numerals.{add-one}
 use native.Mathlib.Omega.{arith}
 use borrow.Author.Tests.{lt-ltb, le-ltb, le-leb, lt-leb}
+use lib.Dec.{lit<}
 use lib.ListN.{length, drop, take, getD, drop-of-length-le, length-append, length-map}
 use lib.Seq.{drop-cons, take-all, take-take, take-at, getD-take, getD-at}
 use Rattle.rules.specs.Lists.{Bytes, spelled, digits}
@@ -29,14 +30,7 @@ pub below-turn : (i n d : ℕ) → n < 10 ^ i → d < 10 → n * 10 + d < 10 ^ (
 below-turn i n d h k = rw (add-one, pow-suc 10 i) (omega arith)
 
 pub below-million : (i : ℕ) → i ≤ 6 → 10 ^ i ≤ 1000000
-below-million zero h = omega arith
-below-million (suc zero) h = omega arith
-below-million (suc (suc zero)) h = omega arith
-below-million (suc (suc (suc zero))) h = omega arith
-below-million (suc (suc (suc (suc zero)))) h = omega arith
-below-million (suc (suc (suc (suc (suc zero))))) h = omega arith
-below-million (suc (suc (suc (suc (suc (suc zero)))))) h = omega arith
-below-million (suc (suc (suc (suc (suc (suc (suc i))))))) h = absurd (omega arith)
+below-million i h = pow-le-pow-right {n = 10} (lit< tt) {i = i} {j = 6} h
 
 pub number-some : (w : Bytes) → 1 ≤ length w → length w ≤ 6 → all-of-base 10 w ≡ true → number w ≡ some (spelled-number w)
 unfolding number is-number
