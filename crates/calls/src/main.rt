@@ -7,21 +7,25 @@ ghost use Prim.Native.Nat.{_*_, _≤_, _<_};
 ghost use lib.ListN.{length};
 ghost use Rattle.lines.specs.Placed.{Placed};
 ghost use Rattle.protocol.specs.Calls.{Called};
-ghost use Rattle.calls.specs.Areas.{Areas};
+ghost use Rattle.calls.specs.Areas.{room-size, line-size, Areas};
 
 // The buffer or room that a call is lent. A read writes no more than 32,767 bytes and a record has no more than 4,096,
 // so a call that asks for more than 40,000 bytes is answered as with 40,000.
-fn room_area() -> [u8; 40000]
-    ensures { λ r. ⌜ 40000 ≡ length r ⌝ }
-{
-    [0; 40000]
-}
+const ROOM_SIZE: usize = 40000;
 
 // The line of an answer: two digits for each byte of room, and 16 more.
-fn output_area() -> [u8; 80016]
-    ensures { λ r. ⌜ 80016 ≡ length r ⌝ }
+const LINE_SIZE: usize = 2 * ROOM_SIZE + 16;
+
+fn room_area() -> [u8; ROOM_SIZE]
+    ensures { λ r. ⌜ room-size ≡ length r ⌝ }
 {
-    [0; 80016]
+    [0; ROOM_SIZE]
+}
+
+fn output_area() -> [u8; LINE_SIZE]
+    ensures { λ r. ⌜ line-size ≡ length r ⌝ }
+{
+    [0; LINE_SIZE]
 }
 
 // The number and the length that a service returned. What is no call has no known answer, and so has an update until that
@@ -143,8 +147,8 @@ fn answer_call(line: &[u8], bytes: &mut [u8], room: &mut [u8]) -> Answered
 
 // The line of an answer whose bytes stand in front of room, to the front of out; the place after it.
 fn put(a: Answered, room: &[u8], out: &mut [u8]) -> usize
-    requires { ⌜ (a .length ≤ length (now room)) × (length (now room) ≤ 40000) × (80016 ≤ length (now out)) ⌝ }
-    ensures { λ r. ⌜ r ≤ 80016 ⌝ }
+    requires { ⌜ (a .length ≤ length (now room)) × (length (now room) ≤ room-size) × (line-size ≤ length (now out)) ⌝ }
+    ensures { λ r. ⌜ r ≤ line-size ⌝ }
 {
     let used = a.length;
     if a.known {
@@ -155,7 +159,7 @@ fn put(a: Answered, room: &[u8], out: &mut [u8]) -> usize
 }
 
 fn answer_line(line: &[u8], bytes: &mut [u8], room: &mut [u8], out: &mut [u8])
-    requires { ⌜ (length (now line) ≤ 2 * length (now bytes)) × (length (now room) ≤ 40000) × (80016 ≤ length (now out)) ⌝ }
+    requires { ⌜ (length (now line) ≤ 2 * length (now bytes)) × (length (now room) ≤ room-size) × (line-size ≤ length (now out)) ⌝ }
 {
     let a = answer_call(line, bytes, room);
     let end = put(a, room, out);

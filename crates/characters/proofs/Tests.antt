@@ -1,15 +1,11 @@
 -- Tests on bytes, case by case, as the code's branches meet them.
 use mathlib.Core.Path.{_≡_, refl, sym}
-use mathlib.Core.Bool.{Bool, true, false, not, _&&_, _||_}
+use mathlib.Core.Bool.{Bool, true, false, not, _&&_, _||_, false≢true}
 use Prim.Native.Nat.{ℕ}
-use native.Mathlib.Omega.{arith}
 use lib.Dec.{eqb}
 use borrow.Author.Tests.{not-true, not-false}
 use Rattle.rules.specs.Characters.{letter, digit, letter-E}
 use Rattle.rules.specs.Table.{is-name}
-
-pub false-true : _≡_ {A = Bool} false true → ⊥
-false-true p = let z : _≡_ {A = ℕ} 0 1 = cc in omega arith
 
 with-digit : (y w : Bool) → ((y || true) && not (w && true)) ≡ not w
 with-digit true true = refl
@@ -39,8 +35,8 @@ module _ (a b : ℕ) {t : Bool} (e : t ≡ letter a) where
 
 pub and-true : (a b : Bool) → (a && b) ≡ true → (a ≡ true) × (b ≡ true)
 and-true true true e = (refl, refl)
-and-true true false e = absurd (false-true e)
-and-true false b e = absurd (false-true e)
+and-true true false e = absurd (false≢true e)
+and-true false b e = absurd (false≢true e)
 
 pub and-true-right : (a : Bool) → (a && true) ≡ a
 and-true-right true = refl

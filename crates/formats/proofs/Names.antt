@@ -1,6 +1,6 @@
 -- The rules of a name and what follows it, step by step as the code takes them.
 use mathlib.Core.Path.{_≡_, refl, ap, _∙_}
-use mathlib.Core.Bool.{true, false}
+use mathlib.Core.Bool.{true, false, false≢true}
 use mathlib.Core.List.{[], _∷_}
 use mathlib.Core.Option.{none, some}
 use Prim.Native.Nat.{ℕ, _+_, _-_, _≤_, _<_}
@@ -21,7 +21,7 @@ use Rattle.formats.specs.Numbers.{range-end, byte-alone, number-and-rest
 use Rattle.formats.specs.declared.numbers.Number.{Number}
 use Rattle.formats.specs.declared.numbers.Number.the-variants.{Value, Bad}
 use Rattle.formats.proofs.Parts.{part-nil, part-cons}
-use Rattle.characters.proofs.Tests.{false-true, and-true-right, and-false-right}
+use Rattle.characters.proofs.Tests.{and-true-right, and-false-right}
 
 -- What is known once the answer of a reader of numbers is.
 pub numbered-value : {f : Bytes} {at upto : ℕ} {o : Outcome (ℕ × Bytes)} {r : Number} {n p : ℕ} → Numbered f at upto o r → r ≡ Value n p
@@ -34,7 +34,7 @@ numbered-bad {f} {at} {upto} w q = w .answer ∙ ap (number-and-rest f upto) q
 -- `)` and nothing more.
 closing-shut : (r : Range) (bs : Bytes) → byte-alone close-parenthesis bs ≡ true → closing r bs ≡ done r
 unfolding closing byte-alone
-closing-shut r [] e = absurd (false-true e)
+closing-shut r [] e = absurd (false≢true e)
 closing-shut r (b ∷ bs) e = rw e refl
 
 closing-open : (r : Range) (bs : Bytes) → byte-alone close-parenthesis bs ≡ false → closing r bs ≡ refused 3
@@ -88,7 +88,7 @@ module _ (n : ℕ) (r : Range) (f : Bytes) (at upto : ℕ) where
 module _ (n i : ℕ) where
   pub after-index-count : (bs : Bytes) → byte-alone letter-C bs ≡ true → after-index n i bs ≡ done (count n (some i))
   unfolding after-index byte-alone
-  after-index-count [] e = absurd (false-true e)
+  after-index-count [] e = absurd (false≢true e)
   after-index-count (b ∷ bs) e = rw (e, after-index) refl
 
   pub after-index-range : (bs : Bytes) → byte-alone letter-C bs ≡ false → {o : Outcome (ℕ × Bytes)} → range-end i bs ≡ o
@@ -116,7 +116,7 @@ module _ (n : ℕ) (f : Bytes) (at upto : ℕ) (k : upto ≤ length f) where
 
 after-name-C : (n : ℕ) (bs : Bytes) → byte-alone letter-C bs ≡ true → after-name n bs ≡ done (count n none)
 unfolding after-name byte-alone
-after-name-C n [] e = absurd (false-true e)
+after-name-C n [] e = absurd (false≢true e)
 after-name-C n (b ∷ bs) e = rw (e, after-name) refl
 
 after-name-other : (n b : ℕ) (bs : Bytes) → byte-alone letter-C (b ∷ bs) ≡ false

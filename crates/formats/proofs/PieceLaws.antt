@@ -12,7 +12,7 @@ use Rattle.rules.specs.Limits.{greatest-length, longest-blanks, longest-text}
 use Rattle.rules.specs.Characters.{digit, digit-0, apostrophe, letter-X}
 use Rattle.rules.specs.Lists.{Bytes, all, last, but-last}
 use Rattle.rules.specs.Table.{is-name, name-of}
-use Rattle.rules.specs.Format.{Piece, element, length-piece, format-piece, blanks, quoted, after-number, after-name, text-piece, piece, is-override}
+use Rattle.rules.specs.Format.{element, length-piece, format-piece, blanks, quoted, after-number, after-name, text-piece, piece, is-override}
 use Rattle.rules.proofs.Steps.{from-need, done-inj}
 use Rattle.formats.specs.Part.{part}
 use Rattle.formats.specs.Numbers.{byte-alone}
@@ -82,7 +82,7 @@ but-last-snoc (y ∷ []) x = refl
 but-last-snoc (y ∷ z ∷ zs) x = ap (λ (l : Bytes). y ∷ l) (but-last-snoc (z ∷ zs) x)
 
 -- A test before a refusal of the same number.
-still-refused : (t : Bool) → _≡_ {A = Outcome Piece} (need t 3 >>= λ _. refused 3) (refused 3)
+pub still-refused : {A : Type 0} (t : Bool) → _≡_ {A = Outcome A} (need t 3 >>= λ _. refused 3) (refused 3)
 still-refused true = refl
 still-refused false = refl
 

@@ -11,6 +11,7 @@ use Rattle.rules.proofs.Steps.{from-bind, done-inj}
 use Rattle.formats.specs.Syntax.{parsed, element-before}
 use Rattle.formats.specs.Texts.{pending, elements-first}
 use Rattle.rules.proofs.Only.{Only, Is}
+use Rattle.formats.proofs.PieceLaws.{still-refused}
 
 -- The elements, where neither a length nor a format stands before them.
 abbrev pub settle : Pending → Outcome (List Element)
@@ -34,10 +35,6 @@ settle-before x (refused n) = refl
 
 abbrev pub both : Option ℕ → Option ℕ → List Element → Pending
 both size format es = record { size = size; format = format; elements = es }
-
-still-refused : (t : Bool) → _≡_ {A = Outcome (List Element)} (need t 3 >>= λ _. refused 3) (refused 3)
-still-refused true = refl
-still-refused false = refl
 
 -- An element completed, and the elements taken.
 pub put-completed : (e : Element) (m : Outcome Pending)

@@ -4,18 +4,18 @@ use mathlib.Core.Bool.{true, false}
 use mathlib.Core.List.{List, [], _∷_, _++_, map}
 use mathlib.Core.Option.{none, some}
 use Prim.Native.Nat.{ℕ, zero, suc, _+_, _*_, _-_, _/_, _%_, _^_, _≤_, _<_}
-use native.Mathlib.Nat.{le-of-suc-le-suc, not-suc-le-zero, pow-suc}
+use native.Mathlib.Nat.{le-of-suc-le-suc, not-suc-le-zero, pow-suc, pow-le-pow-right}
 use native.Mathlib.Numerals.{add-one}
 use native.Mathlib.Omega.{arith}
 use borrow.Author.Tests.{lt-ltb, le-ltb, le-leb, lt-leb}
+use lib.Dec.{lit<}
 use lib.ListN.{length, drop, take, getD, drop-of-length-le, length-append, length-map}
 use lib.Seq.{drop-cons, take-all, take-take, take-at, getD-take, getD-at}
 use Rattle.rules.specs.Lists.{Bytes, spelled, digits}
 use Rattle.hexadecimal.specs.Text.{value, glyph, all-of-base, is-number, spelled-number, number, decimal-places, decimal-word}
 use Rattle.buffer.proofs.Cases.{by-order}
 
--- ---- reading
-
+-- Reading: what was read and the digits that are left spell the whole.
 module _ (i n : ℕ) (w : Bytes) where
   pub spelled-turn : i < length w → spelled 10 (map value (drop (i + 1) w)) (n * 10 + value (getD w i 0)) ≡ spelled 10 (map value (drop i w)) n
   unfolding spelled
@@ -25,19 +25,12 @@ module _ (i n : ℕ) (w : Bytes) where
   unfolding spelled
   spelled-end h = rw (drop-of-length-le w h)
 
--- what i digits spell is below ten to the power of i, and so below a million
+-- What i digits spell is below ten to the power of i, and so below a million.
 pub below-turn : (i n d : ℕ) → n < 10 ^ i → d < 10 → n * 10 + d < 10 ^ (i + 1)
 below-turn i n d h k = rw (add-one, pow-suc 10 i) (omega arith)
 
 pub below-million : (i : ℕ) → i ≤ 6 → 10 ^ i ≤ 1000000
-below-million zero h = omega arith
-below-million (suc zero) h = omega arith
-below-million (suc (suc zero)) h = omega arith
-below-million (suc (suc (suc zero))) h = omega arith
-below-million (suc (suc (suc (suc zero)))) h = omega arith
-below-million (suc (suc (suc (suc (suc zero))))) h = omega arith
-below-million (suc (suc (suc (suc (suc (suc zero)))))) h = omega arith
-below-million (suc (suc (suc (suc (suc (suc (suc i))))))) h = absurd (omega arith)
+below-million i h = pow-le-pow-right {n = 10} (lit< tt) {i = i} {j = 6} h
 
 pub number-some : (w : Bytes) → 1 ≤ length w → length w ≤ 6 → all-of-base 10 w ≡ true → number w ≡ some (spelled-number w)
 unfolding number is-number
@@ -55,8 +48,7 @@ pub number-none : (w : Bytes) → 1 ≤ length w → length w ≤ 6 → all-of-b
 unfolding number is-number
 number-none w h k e = rw (le-leb 1 (length w) h, le-leb (length w) 6 k, e)
 
--- ---- writing
-
+-- Writing: how many digits there are.
 pub length-digits : (b n x : ℕ) → length (digits b n x) ≡ n
 unfolding digits
 length-digits b zero x = refl
@@ -66,7 +58,7 @@ pub length-decimal : (n : ℕ) → length (decimal-word n) ≡ decimal-places n
 unfolding decimal-word
 length-decimal n = length-map (digits 10 (decimal-places n) n) glyph ∙ length-digits 10 (decimal-places n) n
 
--- a number below a million has one to six places, and they hold it
+-- A number below a million has one to six places, and they hold it.
 pub record Places (n k : ℕ) : Type 0 where
   pub least : 1 ≤ k
   pub most : k ≤ 6
@@ -93,7 +85,7 @@ getD-glyph [] j h = absurd (not-suc-le-zero h)
 getD-glyph (d ∷ ds) zero h = refl
 getD-glyph (d ∷ ds) (suc j) h = getD-glyph ds j (le-of-suc-le-suc h)
 
--- what is left of a number has the digits that are still to write
+-- What is left of a number has the digits that are still to write.
 abbrev pub Left : ℕ → ℕ → ℕ → ℕ → Type 0
 Left n k i rest = (i ≤ k) × (take i (digits 10 k n) ≡ digits 10 i rest)
 

@@ -1,4 +1,4 @@
--- Byte strings as pairs of digits: what stands at each place and the cases of a word.
+-- Byte strings as pairs of digits: what stands at each place, and the cases of a word.
 use mathlib.Core.Path.{_≡_, refl}
 use mathlib.Core.Bool.{Bool, true, false, _&&_}
 use mathlib.Core.List.{[], _∷_}
@@ -13,7 +13,7 @@ use Rattle.rules.specs.Lists.{Bytes, same}
 use Rattle.rules.proofs.Steps.{and-left, and-right}
 use Rattle.hexadecimal.specs.Text.{value, glyph, empty-word, all-of-base, paired, parted, is-paired, spelled-bytes}
 
--- ---- the bytes of a word of digits
+-- The bytes of a word of digits.
 
 pub length-paired : (w : Bytes) → length (paired w) ≡ length w / 2
 unfolding paired
@@ -46,7 +46,7 @@ from-paired w t =
       digits = and-right (eqb (length w % 2) 0) (all-of-base 16 w) u;
     }
 
--- ---- the digits of some bytes
+-- The digits of some bytes.
 
 pub length-parted : (bs : Bytes) → length (parted bs) ≡ 2 * length bs
 unfolding parted
@@ -69,11 +69,11 @@ parted-low (b ∷ bs) (suc i) h =
     let e : 2 * suc i + 1 ≡ suc (suc (2 * i + 1)) = omega arith in
     rw e (parted-low bs i (le-of-suc-le-suc h))
 
--- the place after a pair, as a loop counts it
+-- The place after a pair, as a loop counts it.
 pub twice-next : (i : ℕ) → 2 * (i + 1) ≡ 2 * i + 1 + 1
 twice-next i = omega arith
 
--- ---- the cases of a word
+-- The cases of a word.
 
 pub spelled-bytes-hyphen : (w : Bytes) → same w empty-word ≡ true → spelled-bytes w ≡ some []
 unfolding spelled-bytes

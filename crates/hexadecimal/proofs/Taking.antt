@@ -13,12 +13,12 @@ use Rattle.buffer.proofs.Laws.{splice-nil}
 use Rattle.buffer.specs.Search.{upto-first}
 use Rattle.hexadecimal.specs.Text.{empty-word, is-paired, spelled-bytes, number}
 use Rattle.hexadecimal.specs.Lines.{word-at, word-bytes, place-after, next-at, number-at}
-use Rattle.hexadecimal.specs.Answers.{decoded-upto, written-bytes, Decodes, Takes}
+use Rattle.hexadecimal.specs.Answers.{decoded-upto, Decodes, Takes}
 use Rattle.hexadecimal.specs.declared.Decoded.{Decoded}
 use Rattle.hexadecimal.specs.declared.Decoded.the-variants.{Upto, NoBytes}
 use Rattle.hexadecimal.proofs.Pairs.{length-paired, spelled-bytes-hyphen, spelled-bytes-pairs, spelled-bytes-none}
 
--- a word takes no more than half its length
+-- A word takes no more than half its length.
 pub spelled-bytes-half : (w bs : Bytes) → spelled-bytes w ≡ some bs → 2 * length bs ≤ length w
 spelled-bytes-half w bs e =
     by-test (same w empty-word)
@@ -43,7 +43,7 @@ module _ {C : Type 0} (at : ℕ) (o : Option Bytes) where
       never : (bs : Bytes) → NoBytes ≡ Upto (at + length bs) → ⊥
       never bs q = let z : _≡_ {A = ℕ} 0 1 = cc in omega arith
 
--- no bytes, and so no next word
+-- No bytes, and so no next word.
 gives-none : (line : Bytes) (at start : ℕ) (out : Bytes) → at ≤ length line + 1 → 2 * start ≤ at → word-bytes at line ≡ none
     → Takes line at start out out (record { end = start; next = length line + 1 })
 unfolding next-at place-after

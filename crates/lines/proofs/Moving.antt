@@ -9,7 +9,7 @@ use lib.Seq.{length-take-le, getD-append-add, getD-drop, getD-take}
 use Rattle.buffer.specs.Splice.{splice}
 use Rattle.buffer.proofs.Loops.{Up}
 
--- nothing moves where the bytes stand in front already
+-- Nothing moves if the bytes stand in front already.
 pub move-none : (s : List ℕ) (to : ℕ) → to ≤ length s → s ≡ splice 0 (take (to - 0) (drop 0 s)) s
 unfolding splice
 move-none s to h = rw (sub-zero to, length-take-le to s h) (sym (take-append-drop to s))
@@ -17,7 +17,7 @@ move-none s to h = rw (sub-zero to, length-take-le to s h) (sym (take-append-dro
 pub length-moved : (s : List ℕ) (from to : ℕ) → from ≤ to → to ≤ length s → length (take (to - from) (drop from s)) ≡ to - from
 length-moved s from to h k = simp (length-take, length-drop) (omega arith)
 
--- what stands from i on is as it was
+-- What stands from i on is as it was.
 ahead : (t s₀ s : List ℕ) (i m : ℕ) → i ≤ length t → s ≡ splice 0 (take i t) s₀ → getD s (i + m) 0 ≡ getD s₀ (i + m) 0
 unfolding splice
 ahead t s₀ s i m h e =

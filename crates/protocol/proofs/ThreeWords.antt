@@ -1,7 +1,7 @@
 -- Three words, taken one after the other: each begins where the one before it ends, and so do their bytes.
 use mathlib.Core.Path.{_≡_, _∙_, ap}
 use mathlib.Core.List.{_++_}
-use Prim.Native.Nat.{ℕ, _+_, _*_, _≤_}
+use Prim.Native.Nat.{_+_, _*_, _≤_}
 use native.Mathlib.Nat.{zero-add}
 use native.Mathlib.Omega.{arith}
 use lib.ListN.{length, length-append}

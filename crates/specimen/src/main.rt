@@ -1,8 +1,7 @@
 // The specimen job record of document 01: its cases that are not starred, run by the compiled services. Each line has a call, and the
 // number, the length and the bytes of its answer.
-ghost use Prim.Native.Nat.{_+_, _≤_};
+ghost use Prim.Native.Nat.{_≤_};
 ghost use lib.ListN.{length};
-ghost use mathlib.Core.Path.{_≡_};
 ghost use Rattle.lyrecanyon.specs.Answers.{answer-length};
 
 // Reads the specimen by a format into a buffer.
