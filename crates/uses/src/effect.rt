@@ -5,7 +5,6 @@ ghost use Prim.Native.Nat.{_<_};
 ghost use Rattle.rules.specs.Limits.{formats};
 ghost use Rattle.uses.specs.Effect.{Format-in-effect, Length-in-effect, Asks};
 
-// The format and the length in effect.
 pub enum Effect {
     At(usize, usize),
     Broken,
