@@ -1,11 +1,8 @@
 // The services: read, and the empty record of a table.
 ghost use mathlib.Core.Path.{_≡_};
 ghost use Prim.Native.Nat.{_≤_, min};
-ghost use lib.Dec.{eqb};
 ghost use lib.ListN.{length};
 ghost use Rattle.rules.specs.Limits.{longest-items};
-ghost use Rattle.rules.specs.Numbers.{refusal-number};
-ghost use Rattle.rules.specs.declared.Refusal.the-variants.{BeyondBuffer};
 ghost use Rattle.rules.specs.Services as Rules;
 ghost use Rattle.tables.specs.Entries.{Valid, entries-of};
 ghost use Rattle.records.specs.Places.{Holds};
@@ -57,24 +54,6 @@ fn least(a: usize, b: usize) -> usize
     if a < b { a } else { b }
 }
 
-// Whether it is for want of room that a call is refused.
-fn is_beyond(x: Refusal) -> bool
-    ensures { λ r. ⌜ r ≡ eqb (refusal-number x) (refusal-number BeyondBuffer) ⌝ }
-{
-    match x {
-        Refusal::BadTable => false,
-        Refusal::BadRecord => false,
-        Refusal::BadSyntax => false,
-        Refusal::UnknownName => false,
-        Refusal::UseRule => false,
-        Refusal::NamedTwice => false,
-        Refusal::BeyondBuffer => true,
-        Refusal::BadValue => false,
-        Refusal::OutOfRange => false,
-        Refusal::NoRoom => false,
-    }
-}
-
 // The items of a format. All are tested first, in their order, so that a refusal changes no byte.
 fn read_long(
     table: &[u8],
@@ -113,14 +92,15 @@ fn read_short(
     let room = least(end, area.len());
     let next = reading::scan(table, stored, places, format, area, room, true);
     match next {
-        Next::Refused(x) => {
-            if is_beyond(x) {
+        Next::Refused(x) => match x {
+            Refusal::BeyondBuffer => {
                 if room < end {
                     return read_long(table, stored, places, format, buffer, end);
                 }
+                Answer::Refused(x)
             }
-            Answer::Refused(x)
-        }
+            _ => Answer::Refused(x),
+        },
         Next::At(made) => {
             buffer::put(&area[..made], buffer, 0);
             Answer::Done(made)

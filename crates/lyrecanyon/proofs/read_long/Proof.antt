@@ -1,6 +1,5 @@
 -- `lyrecanyon::read_long` meets its contract: one pass tests the items, and one more writes what has passed.
-use native.Mathlib.Omega.{arith}
-use Rattle.lyrecanyon.proofs.Readings.{Ready, refused-between, tested-refused, long-read}
+use Rattle.lyrecanyon.proofs.Readings.{Ready, tested-refused, long-read}
 use borrow.Author.Needs.{needs}
 use Rattle.lyrecanyon.proofs.read_long.Statement.{statement}
 use Rattle.lyrecanyon.proofs.read_long.Tie as tie
@@ -14,11 +13,6 @@ scan-requires c κs = search needs
 enum-known-next : tie.Need-enum-known-next
 enum-known-next c = search needs
 
-refusal-of-requires : tie.Need-refusal-of-requires
-refusal-of-requires c κs =
-    let n = refused-between (ready (c .before .before .before .before .before .before .before .before .before .before .before)) _ (c .before .before .before .before .before .scan .ensures) (c .before .next .given .1) in
-    (omega (arith, n .0), omega (arith, n .1))
-
 enum-known-next-2 : tie.Need-enum-known-next-2
 enum-known-next-2 c = search needs
 
@@ -29,7 +23,7 @@ same-length : tie.Need-same-length
 same-length c = search needs
 
 returns : tie.Need-returns
-returns c = tested-refused (ready (c .before .before .before .before .before .before .before .before .before .before .before .before)) (c .before .before .before .before .before .before .scan .ensures) (c .before .before .next .given .1) _ (c .refusal-of .ensures)
+returns c = tested-refused (ready (c .before .before .before .before .before .before .before .before .before .before .before)) (c .before .before .before .before .before .scan .ensures) (c .before .next .given .1)
 
 same-length-2 : tie.Need-same-length-2
 same-length-2 c = search needs
@@ -43,7 +37,6 @@ read-long-spec =
     (tie.spec
     scan-requires
     enum-known-next
-    refusal-of-requires
     enum-known-next-2
     scan-requires-2
     same-length

@@ -3,8 +3,7 @@ use mathlib.Core.Path.{sym}
 use Prim.Native.Nat.{_≤_}
 use native.Mathlib.Omega.{arith}
 use lib.Seq.{length-take-le}
-use Rattle.rules.specs.declared.Refusal.the-variants.{BeyondBuffer}
-use Rattle.lyrecanyon.proofs.Readings.{Ready, refused-between, all-refused, less-refused, made-within, short-read}
+use Rattle.lyrecanyon.proofs.Readings.{not-beyond, Ready, all-refused, less-refused, made-within, short-read}
 use borrow.Author.Needs.{needs}
 use Rattle.lyrecanyon.proofs.read_short.Statement.{statement}
 use Rattle.lyrecanyon.proofs.read_short.Tie as tie
@@ -28,31 +27,20 @@ scan-requires c κs = search needs
 enum-known-next : tie.Need-enum-known-next
 enum-known-next c = search needs
 
-refusal-of-requires : tie.Need-refusal-of-requires
-refusal-of-requires c κs =
-    let s = c .before .before .before .before .before .before in
-    let n = refused-between (ready s) _ (s .scan .ensures) (c .before .before .next .given .1) in
-    (omega (arith, n .0), omega (arith, n .1))
-
-same-length : tie.Need-same-length
-same-length c = search needs
-
-returns : tie.Need-returns
-returns c =
-    let s = c .before .before .before .before .before .before .before in
-    less-refused (ready s) _ (s .scan .ensures) (c .before .before .before .next .given .1) (less s) (λ z. omega (arith, z, c .before .if1 .taken)) _ (c .refusal-of .ensures)
+enum-told : tie.Need-enum-told
+enum-told c = search needs
 
 read-long-requires : tie.Need-read-long-requires
 read-long-requires c κs = search needs
 
+same-length : tie.Need-same-length
+same-length c = search needs
+
 same-length-2 : tie.Need-same-length-2
 same-length-2 c = search needs
 
-same-length-3 : tie.Need-same-length-3
-same-length-3 c = search needs
-
-returns-2 : tie.Need-returns-2
-returns-2 c = search needs
+returns : tie.Need-returns
+returns c = search needs
 
 enum-known-next-2 : tie.Need-enum-known-next-2
 enum-known-next-2 c = search needs
@@ -70,13 +58,22 @@ put-requires c κs =
     let s = c .before .before .before .before .before .before .before in
     omega (arith, slice-aggregate-put (c .before), made-within (ready s) _ (s .scan .ensures) (c .before .before .before .next2 .given .1), less s, ready s .room)
 
+same-length-3 : tie.Need-same-length-3
+same-length-3 c = search needs
+
+-- The area is as long as the buffer has room.
+returns-2 : tie.Need-returns-2
+returns-2 c =
+    let s = c .before .before .before .before .before .before .before .before in
+    all-refused (ready s) _ (s .scan .ensures) (c .before .before .before .before .next .given .1) (omega (arith, less s, c .if1 .left))
+
 same-length-4 : tie.Need-same-length-4
 same-length-4 c = search needs
 
 returns-3 : tie.Need-returns-3
 returns-3 c =
-    let s = c .before .before .before .before .before .before .before in
-    all-refused (ready s) _ (s .scan .ensures) (c .before .before .before .next .given .1) (omega (arith, less s, c .if2 .left)) BeyondBuffer (omega (arith, c .before .if1 .left))
+    let s = c .before .before .before .before .before .before in
+    less-refused (ready s) _ (s .scan .ensures) (c .before .before .next .given .1) (less s) (not-beyond (c .before .before .next .given .0 .0) (c .match2 .keys2))
 
 same-length-5 : tie.Need-same-length-5
 same-length-5 c = search needs
@@ -97,17 +94,17 @@ read-short-spec =
     least-requires-2
     scan-requires
     enum-known-next
-    refusal-of-requires
-    same-length
-    returns
+    enum-told
     read-long-requires
+    same-length
     same-length-2
-    same-length-3
-    returns-2
+    returns
     enum-known-next-2
     slice-reshare-prefix-put
     slice-aggregate-put
     put-requires
+    same-length-3
+    returns-2
     same-length-4
     returns-3
     same-length-5
