@@ -21,7 +21,7 @@ same-length c = search needs
 returns : tie.Need-returns
 returns c =
     let s = c .before .before .before .before .before .before .before .before in
-    omega (arith, c .length .ensures, c .before .before .before .before .empty .ensures .size, empty-within (s .args .table .now) (length (s .args .room .now)))
+    omega (arith, c .length .ensures, c .before .before .before .before .empty .ensures .size-is, empty-within (s .args .table .now) (length (s .args .room .now)))
 
 pub answer-empty-spec : {M : Type 1} → statement M
 answer-empty-spec =

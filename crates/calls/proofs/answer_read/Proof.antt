@@ -21,7 +21,7 @@ same-length c = search needs
 returns : tie.Need-returns
 returns c =
     let s = c .before .before .before .before .before .before .before .before .before .before in
-    omega (arith, c .length .ensures, c .before .before .before .before .read .ensures .size, read-within (s .args .table .now) (s .args .stored .now) (s .args .format .now) (length (s .args .room .now)))
+    omega (arith, c .length .ensures, c .before .before .before .before .read .ensures .size-is, read-within (s .args .table .now) (s .args .stored .now) (s .args .format .now) (length (s .args .room .now)))
 
 pub answer-read-spec : {M : Type 1} → statement M
 answer-read-spec =

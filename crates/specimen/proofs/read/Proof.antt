@@ -18,7 +18,7 @@ same-length : tie.Need-same-length
 same-length c = search needs
 
 returns : tie.Need-returns
-returns c = rw (c .before .before .read .ensures .size) (read-within _ _ _ _)
+returns c = rw (c .before .before .read .ensures .size-is) (read-within _ _ _ _)
 
 pub read-spec : {M : Type 1} → statement M
 read-spec = tie.close (tie.spec slice-aggregate-read slice-aggregate-read-2 read-requires same-length returns)
