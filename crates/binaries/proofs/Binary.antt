@@ -12,19 +12,19 @@ use borrow.Author.Tests.{lt-ltb, le-ltb, ltb-true, le-leb, lt-leb}
 use Rattle.rules.specs.Outcome.{done, is-done}
 use Rattle.rules.specs.Limits.{lowest-word}
 use Rattle.rules.specs.Lists.{Bytes, bytes-of, spelled, digits}
-use Rattle.rules.specs.Values.{number, binary, meaning, normal, carried, converted, conversion, in-range, in-normal-form}
+use Rattle.rules.specs.Values.{number, binary, meaning, normal, converted-bytes, converted, conversion, in-range, in-normal-form}
 use Rattle.rules.proofs.Done.{is-done-need, done-need, no-length-byte}
 use Rattle.rules.proofs.Digits.{Below, below-drop, spelled-turn, spelled-end, spelled-after, spelled-below, spelled-grows, digits-spelled, own-digits, digits-zero}
 use Rattle.buffer.proofs.Cases.{by-order}
-use Rattle.words.specs.Words.{pick, word-of, value-of}
-use Rattle.words.specs.declared.Word.{Word}
-use Rattle.words.specs.declared.Word.the-variants.{Number, Outside}
-use Rattle.words.proofs.NormalForm.{is-normal-form}
+use Rattle.fixed.specs.Words.{pick, word-of, value-of}
+use Rattle.fixed.specs.declared.Word.{Word}
+use Rattle.fixed.specs.declared.Word.the-variants.{Number, Outside}
+use Rattle.fixed.proofs.NormalForm.{is-normal-form}
 
 -- Carried from B to B, a value is written as the number that it means.
-carried-is : (n : ℕ) (s : Bytes) → carried binary binary n s ≡ normal binary n (number false (spelled 256 s 0))
-unfolding carried converted meaning conversion in-range
-carried-is n s = refl
+converted-is : (n : ℕ) (s : Bytes) → converted-bytes binary binary n s ≡ normal binary n (number false (spelled 256 s 0))
+unfolding converted-bytes converted meaning conversion in-range
+converted-is n s = refl
 
 pub fits-is : (n x : ℕ) → is-done (normal binary n (number false x)) ≡ ltb x (256 ^ n)
 unfolding normal
@@ -50,8 +50,8 @@ unfolding bytes-of
 word-bytes n false x d = rw (normal-is n x (ltb-true x (256 ^ n) (sym (fits-is n x) ∙ d)))
 word-bytes n true x d = absurd (false≢true (sym (never-minus n x) ∙ d))
 
-carried-fits : (n : ℕ) (s : Bytes) → is-done (carried binary binary n s) ≡ ltb (spelled 256 s 0) (256 ^ n)
-carried-fits n s = rw (carried-is n s) (fits-is n (spelled 256 s 0))
+converted-fits : (n : ℕ) (s : Bytes) → is-done (converted-bytes binary binary n s) ≡ ltb (spelled 256 s 0) (256 ^ n)
+converted-fits n s = rw (converted-is n s) (fits-is n (spelled 256 s 0))
 
 -- One byte of the walk: a zero changes nothing, another byte makes the number too large for the bytes after it.
 module _ (s : Bytes) (i : ℕ) (h : i < length s) where
@@ -73,15 +73,15 @@ small s n b h =
 
 -- The answers of the walk.
 module _ (s : Bytes) (n i : ℕ) (same : spelled 256 (drop i s) 0 ≡ spelled 256 s 0) where
-  pub walk-fits : Below 256 s → length s ≤ n + i → is-done (carried binary binary n s) ≡ true
+  pub walk-fits : Below 256 s → length s ≤ n + i → is-done (converted-bytes binary binary n s) ≡ true
   walk-fits b h =
-      carried-fits n s
+      converted-fits n s
       ∙ lt-ltb (spelled 256 s 0) (256 ^ n)
       (rw same at (small (drop i s) n (below-drop 256 s i b) (rw length-drop (omega arith))))
 
-  pub walk-stops : (getD s i 0 ≡ 0 → ⊥) → n + i < length s → is-done (carried binary binary n s) ≡ false
+  pub walk-stops : (getD s i 0 ≡ 0 → ⊥) → n + i < length s → is-done (converted-bytes binary binary n s) ≡ false
   walk-stops z h =
-      carried-fits n s
+      converted-fits n s
       ∙ le-ltb (spelled 256 s 0) (256 ^ n)
       (rw same at (too-large s i (omega arith) n (omega (arith, z)) h))
 
@@ -94,22 +94,22 @@ leading s n h (suc k) l =
     (λ p. absurd (omega (arith, too-large s k (omega arith) n p (omega arith))))
     (λ z. rw add-one at (zero-skips s k (omega arith) (omega arith)) ∙ same)
 
-module _ (s : Bytes) (n : ℕ) (b : Below 256 s) (fits : is-done (carried binary binary n s) ≡ true) where
+module _ (s : Bytes) (n : ℕ) (b : Below 256 s) (fits : is-done (converted-bytes binary binary n s) ≡ true) where
   fitting : spelled 256 s 0 < 256 ^ n
-  fitting = ltb-true (spelled 256 s 0) (256 ^ n) (sym (carried-fits n s) ∙ fits)
+  fitting = ltb-true (spelled 256 s 0) (256 ^ n) (sym (converted-fits n s) ∙ fits)
 
-  bytes-are : bytes-of (carried binary binary n s) ≡ digits 256 n (spelled 256 s 0)
+  bytes-are : bytes-of (converted-bytes binary binary n s) ≡ digits 256 n (spelled 256 s 0)
   unfolding bytes-of
-  bytes-are = rw (carried-is n s, normal-is n (spelled 256 s 0) fitting)
+  bytes-are = rw (converted-is n s, normal-is n (spelled 256 s 0) fitting)
 
   -- The last n bytes, or all with zeros to the left.
-  pub last-bytes : n ≤ length s → bytes-of (carried binary binary n s) ≡ drop (length s - n) s
+  pub last-bytes : n ≤ length s → bytes-of (converted-bytes binary binary n s) ≡ drop (length s - n) s
   last-bytes h =
       let k = length s - n in
       let l : length (drop k s) ≡ n = rw length-drop (omega arith) in
       bytes-are ∙ rw (← leading s n fitting k (omega arith)) (rw l at (own-digits 256 (drop k s) (below-drop 256 s k b)))
 
-  pub padded-bytes : length s ≤ n → bytes-of (carried binary binary n s) ≡ replicate (n - length s) 0 ++ s
+  pub padded-bytes : length s ≤ n → bytes-of (converted-bytes binary binary n s) ≡ replicate (n - length s) 0 ++ s
   padded-bytes h =
       let e : n ≡ length s + (n - length s) = omega arith in
       bytes-are ∙ ap (λ m. digits 256 m (spelled 256 s 0)) e ∙ digits-spelled 256 s (n - length s) 0 b ∙ rw (digits-zero 256 (n - length s))

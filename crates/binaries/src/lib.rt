@@ -1,4 +1,4 @@
-// Format B: unsigned numbers of 1 to LONGEST_BINARY bytes, carried from bytes to bytes, and to and from a word.
+// Format B: unsigned numbers of 1 to LONGEST_BINARY bytes, converted from bytes to bytes, and to and from a word.
 ghost use mathlib.Core.Path.{_≡_};
 ghost use mathlib.Core.Bool.{true};
 ghost use Prim.Native.Nat.{_+_, _≤_, _<_};
@@ -6,12 +6,12 @@ ghost use lib.Dec.{eqb};
 ghost use lib.ListN.{length};
 ghost use Rattle.rules.specs.Outcome.{is-done};
 ghost use Rattle.rules.specs.Lists.{bytes-of};
-ghost use Rattle.rules.specs.Values.{binary, meaning, normal, carried};
-ghost use Rattle.words.specs.Words.{signed-value, word-of, value-of};
+ghost use Rattle.rules.specs.Values.{binary, meaning, normal, converted-bytes};
+ghost use Rattle.fixed.specs.Words.{signed-value, word-of, value-of};
 ghost use Rattle.buffer.specs.Splice.{splice};
+use fixed::Signed;
+use fixed::Word;
 use rules::LOWEST_WORD;
-use words::Signed;
-use words::Word;
 
 fn is_zero(b: u8) -> bool
     ensures { λ r. ⌜ r ≡ eqb b 0 ⌝ }
@@ -21,7 +21,7 @@ fn is_zero(b: u8) -> bool
 
 // Whether the number of s fits n bytes: whether all bytes before the last n are zeros.
 pub fn binary_fits(s: &[u8], n: usize) -> bool
-    ensures { λ r. ⌜ r ≡ is-done (carried binary binary n (now (s .entry))) ⌝ }
+    ensures { λ r. ⌜ r ≡ is-done (converted-bytes binary binary n (now (s .entry))) ⌝ }
 {
     if s.len() <= n {
         return true;
@@ -39,9 +39,9 @@ pub fn binary_fits(s: &[u8], n: usize) -> bool
 }
 
 // Writes the number of s as n bytes to out, from the place at.
-pub fn carry_binary(s: &[u8], n: usize, out: &mut [u8], at: usize)
-    requires { ⌜ (is-done (carried binary binary n (now s)) ≡ true) × (at + n ≤ length (now out)) ⌝ }
-    ensures { λ _. ⌜ now (out .exit) ≡ splice at (bytes-of (carried binary binary n (now (s .entry)))) (now (out .entry)) ⌝ }
+pub fn convert_binary(s: &[u8], n: usize, out: &mut [u8], at: usize)
+    requires { ⌜ (is-done (converted-bytes binary binary n (now s)) ≡ true) × (at + n ≤ length (now out)) ⌝ }
+    ensures { λ _. ⌜ now (out .exit) ≡ splice at (bytes-of (converted-bytes binary binary n (now (s .entry)))) (now (out .entry)) ⌝ }
 {
     let len = s.len();
     if n < len {
@@ -106,5 +106,5 @@ pub fn write_binary_word(v: Signed, n: usize, out: &mut [u8], at: usize)
     requires { ⌜ (is-done (normal binary n (signed-value v)) ≡ true) × (at + n ≤ length (now out)) ⌝ }
     ensures { λ _. ⌜ now (out .exit) ≡ splice at (bytes-of (normal binary n (signed-value v))) (now (out .entry)) ⌝ }
 {
-    words::put_number(v.magnitude, n, out, at);
+    fixed::put_number(v.magnitude, n, out, at);
 }

@@ -75,7 +75,7 @@ pub splice-down : (p : ℕ) (bs out : List ℕ) (q v : ℕ) → q ≡ p + 1 → 
     → set (splice q bs out) p v ≡ splice p (v ∷ bs) out
 splice-down p bs out q v e h = rw (e, add-one) (down p bs out v h)
 
--- ---- a turn of a loop that writes the list t from at on, and its end
+-- ---- a turn of a loop that writes the list t from `at`, and its end
 
 -- going up: the turn that stores t's byte i
 pub turn-up : (at : ℕ) (t out₀ out : List ℕ) (i q v : ℕ) → out ≡ splice at (take i t) out₀

@@ -1,5 +1,5 @@
 -- Two kinds of loop, a byte a turn: the invariant as a record, its start, its turn and its end.
--- A write of the n bytes of t to out from at on: `Up` goes from the left, `Down` from the right; the byte that a turn stores is t's
+-- A write of the n bytes of t to out from `at`: `Up` goes from the left, `Down` from the right; the byte that a turn stores is t's
 -- at that place. A test of the first n bytes of s: `Scan` goes from the left, `Back` from the right; what is left answers as the whole.
 use mathlib.Core.Path.{_≡_, refl, sym, ap, _∙_}
 use mathlib.Core.Bool.{Bool, true, false, _&&_, and-true, and-false}

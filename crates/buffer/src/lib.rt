@@ -6,7 +6,7 @@ ghost use Rattle.rules.specs.Lists.{same};
 ghost use Rattle.buffer.specs.Splice.{splice};
 ghost use Rattle.buffer.specs.Search.{upto-first};
 
-// All of src, to out from at on; the place after it.
+// All of src, to out from `at`; the place after it.
 pub fn put(src: &[u8], out: &mut [u8], at: usize) -> usize
     requires { ⌜ at + length (now src) ≤ length (now out) ⌝ }
     ensures { λ r. ⌜ (r ≡ at + length (now (src .entry))) × (now (out .exit) ≡ splice at (now (src .entry)) (now (out .entry))) ⌝ }
@@ -19,7 +19,7 @@ pub fn put(src: &[u8], out: &mut [u8], at: usize) -> usize
     at + i
 }
 
-// The byte b, n times, to out from at on.
+// The byte b, n times, to out from `at`.
 pub fn fill(out: &mut [u8], at: usize, n: usize, b: u8)
     requires { ⌜ at + n ≤ length (now out) ⌝ }
     ensures { λ _. ⌜ now (out .exit) ≡ splice at (replicate n b) (now (out .entry)) ⌝ }
@@ -31,7 +31,7 @@ pub fn fill(out: &mut [u8], at: usize, n: usize, b: u8)
     }
 }
 
-// Whether t stands in s from at on.
+// Whether t stands in s from `at`.
 pub fn stands_at(s: &[u8], at: usize, t: &[u8]) -> bool
     requires { ⌜ at + length (now t) ≤ length (now s) ⌝ }
     ensures { λ r. ⌜ r ≡ same (take (length (now (t .entry))) (drop at (now (s .entry)))) (now (t .entry)) ⌝ }
@@ -46,7 +46,7 @@ pub fn stands_at(s: &[u8], at: usize, t: &[u8]) -> bool
     true
 }
 
-// The first place from at on that has the byte b, or the end.
+// The first place from `at` that has the byte b, or the end.
 pub fn find(s: &[u8], at: usize, b: u8) -> usize
     requires { ⌜ at ≤ length (now s) ⌝ }
     ensures { λ r. ⌜ (r ≡ at + upto-first b (drop at (now (s .entry)))) × (at ≤ r) × (r ≤ length (now (s .entry))) ⌝ }

@@ -11,11 +11,11 @@ use Rattle.rules.specs.Limits.{formats, longest-alpha}
 use Rattle.rules.specs.Lists.{Bytes, bytes-of}
 use Rattle.rules.specs.Values.{allowed, first-value}
 use Rattle.rules.proofs.Steps.{and-left, and-right, true-T, T-true, by-outcome, done-inj, not-done}
-use Rattle.kinds.specs.Formats.{format-at}
+use Rattle.value_formats.specs.Formats.{format-at}
 use Rattle.values.specs.Fits.{bytes-size}
 use Rattle.values.specs.Places.{Located}
-use Rattle.values.specs.declared.First.{First}
-use Rattle.values.specs.declared.First.the-variants.{Value}
+use Rattle.values.specs.declared.FirstValue.{FirstValue}
+use Rattle.values.specs.declared.FirstValue.the-variants.{Value}
 use Rattle.values.proofs.Cuts.{found-content}
 
 pub has-format : (k n : ℕ) → (ltb k formats && allowed (format-at k) n) ≡ true → (k < formats) × (allowed (format-at k) n ≡ true)
@@ -29,7 +29,7 @@ fit-bytes o n e = by-outcome o
     (λ b h. (ap is-done h, done-inj (e ∙ ap bytes-size h) ∙ ap length (ap bytes-of (sym h))))
     (λ k h. absurd (not-done (sym (e ∙ ap bytes-size h))))
 
-module _ (s : Bytes) (size from next : ℕ) {r : First} (f : Located s 0 (first-value size (drop 0 s)) r) (e : r ≡ Value from next) where
+module _ (s : Bytes) (size from next : ℕ) {r : FirstValue} (f : Located s 0 (first-value size (drop 0 s)) r) (e : r ≡ Value from next) where
   pub first-within : (from ≤ next) × (next ≤ length s)
   first-within = ((rw e at (f .place)) .1, (rw e at (f .place)) .2)
 

@@ -6,7 +6,7 @@
 use hexadecimal::NumberWord;
 use lines::Line;
 use rules::Refusal;
-use values::First;
+use values::FirstValue;
 use values::Fit;
 ghost use mathlib.Core.Path.{_≡_};
 ghost use mathlib.Core.Bool.{true, _&&_};
@@ -16,7 +16,7 @@ ghost use lib.Dec.{ltb};
 ghost use lib.ListN.{length};
 ghost use Rattle.rules.specs.Limits.{formats, longest-alpha};
 ghost use Rattle.rules.specs.Values.{allowed};
-ghost use Rattle.kinds.specs.Formats.{format-at};
+ghost use Rattle.value_formats.specs.Formats.{format-at};
 ghost use Rattle.lines.specs.Placed.{Placed};
 ghost use Rattle.conversions.specs.Cases.{used, Conversion-areas};
 
@@ -30,12 +30,12 @@ enum Reply {
 // The number of a format; one more than the last for what is none.
 fn format_of(letter: u8) -> usize {
     match letter {
-        b'A' => kinds::ALPHA,
-        b'V' => kinds::ALPHA,
-        b'B' => kinds::BINARY,
-        b'F' => kinds::FIXED,
-        b'P' => kinds::PACKED,
-        b'U' => kinds::UNPACKED,
+        b'A' => value_formats::ALPHA,
+        b'V' => value_formats::ALPHA,
+        b'B' => value_formats::BINARY,
+        b'F' => value_formats::FIXED,
+        b'P' => value_formats::PACKED,
+        b'U' => value_formats::UNPACKED,
         _ => rules::FORMATS,
     }
 }
@@ -45,7 +45,7 @@ fn has_length(format: usize, size: usize) -> bool
     ensures { λ r. ⌜ r ≡ (ltb format formats && allowed (format-at format) size) ⌝ }
 {
     if format < rules::FORMATS {
-        return kinds::allowed(format, size);
+        return value_formats::allowed(format, size);
     }
     false
 }
@@ -80,7 +80,7 @@ fn convert(s: &[u8], from: usize, to: usize, n: usize, room: &mut [u8]) -> Reply
                 if room.len() < size {
                     return Reply::Refused(Refusal::BeyondBuffer);
                 }
-                values::carry(s, from, to, n, room, 0);
+                values::convert(s, from, to, n, room, 0);
                 return Reply::Done(size);
             }
         }
@@ -138,10 +138,10 @@ fn answer_value(s: &[u8], source: u8, target: u8, n: usize, room: &mut [u8]) -> 
     let size = size_of(source, s.len());
     let first = values::first_value(s, 0, size);
     match first {
-        First::Value(from, next) => {
+        FirstValue::Value(from, next) => {
             answer_content(&s[from..next], format_of(source), size, target, n, room)
         }
-        First::Refused(k) => Reply::Refused(k),
+        FirstValue::Refused(k) => Reply::Refused(k),
     }
 }
 

@@ -1,4 +1,4 @@
--- The normal form of P and U: when a number fits, its bytes, when a value is in it, and a value carried to it.
+-- The normal form of P and U: when a number fits, its bytes, when a value is in it, and a value converted to it.
 use mathlib.Core.Path.{_≡_, refl, sym, _∙_, ap}
 use mathlib.Core.Bool.{Bool, true, false, and-true}
 use mathlib.Core.List.{List, [], _∷_, _++_}
@@ -12,11 +12,11 @@ use Rattle.rules.specs.Limits.{longest-alpha}
 use Rattle.rules.specs.Lists.{Bytes, bytes-of, same}
 use Rattle.rules.specs.Numbers.{refusal-number}
 use Rattle.rules.specs.declared.Refusal.the-variants.{OutOfRange}
-use Rattle.rules.specs.Values.{Format, Value, number, pairs, zoned, meaning, sign-written, normal, in-normal-form, conversion, in-range, converted, carried}
+use Rattle.rules.specs.Values.{Format, Value, number, pairs, zoned, meaning, sign-written, normal, in-normal-form, conversion, in-range, converted, converted-bytes}
 use Rattle.rules.proofs.Steps.{by-test, eqb-same}
 use Rattle.rules.proofs.Done.{is-done-need, no-length-byte}
 use Rattle.rules.proofs.Digits.{spelled-below, own-digits}
-use Rattle.words.proofs.NormalForm.{compares}
+use Rattle.fixed.proofs.NormalForm.{compares}
 use Rattle.decimals.specs.Decimals.{decimal-format, digits-of, sign-half, magnitude-of, is-minus, Readable, places, encoded, written}
 use Rattle.decimals.proofs.Halves.{length-digits-of}
 use Rattle.decimals.proofs.Sound.{Sound, sound, readable, below-ten}
@@ -87,28 +87,28 @@ module _ {p : Bool} {bs : Bytes} (v : Sound p bs) where
       (ap (λ b. same (encoded p (digits-of p bs) (sign-written (is-minus p bs))) b) (sym (v .whole))
       ∙ same-encoded p (length bs) (digits-of p bs) _ _ (v .some) l)
 
-  -- a value carried between P and U is its number in normal form there
-  pub carried-is : (q : Bool) (n : ℕ) → carried (decimal-format p) (decimal-format q) n bs ≡ normal (decimal-format q) n (number (is-minus p bs) (magnitude-of p bs))
-  unfolding carried converted
-  carried-is q n = rw (v .means, every-value p q (number (is-minus p bs) (magnitude-of p bs)))
+  -- a value converted between P and U is its number in normal form there
+  pub converted-is : (q : Bool) (n : ℕ) → converted-bytes (decimal-format p) (decimal-format q) n bs ≡ normal (decimal-format q) n (number (is-minus p bs) (magnitude-of p bs))
+  unfolding converted-bytes converted
+  converted-is q n = rw (v .means, every-value p q (number (is-minus p bs) (magnitude-of p bs)))
 
--- what is carried is a value
-pub carried-value : (f g : Format) (n : ℕ) (bs : Bytes) → is-done (carried f g n bs) ≡ true → is-done (meaning f bs) ≡ true
-unfolding carried
-carried-value f g n bs e = go (meaning f bs) e
+-- what is converted is a value
+pub converted-value : (f g : Format) (n : ℕ) (bs : Bytes) → is-done (converted-bytes f g n bs) ≡ true → is-done (meaning f bs) ≡ true
+unfolding converted-bytes
+converted-value f g n bs e = go (meaning f bs) e
   where
     go : (m : Outcome Value) → is-done (m >>= converted f g n) ≡ true → is-done m ≡ true
     go (done v) e = refl
     go (refused k) e = e
 
-module _ (p q : Bool) (n : ℕ) (bs : Bytes) (e : is-done (carried (decimal-format p) (decimal-format q) n bs) ≡ true) where
-  carried-sound : Sound p bs
-  carried-sound = sound p bs (carried-value (decimal-format p) (decimal-format q) n bs e)
+module _ (p q : Bool) (n : ℕ) (bs : Bytes) (e : is-done (converted-bytes (decimal-format p) (decimal-format q) n bs) ≡ true) where
+  converted-sound : Sound p bs
+  converted-sound = sound p bs (converted-value (decimal-format p) (decimal-format q) n bs e)
 
-  pub carried-readable : length bs ≤ longest-alpha → Readable p bs
-  carried-readable = readable carried-sound
+  pub converted-readable : length bs ≤ longest-alpha → Readable p bs
+  converted-readable = readable converted-sound
 
-  pub carried-bytes : bytes-of (carried (decimal-format p) (decimal-format q) n bs) ≡ written q n (is-minus p bs) (magnitude-of p bs)
-  carried-bytes =
-      let c = carried-is carried-sound q n in
+  pub bytes-converted : bytes-of (converted-bytes (decimal-format p) (decimal-format q) n bs) ≡ written q n (is-minus p bs) (magnitude-of p bs)
+  bytes-converted =
+      let c = converted-is converted-sound q n in
       rw c (normal-bytes q n (is-minus p bs) (magnitude-of p bs) (rw c at e))

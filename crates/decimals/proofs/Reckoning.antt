@@ -9,8 +9,8 @@ use borrow.Author.Tests.{le-leb, lt-leb}
 use Rattle.rules.specs.Limits.{lowest-word}
 use Rattle.rules.specs.Lists.{Bytes}
 use Rattle.rules.specs.Values.{accepted-minus, meaning}
-use Rattle.words.specs.Words.{word-of, value-of, pick}
-use Rattle.words.specs.declared.Word.the-variants.{Number, Outside}
+use Rattle.fixed.specs.Words.{word-of, value-of, pick}
+use Rattle.fixed.specs.declared.Word.the-variants.{Number, Outside}
 use Rattle.decimals.specs.Decimals.{decimal-format, sign-half, magnitude-of, is-minus}
 use Rattle.decimals.specs.Numbers.{Reckoned}
 use Rattle.decimals.proofs.Sound.{Sound}

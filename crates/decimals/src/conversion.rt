@@ -84,7 +84,7 @@ fn unpack_digits(s: &[u8], n: usize, out: &mut [u8], at: usize)
 }
 
 // Writes the digits of the value s before the last to the n − 1 bytes from the place at.
-pub fn carry_digits(s: &[u8], packed: bool, target: bool, n: usize, out: &mut [u8], at: usize)
+pub fn convert_digits(s: &[u8], packed: bool, target: bool, n: usize, out: &mut [u8], at: usize)
     requires { ⌜ (is-done (meaning (decimal-format packed) (now s)) ≡ true) × (length (now s) ≤ longest-alpha) × (0 < n) × (at + n ≤ length (now out)) ⌝ }
     ensures { λ _. ⌜ now (out .exit) ≡ splice at (front target (n - 1) (magnitude-of packed (now (s .entry)) / 10)) (now (out .entry)) ⌝ }
 {

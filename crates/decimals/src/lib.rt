@@ -8,9 +8,9 @@ ghost use lib.ListN.{length};
 ghost use Rattle.rules.specs.Outcome.{is-done};
 ghost use Rattle.rules.specs.Limits.{longest-alpha, longest-unpacked};
 ghost use Rattle.rules.specs.Lists.{bytes-of};
-ghost use Rattle.rules.specs.Values.{meaning, normal, carried, in-normal-form, sign-written};
+ghost use Rattle.rules.specs.Values.{meaning, normal, converted-bytes, in-normal-form, sign-written};
 ghost use Rattle.buffer.specs.Splice.{splice};
-ghost use Rattle.words.specs.Words.{signed-value, word-of, value-of};
+ghost use Rattle.fixed.specs.Words.{signed-value, word-of, value-of};
 ghost use Rattle.decimals.specs.Decimals.{decimal-format, last-written};
 
 mod conversion;
@@ -18,9 +18,9 @@ mod digits;
 mod numbers;
 mod tests;
 
+use fixed::Signed;
+use fixed::Word;
 use rules::LOWEST_WORD;
-use words::Signed;
-use words::Word;
 
 // Whether s is a value.
 pub fn is_value(s: &[u8], packed: bool) -> bool
@@ -64,7 +64,7 @@ pub fn is_normal(s: &[u8], packed: bool) -> bool
 // Whether the value s fits n bytes.
 pub fn fits(s: &[u8], packed: bool, target: bool, n: usize) -> bool
     requires { ⌜ (is-done (meaning (decimal-format packed) (now s)) ≡ true) × (length (now s) ≤ longest-alpha) × (0 < n) × (n ≤ longest-unpacked) ⌝ }
-    ensures { λ r. ⌜ r ≡ is-done (carried (decimal-format packed) (decimal-format target) n (now (s .entry))) ⌝ }
+    ensures { λ r. ⌜ r ≡ is-done (converted-bytes (decimal-format packed) (decimal-format target) n (now (s .entry))) ⌝ }
 {
     digits::within(s, packed, digits::digit_count(target, n))
 }
@@ -79,16 +79,16 @@ fn last_written(d: u8, negative: bool, target: bool) -> u8
 }
 
 // Writes the value s, which fits, as n bytes to out, from the place at.
-pub fn carry(s: &[u8], packed: bool, target: bool, n: usize, out: &mut [u8], at: usize)
-    requires { ⌜ (is-done (carried (decimal-format packed) (decimal-format target) n (now s)) ≡ true) × (length (now s) ≤ longest-alpha) × (0 < n) × (n ≤ longest-unpacked) × (at + n ≤ length (now out)) ⌝ }
-    ensures { λ _. ⌜ now (out .exit) ≡ splice at (bytes-of (carried (decimal-format packed) (decimal-format target) n (now (s .entry)))) (now (out .entry)) ⌝ }
+pub fn convert(s: &[u8], packed: bool, target: bool, n: usize, out: &mut [u8], at: usize)
+    requires { ⌜ (is-done (converted-bytes (decimal-format packed) (decimal-format target) n (now s)) ≡ true) × (length (now s) ≤ longest-alpha) × (0 < n) × (n ≤ longest-unpacked) × (at + n ≤ length (now out)) ⌝ }
+    ensures { λ _. ⌜ now (out .exit) ≡ splice at (bytes-of (converted-bytes (decimal-format packed) (decimal-format target) n (now (s .entry)))) (now (out .entry)) ⌝ }
 {
     out[at + (n - 1)] = last_written(
         digits::last_digit(s, packed),
         tests::negative(s, packed),
         target,
     );
-    conversion::carry_digits(s, packed, target, n, out, at);
+    conversion::convert_digits(s, packed, target, n, out, at);
 }
 
 // The number that s means.

@@ -1,4 +1,4 @@
--- How a format is decided, test by test: behind a valid table what is left is the use rules and then the pairs.
+-- How a format is decided, test by test: after a valid table what is left is the use rules and then the pairs.
 use mathlib.Core.Path.{_≡_, refl, sym, _∙_, ap, subst}
 use mathlib.Core.Bool.{Bool, true, false, not, _&&_}
 use mathlib.Core.List.{List}

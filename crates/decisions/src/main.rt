@@ -27,7 +27,7 @@ fn decide(table: &[u8], format: &[u8], update: bool) -> Verdict
     if !tables::valid(table) {
         return Verdict::Refused(Refusal::BadTable);
     }
-    if !formats::syntax::syntax(format) {
+    if !format_buffer::syntax::syntax(format) {
         return Verdict::Refused(Refusal::BadSyntax);
     }
     let tested = uses::test(table, format);

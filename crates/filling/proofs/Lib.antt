@@ -1,4 +1,4 @@
-pub mod Going
+pub mod Continues
 pub mod Together
 pub mod Singles
 pub mod Nulls

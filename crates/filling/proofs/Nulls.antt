@@ -12,7 +12,7 @@ use Rattle.rules.specs.Limits.{formats, highest-index, longest-alpha}
 use Rattle.rules.specs.Lists.{Bytes, join}
 use Rattle.rules.specs.Values.{allowed, null}
 use Rattle.rules.proofs.Steps.{by-test}
-use Rattle.kinds.specs.Formats.{format-at}
+use Rattle.value_formats.specs.Formats.{format-at}
 use Rattle.values.proofs.Numbered.{longest-size}
 use Rattle.values.proofs.Nulls.{null-0, null-size}
 

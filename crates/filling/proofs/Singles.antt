@@ -16,7 +16,7 @@ use Rattle.buffer.specs.Splice.{splice}
 use Rattle.buffer.proofs.Laws.{length-splice}
 use Rattle.filling.specs.Filling.{in-room, Filling}
 use Rattle.filling.specs.declared.Next.the-variants.{At, Refused}
-use Rattle.filling.proofs.Going.{left-empty}
+use Rattle.filling.proofs.Continues.{left-empty}
 
 inside-room : (room : ℕ) (bs : Bytes) → length bs ≤ room → in-room room (done bs) ≡ done bs
 unfolding in-room

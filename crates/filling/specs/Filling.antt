@@ -48,17 +48,17 @@ together room (o ∷ os) = do
   done (b ++ bs)
 
 -- What is written counts only where all of it is done.
-abbrev pub Counts : Bool → Outcome Bytes → Type 0
-Counts write o = write ≡ true → is-done o ≡ true
+abbrev pub Matters : Bool → Outcome Bytes → Type 0
+Matters write o = write ≡ true → is-done o ≡ true
 
 pub record Filling (o : Outcome Bytes) (at : ℕ) (write : Bool) (entry exit : Bytes) (r : Next) : Type 0 where
   pub answer : ended r ≡ placed at o
   pub same : length exit ≡ length entry
-  pub bytes : Counts write o → exit ≡ left-as write at o entry
+  pub bytes : Matters write o → exit ≡ left-as write at o entry
 
 -- A walk stands at a place with some of the outcomes left: those end and write from there as the whole does from its start.
-pub record Going (whole rest : Outcome Bytes) (start at : ℕ) (write : Bool) (out₀ out : Bytes) : Type 0 where
+pub record Continues (whole rest : Outcome Bytes) (start at : ℕ) (write : Bool) (out₀ out : Bytes) : Type 0 where
   pub answer : placed at rest ≡ placed start whole
   pub alike : is-done rest ≡ is-done whole
   pub same : length out ≡ length out₀
-  pub bytes : Counts write rest → left-as write at rest out ≡ left-as write start whole out₀
+  pub bytes : Matters write rest → left-as write at rest out ≡ left-as write start whole out₀

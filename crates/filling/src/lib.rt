@@ -9,7 +9,7 @@ ghost use Rattle.rules.specs.Characters.{space};
 ghost use Rattle.rules.specs.Limits.{formats, highest-index};
 ghost use Rattle.rules.specs.Lists.{join};
 ghost use Rattle.rules.specs.Values.{allowed, null};
-ghost use Rattle.kinds.specs.Formats.{format-at};
+ghost use Rattle.value_formats.specs.Formats.{format-at};
 ghost use Rattle.filling.specs.Filling.{Roomy, Filling, in-room};
 
 pub mod value;

@@ -4,19 +4,19 @@ ghost use mathlib.Core.Bool.{true};
 ghost use Prim.Native.Nat.{_-_, _≤_};
 ghost use lib.ListN.{length};
 ghost use Rattle.rules.specs.Limits.{longest-alpha};
-ghost use Rattle.rules.specs.Values.{alpha, every, conversion, converts, carried};
-ghost use Rattle.kinds.specs.Formats.{format-at};
+ghost use Rattle.rules.specs.Values.{alpha, every, conversion, converts, converted-bytes};
+ghost use Rattle.value_formats.specs.Formats.{format-at};
 ghost use Rattle.values.specs.Formats.{range-kind};
-ghost use Rattle.values.specs.Fits.{Carriable};
+ghost use Rattle.values.specs.Fits.{Convertible};
 ghost use Rattle.filling.specs.Filling.{Roomy, Filling, in-room};
 use crate::Next;
+use fixed::Word;
 use rules::Refusal;
-use words::Word;
 
 // A value of format A, at a length: its text is found once.
 fn put_alpha(s: &[u8], size: usize, out: &mut [u8], at: usize, end: usize, write: bool) -> Next
     requires { ⌜ (length (now s) ≤ longest-alpha) × Roomy at end (now out) ⌝ }
-    ensures { λ r. ⌜ Filling (in-room (end - at) (carried alpha alpha size (now (s .entry)))) at write (now (out .entry)) (now (out .exit)) r ⌝ }
+    ensures { λ r. ⌜ Filling (in-room (end - at) (converted-bytes alpha alpha size (now (s .entry)))) at write (now (out .entry)) (now (out .exit)) r ⌝ }
 {
     let len = values::texts::text_length(s);
     if !values::texts::length_fits(len, size) {
@@ -44,18 +44,18 @@ fn put_every(
     end: usize,
     write: bool,
 ) -> Next
-    requires { ⌜ Carriable own format size (now s) × (conversion (format-at own) (format-at format) ≡ every) × Roomy at end (now out) ⌝ }
-    ensures { λ r. ⌜ Filling (in-room (end - at) (carried (format-at own) (format-at format) size (now (s .entry)))) at write (now (out .entry)) (now (out .exit)) r ⌝ }
+    requires { ⌜ Convertible own format size (now s) × (conversion (format-at own) (format-at format) ≡ every) × Roomy at end (now out) ⌝ }
+    ensures { λ r. ⌜ Filling (in-room (end - at) (converted-bytes (format-at own) (format-at format) size (now (s .entry)))) at write (now (out .entry)) (now (out .exit)) r ⌝ }
 {
-    if !values::carrying::every_fits(s, own, format, size) {
+    if !values::conversion::every_fits(s, own, format, size) {
         return Next::Refused(Refusal::OutOfRange);
     }
-    let n = values::carrying::carried_size(s, size);
+    let n = values::conversion::converted_size(s, size);
     if end - at < n {
         return Next::Refused(Refusal::BeyondBuffer);
     }
     if write {
-        values::carrying::carry_every(s, own, format, size, out, at);
+        values::conversion::convert_every(s, own, format, size, out, at);
         return Next::At(at + n);
     }
     Next::At(at + n)
@@ -73,14 +73,14 @@ fn put_word(
     end: usize,
     write: bool,
 ) -> Next
-    requires { ⌜ Carriable own format size (now s) × (conversion (format-at own) (format-at format) ≡ range-kind natural) × Roomy at end (now out) ⌝ }
-    ensures { λ r. ⌜ Filling (in-room (end - at) (carried (format-at own) (format-at format) size (now (s .entry)))) at write (now (out .entry)) (now (out .exit)) r ⌝ }
+    requires { ⌜ Convertible own format size (now s) × (conversion (format-at own) (format-at format) ≡ range-kind natural) × Roomy at end (now out) ⌝ }
+    ensures { λ r. ⌜ Filling (in-room (end - at) (converted-bytes (format-at own) (format-at format) size (now (s .entry)))) at write (now (out .entry)) (now (out .exit)) r ⌝ }
 {
     let word = values::numbers::to_word(s, own);
     match word {
         Word::Outside => Next::Refused(Refusal::OutOfRange),
         Word::Number(v) => {
-            if !values::carrying::word_fits(v, format, size, natural) {
+            if !values::conversion::word_fits(v, format, size, natural) {
                 return Next::Refused(Refusal::OutOfRange);
             }
             if end - at < size {
@@ -106,14 +106,14 @@ pub fn put_value(
     end: usize,
     write: bool,
 ) -> Next
-    requires { ⌜ Carriable own format size (now s) × (converts (format-at own) (format-at format) ≡ true) × Roomy at end (now out) ⌝ }
-    ensures { λ r. ⌜ Filling (in-room (end - at) (carried (format-at own) (format-at format) size (now (s .entry)))) at write (now (out .entry)) (now (out .exit)) r ⌝ }
+    requires { ⌜ Convertible own format size (now s) × (converts (format-at own) (format-at format) ≡ true) × Roomy at end (now out) ⌝ }
+    ensures { λ r. ⌜ Filling (in-room (end - at) (converted-bytes (format-at own) (format-at format) size (now (s .entry)))) at write (now (out .entry)) (now (out .exit)) r ⌝ }
 {
-    if own == kinds::ALPHA {
+    if own == value_formats::ALPHA {
         return put_alpha(s, size, out, at, end, write);
     }
-    let kind = kinds::conversion(own, format);
-    if kinds::is_every(kind) {
+    let kind = value_formats::conversion(own, format);
+    if value_formats::is_every(kind) {
         return put_every(s, own, format, size, out, at, end, write);
     }
     put_word(
@@ -121,7 +121,7 @@ pub fn put_value(
         own,
         format,
         size,
-        kinds::is_natural(kind),
+        value_formats::is_natural(kind),
         out,
         at,
         end,

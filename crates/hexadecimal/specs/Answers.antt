@@ -18,7 +18,7 @@ abbrev pub number-read : Option ℕ → NumberWord
 number-read none = NoNumber
 number-read (some n) = Is n
 
--- The place after the bytes, written from at on.
+-- The place after the bytes, written from `at`.
 abbrev pub decoded-upto : ℕ → Option Bytes → Decoded
 decoded-upto at none = NoBytes
 decoded-upto at (some bs) = Upto (at + length bs)
@@ -28,12 +28,12 @@ abbrev pub written-bytes : Option Bytes → Bytes
 written-bytes none = []
 written-bytes (some bs) = bs
 
--- A word is decoded to out from at on, and nothing is written if it spells no bytes.
+-- A word is decoded to out from `at`, and nothing is written if it spells no bytes.
 pub record Decodes (word : Bytes) (at : ℕ) (out out′ : Bytes) (r : Decoded) : Type 0 where
   pub answer : r ≡ decoded-upto at (spelled-bytes word)
   pub after : out′ ≡ splice at (written-bytes (spelled-bytes word)) out
 
--- The word of a line from at on is decoded to out from start on; the place after its bytes, and the next word's.
+-- The word of a line from `at` is decoded to out from start on; the place after its bytes, and the next word's.
 pub record Takes (line : Bytes) (at start : ℕ) (out out′ : Bytes) (r : Taken) : Type 0 where
   pub end : r .end ≡ start + length (written-bytes (word-bytes at line))
   pub next : r .next ≡ next-at at line

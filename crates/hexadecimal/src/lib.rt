@@ -96,7 +96,7 @@ fn pair(high: u8, low: u8) -> u8
     16 * value_of(high) + value_of(low)
 }
 
-// The byte of each pair of digits, to out from at on; the place after them.
+// The byte of each pair of digits, to out from `at`; the place after them.
 fn put_pairs(w: &[u8], out: &mut [u8], at: usize) -> usize
     requires { ⌜ (Text.is-paired (now w) ≡ true) × (2 * at + length (now w) ≤ 2 * length (now out)) ⌝ }
     ensures { λ r. ⌜ (r ≡ at + length (Text.paired (now (w .entry)))) × (now (out .exit) ≡ splice at (Text.paired (now (w .entry))) (now (out .entry))) ⌝ }
@@ -110,7 +110,7 @@ fn put_pairs(w: &[u8], out: &mut [u8], at: usize) -> usize
     at + n
 }
 
-// The bytes that a word spells, to out from at on; a word takes no more than half its own length.
+// The bytes that a word spells, to out from `at`; a word takes no more than half its own length.
 fn decode(word: &[u8], out: &mut [u8], at: usize) -> Decoded
     requires { ⌜ 2 * at + length (now word) ≤ 2 * length (now out) ⌝ }
     ensures { λ r. ⌜ Decodes (now (word .entry)) at (now (out .entry)) (now (out .exit)) r ⌝ }
@@ -125,7 +125,7 @@ fn decode(word: &[u8], out: &mut [u8], at: usize) -> Decoded
     Decoded::NoBytes
 }
 
-// Two digits for each byte, to out from at on; the place after them.
+// Two digits for each byte, to out from `at`; the place after them.
 fn put_digits(src: &[u8], out: &mut [u8], at: usize) -> usize
     requires { ⌜ at + 2 * length (now src) ≤ length (now out) ⌝ }
     ensures { λ r. ⌜ (r ≡ at + 2 * length (now (src .entry))) × (now (out .exit) ≡ splice at (Text.parted (now (src .entry))) (now (out .entry))) ⌝ }
@@ -140,7 +140,7 @@ fn put_digits(src: &[u8], out: &mut [u8], at: usize) -> usize
     at + 2 * i
 }
 
-// The word that spells the bytes, to out from at on; the place after it.
+// The word that spells the bytes, to out from `at`; the place after it.
 pub fn encode(src: &[u8], out: &mut [u8], at: usize) -> usize
     requires { ⌜ at + (2 * length (now src) + 1) ≤ length (now out) ⌝ }
     ensures { λ r. ⌜ (r ≡ at + length (Text.spelling (now (src .entry)))) × (now (out .exit) ≡ splice at (Text.spelling (now (src .entry))) (now (out .entry))) ⌝ }
@@ -209,7 +209,7 @@ fn places(n: usize) -> usize
     6
 }
 
-// The decimal digits of n, to out from at on; the place after them.
+// The decimal digits of n, to out from `at`; the place after them.
 fn put_number(n: usize, out: &mut [u8], at: usize) -> usize
     requires { ⌜ (n < 1000000) × (at + 6 ≤ length (now out)) ⌝ }
     ensures { λ r. ⌜ (r ≡ at + length (Text.decimal-word n)) × (now (out .exit) ≡ splice at (Text.decimal-word n) (now (out .entry))) ⌝ }
@@ -225,7 +225,7 @@ fn put_number(n: usize, out: &mut [u8], at: usize) -> usize
     at + k
 }
 
-// The bytes of the line's word from at on, to out from start on. If it spells none, no word follows.
+// The bytes of the line's word from `at`, to out from start on. If it spells none, no word follows.
 pub fn take_bytes(line: &[u8], at: usize, out: &mut [u8], start: usize) -> Taken
     requires { ⌜ (at ≤ length (now line) + 1) × (2 * start ≤ at) × (length (now line) ≤ 2 * length (now out)) ⌝ }
     ensures { λ r. ⌜ Takes (now (line .entry)) at start (now (out .entry)) (now (out .exit)) r ⌝ }
@@ -250,7 +250,7 @@ pub fn take_bytes(line: &[u8], at: usize, out: &mut [u8], start: usize) -> Taken
     }
 }
 
-// The number that the line spells from at on.
+// The number that the line spells from `at`.
 pub fn take_number(line: &[u8], at: usize) -> NumberWord
     ensures { λ r. ⌜ r ≡ number-read (Lines.number-at at (now (line .entry))) ⌝ }
 {
@@ -260,7 +260,7 @@ pub fn take_number(line: &[u8], at: usize) -> NumberWord
     read_number(&line[at..])
 }
 
-// A number and a last character, to out from at on; the place after both.
+// A number and a last character, to out from `at`; the place after both.
 pub fn put_field(n: usize, last: u8, out: &mut [u8], at: usize) -> usize
     requires { ⌜ (n < 1000000) × (at + 7 ≤ length (now out)) ⌝ }
     ensures { λ r. ⌜ (r ≡ at + length (Text.decimal-word n ++ (last ∷ []))) × (now (out .exit) ≡ splice at (Text.decimal-word n ++ (last ∷ [])) (now (out .entry))) × (r ≤ at + 7) ⌝ }

@@ -24,7 +24,7 @@ use Rattle.rules.proofs.Steps.{by-outcome, by-test, not-both, done-inj, refused
 use Rattle.buffer.specs.Splice.{splice}
 use Rattle.buffer.proofs.Laws.{take-splice}
 use Rattle.tables.specs.Entries.{Valid, entries-of}
-use Rattle.records.specs.Places.{Holds}
+use Rattle.records.specs.Places.{Has-record}
 use Rattle.uses.specs.Meant.{uses-of}
 use Rattle.filling.specs.Filling.{ended, placed, Filling}
 use Rattle.filling.specs.declared.Next.{Next}
@@ -97,7 +97,7 @@ not-beyond NoRoom k e = omega (arith, e)
 -- The items are to be made in room up to the end of the buffer, or to the limit.
 pub record Ready (t b : Bytes) (places : List ℕ) (f out : Bytes) (end : ℕ) : Type 0 where
   pub valid : Valid t
-  pub holds : Holds (entries-of t) b places
+  pub holds : Has-record (entries-of t) b places
   pub room : end ≡ min (length out) longest-items
 
 module _ {t b : Bytes} {places : List ℕ} {f out : Bytes} {end : ℕ} (s : Ready t b places f out end) where

@@ -5,7 +5,7 @@ ghost use lib.ListN.{length};
 ghost use Rattle.rules.specs.Limits.{longest-items};
 ghost use Rattle.rules.specs.Services as Rules;
 ghost use Rattle.tables.specs.Entries.{Valid, entries-of};
-ghost use Rattle.records.specs.Places.{Holds};
+ghost use Rattle.records.specs.Places.{Has-record};
 ghost use Rattle.lyrecanyon.specs.Answers.{Settled, Exported, answer-number, answer-length};
 use filling::Next;
 use rules::Refusal;
@@ -63,7 +63,7 @@ fn read_long(
     buffer: &mut [u8],
     end: usize,
 ) -> Answer
-    requires { ⌜ Valid (now table) × Holds (entries-of (now table)) (now stored) (now places) × (end ≡ min (length (now buffer)) longest-items) ⌝ }
+    requires { ⌜ Valid (now table) × Has-record (entries-of (now table)) (now stored) (now places) × (end ≡ min (length (now buffer)) longest-items) ⌝ }
     ensures { λ r. ⌜ Settled (Rules.read (now (table .entry)) (now (stored .entry)) (now (format .entry)) (length (now (buffer .entry)))) (now (buffer .entry)) (now (buffer .exit)) r ⌝ }
 {
     let next = reading::scan(table, stored, places, format, buffer, end, false);
@@ -85,7 +85,7 @@ fn read_short(
     buffer: &mut [u8],
     area: &mut [u8],
 ) -> Answer
-    requires { ⌜ Valid (now table) × Holds (entries-of (now table)) (now stored) (now places) ⌝ }
+    requires { ⌜ Valid (now table) × Has-record (entries-of (now table)) (now stored) (now places) ⌝ }
     ensures { λ r. ⌜ Settled (Rules.read (now (table .entry)) (now (stored .entry)) (now (format .entry)) (length (now (buffer .entry)))) (now (buffer .entry)) (now (buffer .exit)) r ⌝ }
 {
     let end = least(buffer.len(), rules::LONGEST_ITEMS);
@@ -116,7 +116,7 @@ fn read_items(
     format: &[u8],
     buffer: &mut [u8],
 ) -> Answer
-    requires { ⌜ Valid (now table) × Holds (entries-of (now table)) (now stored) (now places) ⌝ }
+    requires { ⌜ Valid (now table) × Has-record (entries-of (now table)) (now stored) (now places) ⌝ }
     ensures { λ r. ⌜ Settled (Rules.read (now (table .entry)) (now (stored .entry)) (now (format .entry)) (length (now (buffer .entry)))) (now (buffer .entry)) (now (buffer .exit)) r ⌝ }
 {
     if format.len() <= SHORT_FORMAT {

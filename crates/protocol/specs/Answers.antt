@@ -15,7 +15,7 @@ answer-line n bs = (decimal-word n ++ (32 ∷ [])) ++ ((decimal-word (length bs)
 abbrev pub no-call-line : Bytes
 no-call-line = 63 ∷ 32 ∷ 48 ∷ 32 ∷ 45 ∷ 10 ∷ []
 
--- The line of an answer is written to out from at on; the place after it.
+-- The line of an answer is written to out from `at`; the place after it.
 pub record Answers (number : ℕ) (bytes : Bytes) (at : ℕ) (out out′ : Bytes) (r : ℕ) : Type 0 where
   pub after : out′ ≡ splice at (answer-line number bytes) out
   pub end : r ≡ at + length (answer-line number bytes)

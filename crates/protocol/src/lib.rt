@@ -132,7 +132,7 @@ pub fn take_call(line: &[u8], out: &mut [u8]) -> Call
     }
 }
 
-// The line of an answer, to out from at on; the place after it.
+// The line of an answer, to out from `at`; the place after it.
 pub fn put_answer(number: u8, bytes: &[u8], out: &mut [u8], at: usize) -> usize
     requires { ⌜ (length (now bytes) < 1000000) × (at + (2 * length (now bytes) + 16) ≤ length (now out)) ⌝ }
     ensures { λ r. ⌜ Answers number (now (bytes .entry)) at (now (out .entry)) (now (out .exit)) r ⌝ }

@@ -10,21 +10,21 @@ use lib.ListN.{length, take, drop, getD, replicate, length-append, length-take, 
 use lib.Seq.{drop-cons, take-nil, take-at}
 use Rattle.rules.specs.Outcome.{Outcome, done}
 use Rattle.rules.specs.Lists.{Bytes, run, join}
-use Rattle.rules.specs.Values.{Format, content, carried, null}
+use Rattle.rules.specs.Values.{Format, content, converted-bytes, null}
 use Rattle.rules.specs.Record.{times, stored-value}
 use Rattle.rules.specs.declared.Refusal.{Refusal}
 use Rattle.rules.proofs.Readers.{times-sound, value-sound}
-use Rattle.values.proofs.Meant.{null-carried, carried-itself}
-use Rattle.kinds.specs.Formats.{format-at}
+use Rattle.values.proofs.Meant.{null-converted, converted-itself}
+use Rattle.value_formats.specs.Formats.{format-at}
 use Rattle.buffer.proofs.Cases.{by-order}
 use Rattle.records.proofs.Cells.{times-first, times-none, times-length, value-first}
-use Rattle.filling.specs.Filling.{in-room, Filling, Going, together}
-use Rattle.reading.specs.Cells.{Wants, carried-to, wanted, existing, Stand, Exist}
+use Rattle.filling.specs.Filling.{in-room, Filling, Continues, together}
+use Rattle.reading.specs.Cells.{Wants, converted-to, wanted, existing, Stand, Exist}
 use Rattle.filling.specs.declared.Next.{Next}
 use Rattle.filling.specs.declared.Next.the-variants.{At, Refused}
 use Rattle.reading.specs.declared.cells.Run.{Run}
 use Rattle.reading.specs.declared.cells.Wanted.{Wanted}
-use Rattle.filling.proofs.Going.{going-start, going-last, turn, turn-within, stop}
+use Rattle.filling.proofs.Continues.{continues-start, continues-last, turn, turn-within, stop}
 use Rattle.filling.proofs.Together.{together-done, together-copies}
 
 -- Values by their numbers from one on: those that the list has, and then one value for the others.
@@ -41,32 +41,32 @@ module _ (f : Bytes → Outcome Bytes) (d : Bytes) (vs : List Bytes) where
 
 -- What is wanted of a cell's values.
 module _ (w : Wanted) (h : Wants w) (vs : List Bytes) where
-  pub wanted-runs : wanted w vs ≡ map (carried-to w) (existing w vs) ++ replicate (w .last + 1 - w .first - length (existing w vs)) (done (null (format-at (w .format)) (w .size)))
+  pub wanted-runs : wanted w vs ≡ map (converted-to w) (existing w vs) ++ replicate (w .last + 1 - w .first - length (existing w vs)) (done (null (format-at (w .format)) (w .size)))
   wanted-runs =
       let d = null (format-at (w .own)) (w .standard) in
       let e : suc (w .first - 1) ≡ w .first = omega (arith, h .first) in
       let m : suc (w .last) - w .first ≡ w .last + 1 - w .first = omega arith in
-      ap (λ (n : ℕ). run (λ k. carried-to w (getD vs (pred k) d)) (w .first) n) m
-      ∙ ap (λ (i : ℕ). run (λ k. carried-to w (getD vs (pred k) d)) i (w .last + 1 - w .first)) (sym e)
-      ∙ by-number (carried-to w) d vs (w .last + 1 - w .first) (w .first - 1)
-      ∙ ap (λ (o : Outcome Bytes). map (carried-to w) (existing w vs) ++ replicate (w .last + 1 - w .first - length (existing w vs)) o)
-      (null-carried (format-at (w .own)) (format-at (w .format)) (w .standard) (w .size) (h .converts) (h .standard) (h .size))
+      ap (λ (n : ℕ). run (λ k. converted-to w (getD vs (pred k) d)) (w .first) n) m
+      ∙ ap (λ (i : ℕ). run (λ k. converted-to w (getD vs (pred k) d)) i (w .last + 1 - w .first)) (sym e)
+      ∙ by-number (converted-to w) d vs (w .last + 1 - w .first) (w .first - 1)
+      ∙ ap (λ (o : Outcome Bytes). map (converted-to w) (existing w vs) ++ replicate (w .last + 1 - w .first - length (existing w vs)) o)
+      (null-converted (format-at (w .own)) (format-at (w .format)) (w .standard) (w .size) (h .converts) (h .standard) (h .size))
 
--- Values that stand in the bytes, carried to their own format and length.
-own-carried : (f : Format) (m n : ℕ) (bs rest : Bytes) (us : List Bytes) → times n (stored-value f m) bs ≡ done (us, rest)
-    → map (λ v. carried f f m (content m v)) us ≡ map done us
-own-carried f m zero bs rest us p = let e = times-none (stored-value f m) bs p .0 in rw e refl
-own-carried f m (suc n) bs rest us p = times-first (stored-value f m) n bs p λ v ys mid e h t.
+-- Values that stand in the bytes, converted to their own format and length.
+own-converted : (f : Format) (m n : ℕ) (bs rest : Bytes) (us : List Bytes) → times n (stored-value f m) bs ≡ done (us, rest)
+    → map (λ v. converted-bytes f f m (content m v)) us ≡ map done us
+own-converted f m zero bs rest us p = let e = times-none (stored-value f m) bs p .0 in rw e refl
+own-converted f m (suc n) bs rest us p = times-first (stored-value f m) n bs p λ v ys mid e h t.
     value-first f m bs h λ c g k l i s.
-    let o : carried f f m (content m v) ≡ done v = ap (carried f f m) i ∙ carried-itself f m c k ∙ ap done (sym l) in
-    rw (e, o) (ap (λ (os : List (Outcome Bytes)). done v ∷ os) (own-carried f m n mid rest ys t))
+    let o : converted-bytes f f m (content m v) ≡ done v = ap (converted-bytes f f m) i ∙ converted-itself f m c k ∙ ap done (sym l) in
+    rw (e, o) (ap (λ (os : List (Outcome Bytes)). done v ∷ os) (own-converted f m n mid rest ys t))
 
 module _ (w : Wanted) (b : Bytes) (at n : ℕ) (us : List Bytes) (s : Stand w b at n us) where
-  pub as-stored : w .own ≡ w .format → w .standard ≡ w .size → map (carried-to w) us ≡ map done us
+  pub as-stored : w .own ≡ w .format → w .standard ≡ w .size → map (converted-to w) us ≡ map done us
   as-stored e e₂ =
-      ap (λ (k : ℕ). map (λ (v : Bytes). carried (format-at (w .own)) (format-at k) (w .size) (content (w .standard) v)) us) (sym e)
-      ∙ ap (λ (k : ℕ). map (λ (v : Bytes). carried (format-at (w .own)) (format-at (w .own)) k (content (w .standard) v)) us) (sym e₂)
-      ∙ own-carried (format-at (w .own)) (w .standard) n (drop at b) (s .0) us (s .1)
+      ap (λ (k : ℕ). map (λ (v : Bytes). converted-bytes (format-at (w .own)) (format-at k) (w .size) (content (w .standard) v)) us) (sym e)
+      ∙ ap (λ (k : ℕ). map (λ (v : Bytes). converted-bytes (format-at (w .own)) (format-at (w .own)) k (content (w .standard) v)) us) (sym e₂)
+      ∙ own-converted (format-at (w .own)) (w .standard) n (drop at b) (s .0) us (s .1)
 
   -- They are the bytes up to where they end.
   pub stored-bytes : (upto : ℕ) → at ≤ length b → upto ≤ length b → s .0 ≡ drop upto b → (at ≤ upto) × (take (upto - at) (drop at b) ≡ join us)
@@ -81,7 +81,7 @@ module _ (w : Wanted) (b : Bytes) (at n : ℕ) (us : List Bytes) (s : Stand w b 
   -- Copied in one piece they are put as each by itself.
   module _ (own : w .own ≡ w .format) (size : w .standard ≡ w .size) (upto room start : ℕ) (write : Bool) {out out′ : Bytes} {m : Next} where
     pub copied : at ≤ length b → upto ≤ length b → s .0 ≡ drop upto b → Filling (in-room room (done (take (upto - at) (drop at b)))) start write out out′ m
-        → Filling (together room (map (carried-to w) us)) start write out out′ m
+        → Filling (together room (map (converted-to w) us)) start write out out′ m
     copied h h₂ e = subst (λ (o : Outcome Bytes). Filling o start write out out′ m)
         (ap (λ (bs : Bytes). in-room room (done bs)) (stored-bytes upto h h₂ e .1) ∙ sym (ap (together room) (as-stored own size) ∙ together-done us room))
 
@@ -96,21 +96,21 @@ module _ (w : Wanted) (h : Wants w) (b : Bytes) (vs : List Bytes) (r : Run) (x :
   abbrev nulls : List (Outcome Bytes)
   nulls = replicate (w .last + 1 - w .first - r .count) (done (null (format-at (w .format)) (w .size)))
 
-  in-runs : wanted w vs ≡ map (carried-to w) (existing w vs) ++ nulls
-  in-runs = wanted-runs w h vs ∙ ap (λ (n : ℕ). map (carried-to w) (existing w vs) ++ replicate (w .last + 1 - w .first - n) (done (null (format-at (w .format)) (w .size)))) count-is
+  in-runs : wanted w vs ≡ map (converted-to w) (existing w vs) ++ nulls
+  in-runs = wanted-runs w h vs ∙ ap (λ (n : ℕ). map (converted-to w) (existing w vs) ++ replicate (w .last + 1 - w .first - n) (done (null (format-at (w .format)) (w .size)))) count-is
 
-  module _ (at end : ℕ) (write : Bool) {out out′ : Bytes} {m : Next} (fits : at ≤ end) (room : end ≤ length out) (f : Filling (together (end - at) (map (carried-to w) (existing w vs))) at write out out′ m) where
-    begun : Going (together (end - at) (wanted w vs)) (together (end - at) (map (carried-to w) (existing w vs) ++ nulls)) at at write out out
-    begun = subst (λ (os : List (Outcome Bytes)). Going (together (end - at) (wanted w vs)) (together (end - at) os) at at write out out) in-runs (going-start (together (end - at) (wanted w vs)) at write out)
+  module _ (at end : ℕ) (write : Bool) {out out′ : Bytes} {m : Next} (fits : at ≤ end) (room : end ≤ length out) (f : Filling (together (end - at) (map (converted-to w) (existing w vs))) at write out out′ m) where
+    begun : Continues (together (end - at) (wanted w vs)) (together (end - at) (map (converted-to w) (existing w vs) ++ nulls)) at at write out out
+    begun = subst (λ (os : List (Outcome Bytes)). Continues (together (end - at) (wanted w vs)) (together (end - at) os) at at write out out) in-runs (continues-start (together (end - at) (wanted w vs)) at write out)
 
     pub cell-off : (k : Refusal) → m ≡ Refused k → Filling (together (end - at) (wanted w vs)) at write out out′ (Refused k)
-    cell-off k e = stop end (map (carried-to w) (existing w vs)) nulls begun f fits room k e
+    cell-off k e = stop end (map (converted-to w) (existing w vs)) nulls begun f fits room k e
 
     pub cell-within : (p : ℕ) → m ≡ At p → p ≤ end
-    cell-within p e = turn-within end (map (carried-to w) (existing w vs)) nulls begun f fits room p e .1
+    cell-within p e = turn-within end (map (converted-to w) (existing w vs)) nulls begun f fits room p e .1
 
     pub cell-on : (p : ℕ) → m ≡ At p → {out″ : Bytes} {m₂ : Next}
         → Filling (in-room (end - p) (done (join (replicate (w .last + 1 - w .first - r .count) (null (format-at (w .format)) (w .size)))))) p write out′ out″ m₂
         → Filling (together (end - at) (wanted w vs)) at write out out″ m₂
-    cell-on p e {out″} {m₂} f₂ = going-last (turn end (map (carried-to w) (existing w vs)) nulls begun f fits room p e)
+    cell-on p e {out″} {m₂} f₂ = continues-last (turn end (map (converted-to w) (existing w vs)) nulls begun f fits room p e)
         (subst (λ (o : Outcome Bytes). Filling o p write out′ out″ m₂) (sym (together-copies (w .last + 1 - w .first - r .count) (null (format-at (w .format)) (w .size)) (end - p))) f₂)

@@ -13,21 +13,21 @@ use Rattle.rules.specs.Record.{Record, values-at, value-at}
 use Rattle.rules.specs.Use.{Asked, value-items, just}
 use Rattle.rules.specs.Services.{item-bytes}
 use Rattle.rules.proofs.Ranges.{item-at, one-field}
-use Rattle.kinds.specs.Formats.{format-at}
+use Rattle.value_formats.specs.Formats.{format-at}
 use Rattle.tables.specs.Entries.{Valid, entries-of, blank, decoded}
 use Rattle.tables.specs.Groups.{field-at}
 use Rattle.tables.specs.declared.Entry.{Entry as Row}
-use Rattle.formats.specs.Elements.{range}
-use Rattle.uses.specs.Meant.{Span-held, One-field}
+use Rattle.format_buffer.specs.Elements.{range}
+use Rattle.uses.specs.Meant.{Good-span, One-field}
 use Rattle.uses.specs.declared.Span.{Span}
 use Rattle.uses.proofs.SpanFields.{asked-one}
-use Rattle.records.specs.Places.{Held, Cell-of}
+use Rattle.records.specs.Places.{Is-record, Cell-of}
 use Rattle.records.proofs.Placed.{cell-numbers}
 use Rattle.records.specs.declared.places.Cell.{Cell}
 use Rattle.records.specs.declared.places.Cell.the-variants.{At as Stands, Nothing as None}
 use Rattle.filling.specs.Filling.{Filling, together}
-use Rattle.reading.specs.Cells.{Wants, carried-to, wanted, wanted-at, Cell-holds}
-use Rattle.reading.specs.Spans.{Fills, row-items}
+use Rattle.reading.specs.Cells.{Wants, converted-to, wanted, wanted-at, Cell-holds}
+use Rattle.reading.specs.Spans.{Fills, occurrence-items}
 use Rattle.filling.specs.declared.Next.{Next}
 use Rattle.reading.specs.declared.cells.Wanted.{Wanted}
 use Rattle.reading.proofs.Items.{filled-together}
@@ -39,7 +39,7 @@ unfolding run
 map-run h f g e i zero = refl
 map-run {Y = Y} h f g e i (suc n) = ap (λ (y : Y). y ∷ map h (run f (suc i) n)) (e i) ∙ ap (λ (ys : List Y). g i ∷ ys) (map-run h f g e (suc i) n)
 
-module _ (t b : Bytes) (places : List ℕ) (v : Valid t) (s : Span) (h : Span-held (entries-of t) s) (alone : s .standard ≡ false) (o : ℕ) where
+module _ (t b : Bytes) (places : List ℕ) (v : Valid t) (s : Span) (h : Good-span (entries-of t) s) (alone : s .standard ≡ false) (o : ℕ) where
   abbrev es : List Entry
   es = entries-of t
 
@@ -61,11 +61,11 @@ module _ (t b : Bytes) (places : List ℕ) (v : Valid t) (s : Span) (h : Span-he
   abbrev values-of : Record → List Bytes
   values-of r = values-at (parts es) r (getD es (s .first) blank .name) o
 
-  item-found : (r : Record) (k : ℕ) → item-bytes (parts es) r (item-at false asks o k) ≡ carried-to wants (getD (values-of r) (pred k) (null (format-at (row .format)) (row .size)))
+  item-found : (r : Record) (k : ℕ) → item-bytes (parts es) r (item-at false asks o k) ≡ converted-to wants (getD (values-of r) (pred k) (null (format-at (row .format)) (row .size)))
   unfolding item-bytes value-at
   item-found r k = rw (own-format t v known (one .field) row refl, own-size t v known (one .field) row refl, name-at es (s .first))
 
-  items-found : (r : Record) → map (item-bytes (parts es) r) (row-items es s o) ≡ wanted wants (values-of r)
+  items-found : (r : Record) → map (item-bytes (parts es) r) (occurrence-items es s o) ≡ wanted wants (values-of r)
   items-found r =
       let vs = range (s .«value_from») (s .«value_upto») in
       ap (λ (fs : List Asked). map (item-bytes (parts es) r) (value-items fs (just o) vs false)) (asked-one es s (s .standard) alone)
@@ -88,8 +88,8 @@ module _ (t b : Bytes) (places : List ℕ) (v : Valid t) (s : Span) (h : Span-he
         })
 
     -- The cell is found by the number of its entry.
-    module _ (i : ℕ) (e : i ≡ s .first) (cell : Cell) (found : (r : Record) → Held es b places r → Cell-of es b i o r cell) where
-      holds : (r : Record) → Held es b places r → Cell-holds b (format-at (w .own)) (w .standard) (w .multiple) (values-of r) cell
+    module _ (i : ℕ) (e : i ≡ s .first) (cell : Cell) (found : (r : Record) → Is-record es b places r → Cell-of es b i o r cell) where
+      holds : (r : Record) → Is-record es b places r → Cell-holds b (format-at (w .own)) (w .standard) (w .multiple) (values-of r) cell
       holds r k =
           subst (λ (x : Wanted). Cell-holds b (format-at (x .own)) (x .standard) (x .multiple) (values-of r) cell) (sym q)
           (held cell (subst (λ (j : ℕ). Cell-of es b j o r cell) e (found r k)))
@@ -98,13 +98,13 @@ module _ (t b : Bytes) (places : List ℕ) (v : Valid t) (s : Span) (h : Span-he
           held (Stands p) x = (x .0, x .1, sym (cell-numbers es (s .first) (drop p b) (one .field)) ∙ x .2)
           held None x = x
 
-      pub column-holds : (r : Record) → Held es b places r → (vs : List Bytes) × Cell-holds b (format-at (w .own)) (w .standard) (w .multiple) vs cell
+      pub column-holds : (r : Record) → Is-record es b places r → (vs : List Bytes) × Cell-holds b (format-at (w .own)) (w .standard) (w .multiple) vs cell
       column-holds r k = (_, holds r k)
 
       pub column-fills : (at end : ℕ) (write : Bool) {out out′ : Bytes} {m : Next}
           → ((vs : List Bytes) → Cell-holds b (format-at (w .own)) (w .standard) (w .multiple) vs cell → Filling (together (end - at) (wanted w vs)) at write out out′ m)
-          → Fills es b places (row-items es s o) at end write out out′ m
+          → Fills es b places (occurrence-items es s o) at end write out out′ m
       column-fills at end write {out} {out′} {m} f r k = subst (λ (x : Outcome Bytes). Filling x at write out out′ m)
           (ap (λ (x : Wanted). together (end - at) (wanted x (values-of r))) q
-          ∙ sym (filled-together (parts es) r (row-items es s o) (end - at) ∙ ap (together (end - at)) (items-found r)))
+          ∙ sym (filled-together (parts es) r (occurrence-items es s o) (end - at) ∙ ap (together (end - at)) (items-found r)))
           (f (values-of r) (holds r k))

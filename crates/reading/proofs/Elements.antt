@@ -12,14 +12,14 @@ use Rattle.rules.specs.Record.{Record, group-count-at, value-count-at}
 use Rattle.rules.specs.Use.{Item, blanks-item, text-item, group-count, value-count, items-of}
 use Rattle.rules.specs.Services.{item-bytes, filled}
 use Rattle.tables.specs.Entries.{blank}
-use Rattle.formats.specs.Part.{part}
-use Rattle.formats.specs.Elements.{range}
+use Rattle.format_buffer.specs.Part.{part}
+use Rattle.format_buffer.specs.Elements.{range}
 use Rattle.uses.specs.Meant.{use-meant, asked-of}
 use Rattle.uses.specs.declared.Span.{Span}
 use Rattle.uses.specs.declared.Use.{Use}
 use Rattle.uses.specs.declared.Use.the-variants.{Blanks, Text, GroupCount, ValueCount, Values}
 use Rattle.uses.proofs.SpanFields as fields
-use Rattle.records.specs.Places.{Held}
+use Rattle.records.specs.Places.{Is-record}
 use Rattle.filling.specs.Filling.{in-room, Filling}
 use Rattle.reading.specs.Spans.{Fills, span-items}
 use Rattle.filling.specs.declared.Next.{Next}
@@ -28,7 +28,7 @@ use Rattle.reading.proofs.Unbare.{filled-bare}
 
 -- One item, by its bytes.
 single : (es : List Entry) (b : Bytes) (places : List ℕ) (at end : ℕ) (write : Bool) {out out′ : Bytes} {m : Next} (x : Item) (o : Outcome Bytes)
-    → ((r : Record) → Held es b places r → item-bytes (parts es) r x ≡ o) → Filling (in-room (end - at) o) at write out out′ m → Fills es b places (x ∷ []) at end write out out′ m
+    → ((r : Record) → Is-record es b places r → item-bytes (parts es) r x ≡ o) → Filling (in-room (end - at) o) at write out out′ m → Fills es b places (x ∷ []) at end write out out′ m
 single es b places at end write {out} {out′} {m} x o e g r h = subst (λ (z : Outcome Bytes). Filling z at write out out′ m) (sym (filled-one (parts es) r (end - at) x ∙ ap (in-room (end - at)) (e r h))) g
 
 -- An element that is known by an equation.
@@ -45,12 +45,12 @@ module _ (es : List Entry) (b : Bytes) (places : List ℕ) (f : Bytes) (at end :
   unfolding items-of item-bytes part
   use-text from upto e g = meant (Text from upto) e (single es b places at end write (text-item (part f from upto)) _ (λ r h. refl) g)
 
-  pub use-group-count : {u : Use} (i n : ℕ) → u ≡ GroupCount i → ((r : Record) → Held es b places r → n ≡ group-count-at (parts es) r (getD es i blank .name))
+  pub use-group-count : {u : Use} (i n : ℕ) → u ≡ GroupCount i → ((r : Record) → Is-record es b places r → n ≡ group-count-at (parts es) r (getD es i blank .name))
       → Filling (in-room (end - at) (done (n ∷ []))) at write out out′ m → Fills es b places (items-of (use-meant es f u)) at end write out out′ m
   unfolding items-of item-bytes
   use-group-count i n e c g = meant (GroupCount i) e (single es b places at end write (group-count (getD es i blank .name)) _ (λ r h. ap (λ (k : ℕ). done (k ∷ [])) (sym (c r h))) g)
 
-  pub use-value-count : {u : Use} (i k n : ℕ) → u ≡ ValueCount i k → ((r : Record) → Held es b places r → n ≡ value-count-at (parts es) r (getD es i blank .name) k)
+  pub use-value-count : {u : Use} (i k n : ℕ) → u ≡ ValueCount i k → ((r : Record) → Is-record es b places r → n ≡ value-count-at (parts es) r (getD es i blank .name) k)
       → Filling (in-room (end - at) (done (n ∷ []))) at write out out′ m → Fills es b places (items-of (use-meant es f u)) at end write out out′ m
   unfolding items-of item-bytes
   use-value-count i k n e c g = meant (ValueCount i k) e (single es b places at end write (value-count (getD es i blank .name) k) _ (λ r h. ap (λ (j : ℕ). done (j ∷ [])) (sym (c r h))) g)

@@ -13,7 +13,7 @@ use Rattle.rules.specs.Limits.{greatest-count}
 use Rattle.rules.specs.Lists.{Bytes}
 use Rattle.rules.specs.Record.{Reader, times, counted, stored-value}
 use Rattle.rules.proofs.Steps.{done-inj}
-use Rattle.kinds.specs.Formats.{format-at}
+use Rattle.value_formats.specs.Formats.{format-at}
 use Rattle.records.specs.Walk.{rest-of, Walked, Ends}
 use Rattle.records.specs.declared.Reach.the-variants.{At}
 use Rattle.records.specs.declared.places.Cell.the-variants.{At as Stands}

@@ -14,7 +14,7 @@ use Rattle.rules.specs.Services.{item-bytes, filled}
 use Rattle.filling.specs.Filling.{left-as, together, Filling}
 use Rattle.filling.specs.declared.Next.{Next}
 use Rattle.filling.specs.declared.Next.the-variants.{At}
-use Rattle.filling.proofs.Going.{outcome-before, together-length, append-on, append-off, put-on}
+use Rattle.filling.proofs.Continues.{outcome-before, together-length, append-on, append-off, put-on}
 
 pub filled-together : (ps : List Part) (r : Record) (xs : List Item) (room : ℕ) → filled ps r room xs ≡ together room (map (item-bytes ps r) xs)
 unfolding filled together

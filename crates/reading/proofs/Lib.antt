@@ -1,4 +1,4 @@
-pub mod Carrying
+pub mod Converting
 pub mod CellRuns
 pub mod Columns
 pub mod Elements
@@ -14,4 +14,4 @@ pub mod Unbare
 pub mod Values
 pub mod Nulls
 pub mod Pieces
-pub mod Rows
+pub mod Adjacents

@@ -18,25 +18,25 @@ use Rattle.rules.specs.Services.{item-bytes, filled}
 use Rattle.rules.specs.declared.Refusal.{Refusal}
 use Rattle.rules.proofs.Ranges.{one-field}
 use Rattle.buffer.proofs.Laws.{take-splice}
-use Rattle.values.proofs.Meant.{null-carried}
-use Rattle.kinds.specs.Formats.{format-at}
+use Rattle.values.proofs.Meant.{null-converted}
+use Rattle.value_formats.specs.Formats.{format-at}
 use Rattle.tables.specs.Entries.{Valid, entries-of, blank, decoded, is-group}
 use Rattle.tables.specs.Places.{inside-at}
 use Rattle.tables.specs.Groups.{group-end, numbers-below, field-at, Fields-of}
 use Rattle.tables.specs.declared.Entry.{Entry as Row}
 use Rattle.tables.proofs.Tables.{valid-most}
 use Rattle.tables.proofs.Nesting.{numbers-short, numbers-each, run-short}
-use Rattle.formats.specs.Elements.{range}
-use Rattle.uses.specs.Meant.{fields-from, Span-held}
+use Rattle.format_buffer.specs.Elements.{range}
+use Rattle.uses.specs.Meant.{fields-from, Good-span}
 use Rattle.uses.specs.declared.Span.{Span}
 use Rattle.uses.proofs.Fields.{group-fields}
-use Rattle.records.specs.Places.{Held, Piece-of}
-use Rattle.records.specs.declared.places.Content.the-variants.{Nothing}
-use Rattle.filling.specs.Filling.{in-room, Filling, Going, together}
-use Rattle.reading.specs.Spans.{Fills, Fields-numbered, nulls-of, row-items}
+use Rattle.records.specs.Places.{Is-record, Piece-of}
+use Rattle.records.specs.declared.places.Extent.the-variants.{Nothing}
+use Rattle.filling.specs.Filling.{in-room, Filling, Continues, together}
+use Rattle.reading.specs.Spans.{Fills, Fields-numbered, nulls-of, occurrence-items}
 use Rattle.filling.specs.declared.Next.{Next}
 use Rattle.filling.specs.declared.Next.the-variants.{At, Refused}
-use Rattle.filling.proofs.Going.{going-start, going-end, turn, turn-within, stop}
+use Rattle.filling.proofs.Continues.{continues-start, continues-end, turn, turn-within, stop}
 use Rattle.reading.proofs.Items.{filled-together}
 use Rattle.filling.proofs.Together.{together-copies}
 use Rattle.reading.proofs.SpanItems.{stored-items, row-once, each-field}
@@ -46,10 +46,10 @@ use Rattle.reading.proofs.Values.{name-at, converts-itself, own-allowed
 pub record Nulling (es : List Entry) (fields : List ℕ) (n end k start at : ℕ) (write : Bool) (out₀ out : Bytes) : Type 0 where
   pub fits : at ≤ end
   pub room : end ≤ length out
-  pub going : Going (together (end - start) (nulls-of (map (field-at es) (take n fields)))) (together (end - at) (nulls-of (map (field-at es) (slice k n fields)))) start at write out₀ out
+  pub continues : Continues (together (end - start) (nulls-of (map (field-at es) (take n fields)))) (together (end - at) (nulls-of (map (field-at es) (slice k n fields)))) start at write out₀ out
 
 pub null-start : (es : List Entry) (fields : List ℕ) (n end at : ℕ) (write : Bool) (out : Bytes) → at ≤ end → end ≤ length out → Nulling es fields n end 0 at at write out out
-null-start es fields n end at write out h l = record { fits = h; room = l; going = going-start (together (end - at) (nulls-of (map (field-at es) (take n fields)))) at write out }
+null-start es fields n end at write out h l = record { fits = h; room = l; continues = continues-start (together (end - at) (nulls-of (map (field-at es) (take n fields)))) at write out }
 
 module _ (t : Bytes) (v : Valid t) {fields : List ℕ} {n end k start at : ℕ} {write : Bool} {out₀ out : Bytes} (g : Nulling (entries-of t) fields n end k start at write out₀ out) where
   abbrev es : List Entry
@@ -58,7 +58,7 @@ module _ (t : Bytes) (v : Valid t) {fields : List ℕ} {n end k start at : ℕ} 
   pub null-end : n ≤ k → Filling (together (end - start) (nulls-of (map (field-at es) (take n fields)))) start write out₀ out (At at)
   null-end h =
       let z : slice k n fields ≡ [] = drop-of-length-le (take n fields) {i = k} (omega (arith, length-take n fields)) in
-      going-end (end - at) (subst (λ (ns : List ℕ). Going (together (end - start) (nulls-of (map (field-at es) (take n fields)))) (together (end - at) (nulls-of (map (field-at es) ns))) start at write out₀ out) z (g .going))
+      continues-end (end - at) (subst (λ (ns : List ℕ). Continues (together (end - start) (nulls-of (map (field-at es) (take n fields)))) (together (end - at) (nulls-of (map (field-at es) ns))) start at write out₀ out) z (g .continues))
 
   -- A turn puts the null of the next field, by the numbers that the code has of its entry.
   module _ (less : k < n) (most : n ≤ length fields) (here : (getD fields k 0 < length es) × (is-group (getD es (getD fields k 0) blank .what) ≡ false))
@@ -74,8 +74,8 @@ module _ (t : Bytes) (v : Valid t) {fields : List ℕ} {n end k start at : ℕ} 
     opened = ap (λ (ns : List ℕ). nulls-of (map (field-at es) ns)) (slice-cons k n fields 0 less most)
         ∙ rw (own-format t v (here .0) (here .1) e q, own-size t v (here .0) (here .1) e q) refl
 
-    left : Going (together (end - start) (nulls-of (map (field-at es) (take n fields)))) (together (end - at) (own ++ ahead)) start at write out₀ out
-    left = subst (λ (os : List (Outcome Bytes)). Going (together (end - start) (nulls-of (map (field-at es) (take n fields)))) (together (end - at) os) start at write out₀ out) opened (g .going)
+    left : Continues (together (end - start) (nulls-of (map (field-at es) (take n fields)))) (together (end - at) (own ++ ahead)) start at write out₀ out
+    left = subst (λ (os : List (Outcome Bytes)). Continues (together (end - start) (nulls-of (map (field-at es) (take n fields)))) (together (end - at) os) start at write out₀ out) opened (g .continues)
 
     put : Filling (together (end - at) own) at write out out′ m
     put = subst (λ (o : Outcome Bytes). Filling o at write out out′ m) (sym (together-copies 1 (null (format-at (e .format)) (e .size)) (end - at))) f
@@ -83,13 +83,13 @@ module _ (t : Bytes) (v : Valid t) {fields : List ℕ} {n end k start at : ℕ} 
     pub null-on : (at′ : ℕ) → m ≡ At at′ → Nulling es fields n end (k + 1) start at′ write out₀ out′
     null-on at′ p =
         let x = turn end own ahead left put (g .fits) (g .room) at′ p in
-        rw (add-one k) (record { fits = turn-within end own ahead left put (g .fits) (g .room) at′ p .1; room = omega (arith, f .same, g .room); going = x })
+        rw (add-one k) (record { fits = turn-within end own ahead left put (g .fits) (g .room) at′ p .1; room = omega (arith, f .same, g .room); continues = x })
 
     pub null-off : (i : Refusal) → m ≡ Refused i → Filling (together (end - start) (nulls-of (map (field-at es) (take n fields)))) start write out₀ out′ (Refused i)
     null-off i p = stop end own ahead left put (g .fits) (g .room) i p
 
 -- The numbers that the expansion of a group leaves are those of its fields: for a span in a periodic group, of the span's.
-module _ (t : Bytes) (v : Valid t) (s : Span) (held : Span-held (entries-of t) s) {before after : List ℕ} {n : ℕ} (x : Fields-of (entries-of t) (s .first - 1) before after n) where
+module _ (t : Bytes) (v : Valid t) (s : Span) (held : Good-span (entries-of t) s) {before after : List ℕ} {n : ℕ} (x : Fields-of (entries-of t) (s .first - 1) before after n) where
   abbrev i : ℕ
   i = s .first - 1
 
@@ -127,22 +127,22 @@ module _ (t : Bytes) (v : Valid t) (s : Span) (held : Span-held (entries-of t) s
     nulls-row at end write {out} {out′} {m} = subst (λ (fs : List Field). Filling (together (end - at) (nulls-of fs)) at write out out′ m) fields-row
 
 -- A row of fields that have no value is null for each.
-module _ (t b : Bytes) (places : List ℕ) (v : Valid t) (s : Span) (held : Span-held (entries-of t) s) (standard : s .standard ≡ true) (o : ℕ) where
+module _ (t b : Bytes) (places : List ℕ) (v : Valid t) (s : Span) (held : Good-span (entries-of t) s) (standard : s .standard ≡ true) (o : ℕ) where
   null-item : (r : Record) (f : Field) → allowed (f .format) (f .size) ≡ true → values-at (parts (entries-of t)) r (f .name) o ≡ []
       → map (item-bytes (parts (entries-of t)) r) (stored-items o (f ∷ [])) ≡ done (null (f .format) (f .size)) ∷ []
   unfolding item-bytes value-at as-stored run
   null-item r f a e =
       ap (map (item-bytes (parts (entries-of t)) r)) (one-field o (range 1 1) false (as-stored f))
-      ∙ rw (e, null-carried (f .format) (f .format) (f .size) (f .size) (converts-itself (f .format)) a a) refl
+      ∙ rw (e, null-converted (f .format) (f .format) (f .size) (f .size) (converts-itself (f .format)) a a) refl
 
   own-fits : (k : ℕ) → k < length (entries-of t) → is-group (getD (entries-of t) k blank .what) ≡ false → allowed (field-at (entries-of t) k .format) (field-at (entries-of t) k .size) ≡ true
   own-fits k known single =
       let row = decoded (getD (entries-of t) k blank) in
       rw (own-format t v known single row refl, own-size t v known single row refl) (own-allowed t v known single row refl)
 
-  pub row-null : ((r : Record) → Held (entries-of t) b places r → Piece-of (entries-of t) b (s .first) (s .end) o r Nothing) → (at end : ℕ) (write : Bool) {out out′ : Bytes} {m : Next}
+  pub row-null : ((r : Record) → Is-record (entries-of t) b places r → Piece-of (entries-of t) b (s .first) (s .end) o r Nothing) → (at end : ℕ) (write : Bool) {out out′ : Bytes} {m : Next}
       → Filling (together (end - at) (nulls-of (fields-from (entries-of t) (s .first) (s .end)))) at write out out′ m
-      → Fills (entries-of t) b places (row-items (entries-of t) s o) at end write out out′ m
+      → Fills (entries-of t) b places (occurrence-items (entries-of t) s o) at end write out out′ m
   row-null found at end write {out} {out′} {m} f r h =
       let fs = fields-from (entries-of t) (s .first) (s .end) in
       let none = each-field (entries-of t) o (item-bytes (parts (entries-of t)) r) (λ (x : Field). done (null (x .format) (x .size))) (s .end - s .first) (s .first) (s .end) (omega (arith, held .ordered)) (held .upto)

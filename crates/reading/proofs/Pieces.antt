@@ -1,4 +1,4 @@
--- A row of fields as they are stored is put in one piece: each field has one value, carried to its own format and length it is itself, and they stand one after the other.
+-- A row of fields as they are stored is put in one piece: each field has one value, converted to its own format and length it is itself, and they stand one after the other.
 use mathlib.Core.Path.{_≡_, refl, sym, _∙_, ap, subst}
 use mathlib.Core.Bool.{Bool, true, false}
 use mathlib.Core.List.{List, [], _∷_, _++_, map, map-map, append-nil}
@@ -9,7 +9,7 @@ use lib.ListN.{length, take, drop, getD}
 use lib.Seq.{slice, slice-empty}
 use Rattle.rules.specs.Outcome.{Outcome, done}
 use Rattle.rules.specs.Lists.{Bytes, all, join, filter, run}
-use Rattle.rules.specs.Values.{carried, content}
+use Rattle.rules.specs.Values.{converted-bytes, content}
 use Rattle.rules.specs.Table.{What, field, group, Entry, Field, parts}
 use Rattle.rules.specs.Record.{Record, stored-cell, stored-value, values-at, value-at}
 use Rattle.rules.specs.Use.{Asked, plain, as-stored}
@@ -17,25 +17,25 @@ use Rattle.rules.specs.Services.{item-bytes, filled}
 use Rattle.rules.proofs.Ranges.{one-field}
 use Rattle.rules.proofs.Steps.{by-test}
 use Rattle.buffer.proofs.Cases.{by-order}
-use Rattle.values.proofs.Meant.{carried-itself}
+use Rattle.values.proofs.Meant.{converted-itself}
 use Rattle.tables.specs.Entries.{blank, is-group, is-multiple}
 use Rattle.tables.specs.Groups.{field-by, field-at}
 use Rattle.tables.specs.Places.{Home}
 use Rattle.tables.proofs.Bools.{clash}
-use Rattle.formats.specs.Elements.{range}
-use Rattle.uses.specs.Meant.{fields-from, Span-held}
+use Rattle.format_buffer.specs.Elements.{range}
+use Rattle.uses.specs.Meant.{fields-from, Good-span}
 use Rattle.uses.specs.declared.Span.{Span}
 use Rattle.uses.proofs.Fields.{multiple-at}
 use Rattle.uses.proofs.SpanFields.{no-entry, field-entry, group-entry}
 use Rattle.records.specs.Where.{field-of, fields-of}
 use Rattle.records.specs.Paths.{Wide, Leads}
-use Rattle.records.specs.Places.{Held, values-of, Celled, Piece-of}
+use Rattle.records.specs.Places.{Is-record, values-of, Celled, Piece-of}
 use Rattle.records.specs.declared.paths.Path.{Path}
-use Rattle.records.specs.declared.places.Content.the-variants.{At as Lies}
+use Rattle.records.specs.declared.places.Extent.the-variants.{At as Lies}
 use Rattle.records.proofs.Cells.{counted-once, value-first}
 use Rattle.records.proofs.Strips.{first-own}
 use Rattle.filling.specs.Filling.{in-room, Filling, together}
-use Rattle.reading.specs.Spans.{Fills, Way, row-items}
+use Rattle.reading.specs.Spans.{Fills, Way, occurrence-items}
 use Rattle.filling.specs.declared.Next.{Next}
 use Rattle.reading.proofs.Items.{filled-together}
 use Rattle.filling.proofs.Together.{together-done}
@@ -107,7 +107,7 @@ module _ (es : List Entry) (r : Record) (o : ℕ) where
   own-item f bs rest m h =
       counted-once (stored-value (f .format) (f .size)) bs (rw m at h) λ v e q.
       value-first (f .format) (f .size) bs q λ c g k l i s.
-      let w : carried (f .format) (f .format) (f .size) (content (f .size) v) ≡ done v = ap (carried (f .format) (f .format) (f .size)) i ∙ carried-itself (f .format) (f .size) c k ∙ ap done (sym l) in
+      let w : converted-bytes (f .format) (f .format) (f .size) (content (f .size) v) ≡ done v = ap (converted-bytes (f .format) (f .format) (f .size)) i ∙ converted-itself (f .format) (f .size) c k ∙ ap done (sym l) in
       ap (map (item-bytes (parts es) r)) (one-field o (range 1 1) false (as-stored f)) ∙ rw (e, w, append-nil v) refl
 
   values-joined : (fs : List Field) → join (map value-of fs) ≡ values-of es r o fs
@@ -127,14 +127,14 @@ module _ (es : List Entry) (r : Record) (o : ℕ) where
       ∙ together-done (map value-of fs) room
       ∙ ap (λ (bs : Bytes). in-room room (done bs)) (values-joined fs ∙ ap (values-of es r o) (same-fields es (end - first) first end (omega arith) l))
 
-module _ (es : List Entry) (b : Bytes) (places : List ℕ) (s : Span) (held : Span-held es s) (standard : s .standard ≡ true) (o : ℕ) where
+module _ (es : List Entry) (b : Bytes) (places : List ℕ) (s : Span) (held : Good-span es s) (standard : s .standard ≡ true) (o : ℕ) where
   pub row-single : (k : ℕ) → s .first ≤ k → k < s .end → is-multiple (getD es k blank .what) ≡ false
   row-single = none-multiple es (s .end - s .first) (s .first) (s .end) (omega (arith, held .ordered)) (held .upto) (held .single standard)
 
   -- What is found in one piece is put so.
-  module _ (from upto : ℕ) (found : (r : Record) → Held es b places r → Piece-of es b (s .first) (s .end) o r (Lies from upto)) where
+  module _ (from upto : ℕ) (found : (r : Record) → Is-record es b places r → Piece-of es b (s .first) (s .end) o r (Lies from upto)) where
     pub row-put : (at end : ℕ) (write : Bool) {out out′ : Bytes} {m : Next} → Filling (in-room (end - at) (done (take (upto - from) (drop from b)))) at write out out′ m
-        → Fills es b places (row-items es s o) at end write out out′ m
+        → Fills es b places (occurrence-items es s o) at end write out out′ m
     row-put at end write {out} {out′} {m} f r h =
         let p = found r h in
         subst (λ (x : Outcome Bytes). Filling x at write out out′ m)
@@ -144,7 +144,7 @@ module _ (es : List Entry) (b : Bytes) (places : List ℕ) (s : Span) (held : Sp
         f
 
 -- The way to a span.
-pub way : (es : List Entry) (s : Span) → Span-held es s → s .standard ≡ true → (path : Path) (width : ℕ) → path .entry ≡ s .first → Leads es path
+pub way : (es : List Entry) (s : Span) → Good-span es s → s .standard ≡ true → (path : Path) (width : ℕ) → path .entry ≡ s .first → Leads es path
     → (all plain (fields-of (slice (s .first) (s .end) es)) ≡ true → Wide (fields-of (slice (s .first) (s .end) es)) width) → Way es s path width
 way es s held standard path width e leads wide = record {
   entry = e;

@@ -10,67 +10,67 @@ use Rattle.rules.specs.Table.{Entry}
 use Rattle.rules.specs.Use.{indexes-after, items-of}
 use Rattle.rules.specs.declared.Refusal.{Refusal}
 use Rattle.rules.proofs.Steps.{not-both}
-use Rattle.formats.specs.Elements.{element-of}
-use Rattle.formats.specs.declared.Element.{Element}
-use Rattle.records.specs.Places.{Holds}
+use Rattle.format_buffer.specs.Elements.{element-of}
+use Rattle.format_buffer.specs.declared.Element.{Element}
+use Rattle.records.specs.Places.{Has-record}
 use Rattle.uses.specs.Meant.{use-meant, Means, Remembered}
 use Rattle.uses.specs.declared.Use.{Use}
 use Rattle.uses.specs.declared.Meant.the-variants as meant
 use Rattle.reading.specs.Spans.{Fills}
-use Rattle.reading.specs.Scan.{filled-upto, use-refused, standing-of, Puts}
+use Rattle.reading.specs.Scan.{filled-upto, element-refused, progress-after, Puts}
 use Rattle.filling.specs.declared.Next.{Next}
 use Rattle.filling.specs.declared.Next.the-variants as next
-use Rattle.reading.specs.declared.Standing.{Standing}
-use Rattle.reading.specs.declared.Standing.the-variants.{At, NoItem, NoUse}
+use Rattle.reading.specs.declared.Progress.{Progress}
+use Rattle.reading.specs.declared.Progress.the-variants.{At, ItemRefused, ElementRefused}
 use Rattle.reading.proofs.Turns.{passed, refused-use, used-behind, used-at, used-within, used-refused}
 
-pub at-fits : {s : Standing} {p end : ℕ} → s ≡ At p → filled-upto s ≤ end → p ≤ end
-at-fits {end = end} e l = subst (λ (s : Standing). filled-upto s ≤ end) e l
+pub at-fits : {s : Progress} {p end : ℕ} → s ≡ At p → filled-upto s ≤ end → p ≤ end
+at-fits {end = end} e l = subst (λ (s : Progress). filled-upto s ≤ end) e l
 
-pub not-unused : (s : Standing) → use-refused s ≡ false → (k : Refusal) → s ≡ NoUse k → ⊥
-not-unused s h k e = not-both (sym h ∙ ap use-refused e)
+pub not-refused : (s : Progress) → element-refused s ≡ false → (k : Refusal) → s ≡ ElementRefused k → ⊥
+not-refused s h k e = not-both (sym h ∙ ap element-refused e)
 
 module _ {es : List Entry} {b : Bytes} {places : List ℕ} {f : Bytes} {end : ℕ} {write : Bool} {e : Element} {last : List ℕ} where
   -- Standings that are known by equations.
-  pub puts-as : {last′ : List ℕ} {s s₁ s′ s′₁ : Standing} {out out′ : Bytes} → s ≡ s₁ → s′ ≡ s′₁ → Puts es b places f end write e last last′ s₁ out out′ s′₁
+  pub puts-as : {last′ : List ℕ} {s s₁ s′ s′₁ : Progress} {out out′ : Bytes} → s ≡ s₁ → s′ ≡ s′₁ → Puts es b places f end write e last last′ s₁ out out′ s′₁
       → Puts es b places f end write e last last′ s out out′ s′
   puts-as {last′} {s} {s₁} {s′} {s′₁} {out} {out′} q q′ p =
-      subst (λ (x : Standing). Puts es b places f end write e last last′ x out out′ s′) (sym q)
-      (subst (λ (x : Standing). Puts es b places f end write e last last′ s₁ out out′ x) (sym q′) p)
+      subst (λ (x : Progress). Puts es b places f end write e last last′ x out out′ s′) (sym q)
+      (subst (λ (x : Progress). Puts es b places f end write e last last′ s₁ out out′ x) (sym q′) p)
 
-  pub puts-unused : (s : Standing) {out : Bytes} → use-refused s ≡ true → Puts es b places f end write e last last s out out s
-  puts-unused (At p) h = absurd (not-both h)
-  puts-unused (NoItem n) h = absurd (not-both h)
-  puts-unused (NoUse n) h = record { fits = omega arith; same = refl; kept = refl; going = λ ls q. (ls, q, λ r k xs. passed es r end ls (element-of f e) xs n) }
+  pub puts-nothing : (s : Progress) {out : Bytes} → element-refused s ≡ true → Puts es b places f end write e last last s out out s
+  puts-nothing (At p) h = absurd (not-both h)
+  puts-nothing (ItemRefused n) h = absurd (not-both h)
+  puts-nothing (ElementRefused n) h = record { fits = omega arith; same = refl; kept = refl; continues = λ ls q. (ls, q, λ r k xs. passed es r end ls (element-of f e) xs n) }
 
-  pub puts-refused : (s : Standing) {out : Bytes} (n : Refusal) → Means es last e (meant.Refused n) → use-refused s ≡ false → Puts es b places f end write e last last s out out (NoUse n)
+  pub puts-refused : (s : Progress) {out : Bytes} (n : Refusal) → Means es last e (meant.Refused n) → element-refused s ≡ false → Puts es b places f end write e last last s out out (ElementRefused n)
   puts-refused s n m h = record {
     fits = omega arith;
     same = refl;
     kept = refl;
-    going = λ ls q. (ls, q, λ r k xs. refused-use es r end ls (element-of f e) xs n (m .answer f ls q) s (not-unused s h) ls);
+    continues = λ ls q. (ls, q, λ r k xs. refused-use es r end ls (element-of f e) xs n (m .answer f ls q) s (not-refused s h) ls);
   }
 
   module _ {last′ : List ℕ} {u : Use} (m : Means es last e (meant.As u)) (k : Remembered es u last last′) where
-    pub puts-behind : {out : Bytes} (n : Refusal) → Puts es b places f end write e last last′ (NoItem n) out out (NoItem n)
+    pub puts-behind : {out : Bytes} (n : Refusal) → Puts es b places f end write e last last′ (ItemRefused n) out out (ItemRefused n)
     puts-behind n = record {
       fits = omega arith;
       same = k .same;
       kept = refl;
-      going = λ ls q. (indexes-after (use-meant es f u) ls, k .indexes f ls q, λ r h xs. used-behind es r end ls (element-of f e) xs (use-meant es f u) (m .answer f ls q) n);
+      continues = λ ls q. (indexes-after (use-meant es f u) ls, k .indexes f ls q, λ r h xs. used-behind es r end ls (element-of f e) xs (use-meant es f u) (m .answer f ls q) n);
     }
 
-    pub puts-items : (p : ℕ) {out out′ : Bytes} (x : Next) → Fills es b places (items-of (use-meant es f u)) p end write out out′ x → Holds es b places → p ≤ end → end ≤ length out
-        → Puts es b places f end write e last last′ (At p) out out′ (standing-of x)
+    pub puts-items : (p : ℕ) {out out′ : Bytes} (x : Next) → Fills es b places (items-of (use-meant es f u)) p end write out out′ x → Has-record es b places → p ≤ end → end ≤ length out
+        → Puts es b places f end write e last last′ (At p) out out′ (progress-after x)
     puts-items p (next.At p′) g h l o = record {
       fits = used-within es (h .0) end (items-of (use-meant es f u)) (g (h .0) (h .1)) l p′ refl;
       same = k .same;
       kept = g (h .0) (h .1) .same;
-      going = λ ls q. (indexes-after (use-meant es f u) ls, k .indexes f ls q, λ r i xs. used-at es r end ls (element-of f e) xs (use-meant es f u) (m .answer f ls q) (g r i) l o p′ refl);
+      continues = λ ls q. (indexes-after (use-meant es f u) ls, k .indexes f ls q, λ r i xs. used-at es r end ls (element-of f e) xs (use-meant es f u) (m .answer f ls q) (g r i) l o p′ refl);
     }
     puts-items p (next.Refused n) g h l o = record {
       fits = omega arith;
       same = k .same;
       kept = g (h .0) (h .1) .same;
-      going = λ ls q. (indexes-after (use-meant es f u) ls, k .indexes f ls q, λ r i xs. used-refused es r end ls (element-of f e) xs (use-meant es f u) (m .answer f ls q) (g r i) l o n refl);
+      continues = λ ls q. (indexes-after (use-meant es f u) ls, k .indexes f ls q, λ r i xs. used-refused es r end ls (element-of f e) xs (use-meant es f u) (m .answer f ls q) (g r i) l o n refl);
     }

@@ -12,28 +12,28 @@ use Rattle.rules.specs.Record.{Record}
 use Rattle.rules.specs.Use.{Item}
 use Rattle.rules.specs.Services.{item-bytes, filled}
 use Rattle.rules.specs.declared.Refusal.{Refusal}
-use Rattle.records.specs.Places.{Held, Holds}
-use Rattle.filling.specs.Filling.{Filling, in-room, Going, together}
+use Rattle.records.specs.Places.{Is-record, Has-record}
+use Rattle.filling.specs.Filling.{Filling, in-room, Continues, together}
 use Rattle.reading.specs.Spans.{Fills}
 use Rattle.filling.specs.declared.Next.{Next}
 use Rattle.filling.specs.declared.Next.the-variants.{At, Refused}
-use Rattle.filling.proofs.Going.{going-start, going-end, turn, turn-within, stop}
+use Rattle.filling.proofs.Continues.{continues-start, continues-end, turn, turn-within, stop}
 use Rattle.reading.proofs.Items.{filled-together}
 use Rattle.filling.proofs.Together.{together-one}
 
 pub record Running (es : List Entry) (b : Bytes) (places : List ℕ) (end : ℕ) (whole rest : List Item) (start at : ℕ) (write : Bool) (out₀ out : Bytes) : Type 0 where
-  pub holds : Holds es b places
+  pub holds : Has-record es b places
   pub fits : at ≤ end
   pub room : end ≤ length out
-  pub going : (r : Record) → Held es b places r → Going (filled (parts es) r (end - start) whole) (filled (parts es) r (end - at) rest) start at write out₀ out
+  pub continues : (r : Record) → Is-record es b places r → Continues (filled (parts es) r (end - start) whole) (filled (parts es) r (end - at) rest) start at write out₀ out
 
 pub run-start : (es : List Entry) (b : Bytes) (places : List ℕ) (end : ℕ) (xs : List Item) (at : ℕ) (write : Bool) (out : Bytes)
-    → Holds es b places → at ≤ end → end ≤ length out → Running es b places end xs xs at at write out out
+    → Has-record es b places → at ≤ end → end ≤ length out → Running es b places end xs xs at at write out out
 run-start es b places end xs at write out k h l = record {
   holds = k;
   fits = h;
   room = l;
-  going = λ r p. going-start (filled (parts es) r (end - at) xs) at write out;
+  continues = λ r p. continues-start (filled (parts es) r (end - at) xs) at write out;
 }
 
 -- Items one after the other, by their bytes.
@@ -44,17 +44,17 @@ filled-both es r room xs ys = filled-together (parts es) r (xs ++ ys) room ∙ a
 module _ {es : List Entry} {b : Bytes} {places : List ℕ} {end : ℕ} {whole rest : List Item} {start at : ℕ} {write : Bool} {out₀ out : Bytes}
     (g : Running es b places end whole rest start at write out₀ out) where
   abbrev Left : Record → Outcome Bytes → Type 0
-  Left r o = Going (filled (parts es) r (end - start) whole) o start at write out₀ out
+  Left r o = Continues (filled (parts es) r (end - start) whole) o start at write out₀ out
 
   module _ (xs ys : List Item) (e : rest ≡ xs ++ ys) where
     abbrev Parted : Record → Type 0
     Parted r = Left r (together (end - at) (map (item-bytes (parts es) r) xs ++ map (item-bytes (parts es) r) ys))
 
-    parted : (r : Record) → Held es b places r → Parted r
-    parted r p = subst (Left r) (ap (filled (parts es) r (end - at)) e ∙ filled-both es r (end - at) xs ys) (g .going r p)
+    parted : (r : Record) → Is-record es b places r → Parted r
+    parted r p = subst (Left r) (ap (filled (parts es) r (end - at)) e ∙ filled-both es r (end - at) xs ys) (g .continues r p)
 
     module _ {out′ : Bytes} {n : Next} (f : Fills es b places xs at end write out out′ n) where
-      put : (r : Record) → Held es b places r → Filling (together (end - at) (map (item-bytes (parts es) r) xs)) at write out out′ n
+      put : (r : Record) → Is-record es b places r → Filling (together (end - at) (map (item-bytes (parts es) r) xs)) at write out out′ n
       put r p = subst (λ (o : Outcome Bytes). Filling o at write out out′ n) (filled-together (parts es) r xs (end - at)) (f r p)
 
       pub run-on : (at′ : ℕ) → n ≡ At at′ → Running es b places end whole ys start at′ write out₀ out′
@@ -65,8 +65,8 @@ module _ {es : List Entry} {b : Bytes} {places : List ℕ} {end : ℕ} {whole re
           record {
             holds = g .holds;
             fits = turn-within end _ _ (parted r p) (put r p) (g .fits) (g .room) at′ q .1;
-            room = omega (arith, t .same, g .going r p .same, g .room);
-            going = λ r p. subst (λ (o : Outcome Bytes). Going (filled (parts es) r (end - start) whole) o start at′ write out₀ out′)
+            room = omega (arith, t .same, g .continues r p .same, g .room);
+            continues = λ r p. subst (λ (o : Outcome Bytes). Continues (filled (parts es) r (end - start) whole) o start at′ write out₀ out′)
                 (sym (filled-together (parts es) r ys (end - at′))) (turn end _ _ (parted r p) (put r p) (g .fits) (g .room) at′ q);
           }
 
@@ -74,7 +74,7 @@ module _ {es : List Entry} {b : Bytes} {places : List ℕ} {end : ℕ} {whole re
       run-off k q r p = stop end _ _ (parted r p) (put r p) (g .fits) (g .room) k q
 
   pub run-end : rest ≡ [] → Fills es b places whole start end write out₀ out (At at)
-  run-end e r p = going-end (end - at) (subst (Left r) (ap (filled (parts es) r (end - at)) e ∙ filled-together (parts es) r [] (end - at)) (g .going r p))
+  run-end e r p = continues-end (end - at) (subst (Left r) (ap (filled (parts es) r (end - at)) e ∙ filled-together (parts es) r [] (end - at)) (g .continues r p))
 
 -- One item in its room.
 pub filled-one : (ps : List Part) (r : Record) (room : ℕ) (x : Item) → filled ps r room (x ∷ []) ≡ in-room room (item-bytes ps r x)
@@ -82,9 +82,9 @@ filled-one ps r room x = filled-together ps r (x ∷ []) room ∙ together-one r
 
 pub run-same : {es : List Entry} {b : Bytes} {places : List ℕ} {end : ℕ} {whole rest : List Item} {start at : ℕ} {write : Bool} {out₀ out : Bytes}
     → Running es b places end whole rest start at write out₀ out → length out ≡ length out₀
-run-same g = g .going (g .holds .0) (g .holds .1) .same
+run-same g = g .continues (g .holds .0) (g .holds .1) .same
 
 -- No item: nothing changes.
-pub fills-none : (es : List Entry) (b : Bytes) (places : List ℕ) {xs : List Item} → xs ≡ [] → (at end : ℕ) (write : Bool) {out : Bytes} → Holds es b places → at ≤ end → end ≤ length out
+pub fills-none : (es : List Entry) (b : Bytes) (places : List ℕ) {xs : List Item} → xs ≡ [] → (at end : ℕ) (write : Bool) {out : Bytes} → Has-record es b places → at ≤ end → end ≤ length out
     → Fills es b places xs at end write out out (At at)
 fills-none es b places {xs} none at end write {out} k h l = run-end (run-start es b places end xs at write out k h l) none

@@ -18,21 +18,21 @@ use Rattle.rules.specs.Use.{Use as Meaning, Indexes, uses, items}
 use Rattle.rules.specs.Services.{filled}
 use Rattle.rules.specs.Numbers.{refusal-number}
 use Rattle.rules.specs.declared.Refusal.the-variants.{BadSyntax}
-use Rattle.formats.specs.Syntax.{parsed, elements-behind, element-before, Stepped}
-use Rattle.formats.specs.Elements.{element-of}
-use Rattle.formats.specs.declared.Element.{Element}
-use Rattle.formats.specs.declared.syntax.Step.the-variants as step
-use Rattle.formats.proofs.StepLaws.{elements-parsed, elements-long, behind-last, behind-more}
-use Rattle.records.specs.Places.{Held}
+use Rattle.format_buffer.specs.Syntax.{parsed, elements-behind, element-before, Stepped}
+use Rattle.format_buffer.specs.Elements.{element-of}
+use Rattle.format_buffer.specs.declared.Element.{Element}
+use Rattle.format_buffer.specs.declared.syntax.Step.the-variants as step
+use Rattle.format_buffer.proofs.StepLaws.{elements-parsed, elements-long, behind-last, behind-more}
+use Rattle.records.specs.Places.{Is-record}
 use Rattle.uses.specs.Meant.{indexes-kept, Remembers, uses-of}
 use Rattle.uses.proofs.Testing.{no-index, zeros}
-use Rattle.filling.specs.Filling.{Going}
+use Rattle.filling.specs.Filling.{Continues}
 use Rattle.reading.specs.Scan.{filled-upto, answer-of, left-of, Puts, Scans}
 use Rattle.filling.specs.declared.Next.{Next}
 use Rattle.filling.specs.declared.Next.the-variants as next
-use Rattle.reading.specs.declared.Standing.{Standing}
-use Rattle.reading.specs.declared.Standing.the-variants.{At, NoItem, NoUse}
-use Rattle.filling.proofs.Going.{going-start, going-then, going-off, going-end}
+use Rattle.reading.specs.declared.Progress.{Progress}
+use Rattle.reading.specs.declared.Progress.the-variants.{At, ItemRefused, ElementRefused}
+use Rattle.filling.proofs.Continues.{continues-start, continues-then, continues-off, continues-end}
 use Rattle.reading.proofs.Items.{filled-together}
 use Rattle.reading.proofs.Turns.{no-items, no-uses, left-bad}
 
@@ -47,15 +47,15 @@ whole-left es f r end h = ap (λ o. o >>= uses es [] >>= λ us. filled (parts es
 
 pub scan-long : (es : List Entry) (b : Bytes) (places : List ℕ) (f : Bytes) (end : ℕ) (write : Bool) (out : Bytes) → longest-format < length f → Scans es b places f end write out out (next.Refused BadSyntax)
 unfolding uses-of
-scan-long es b places f end write out h r p = going-off (going-start (whole es f r end) 0 write out) refl BadSyntax (ap (λ o. o >>= uses es [] >>= λ us. filled (parts es) r end (items us)) (elements-long f h)) (λ w. refl)
+scan-long es b places f end write out h r p = continues-off (continues-start (whole es f r end) 0 write out) refl BadSyntax (ap (λ o. o >>= uses es [] >>= λ us. filled (parts es) r end (items us)) (elements-long f h)) (λ w. refl)
 
 -- The scan stands somewhere, with some elements left.
-pub record Scanning (es : List Entry) (b : Bytes) (places : List ℕ) (f : Bytes) (end : ℕ) (write : Bool) (out₀ : Bytes) (last : List ℕ) (xs : Outcome (List rules.Element)) (s : Standing) (out : Bytes) : Type 0 where
+pub record Scanning (es : List Entry) (b : Bytes) (places : List ℕ) (f : Bytes) (end : ℕ) (write : Bool) (out₀ : Bytes) (last : List ℕ) (xs : Outcome (List rules.Element)) (s : Progress) (out : Bytes) : Type 0 where
   pub indexes : Indexes
   pub remembers : Remembers es last indexes
   pub fits : filled-upto s ≤ end
   pub same : length out ≡ length out₀
-  pub going : (r : Record) → Held es b places r → Going (whole es f r end) (left-of es r end indexes xs s) 0 (filled-upto s) write out₀ out
+  pub continues : (r : Record) → Is-record es b places r → Continues (whole es f r end) (left-of es r end indexes xs s) 0 (filled-upto s) write out₀ out
 
 -- An answer that is known by an equation.
 pub scan-as-answer : {es : List Entry} {b : Bytes} {places : List ℕ} (f : Bytes) (end : ℕ) {write : Bool} {out₀ out : Bytes} {n m : Next} → n ≡ m
@@ -69,39 +69,39 @@ module _ {es : List Entry} {b : Bytes} {places : List ℕ} {f : Bytes} {end : �
     remembers = λ i k. zeros indexes-kept i ∙ sym (no-index (getD es i _ .name));
     fits = omega arith;
     same = refl;
-    going = λ r p. subst (λ (o : Outcome Bytes). Going (whole es f r end) o 0 0 write out₀ out₀) (whole-left es f r end s) (going-start (whole es f r end) 0 write out₀);
+    continues = λ r p. subst (λ (o : Outcome Bytes). Continues (whole es f r end) o 0 0 write out₀ out₀) (whole-left es f r end s) (continues-start (whole es f r end) 0 write out₀);
   }
 
-  module _ {last : List ℕ} {xs : Outcome (List rules.Element)} {s : Standing} {out : Bytes} (w : Scanning es b places f end write out₀ last xs s out) where
+  module _ {last : List ℕ} {xs : Outcome (List rules.Element)} {s : Progress} {out : Bytes} (w : Scanning es b places f end write out₀ last xs s out) where
     -- The same elements in other words.
     pub scan-as : (ys : Outcome (List rules.Element)) → xs ≡ ys → Scanning es b places f end write out₀ last ys s out
     scan-as ys e = subst (λ (o : Outcome (List rules.Element)). Scanning es b places f end write out₀ last o s out) e w
 
     pub scan-bad : xs ≡ refused 3 → Scans es b places f end write out₀ out (next.Refused BadSyntax)
-    scan-bad e r p = going-off (w .going r p) refl BadSyntax (ap (λ o. left-of es r end (w .indexes) o s) e ∙ left-bad es r end (w .indexes) s 3) (λ k. refl)
+    scan-bad e r p = continues-off (w .continues r p) refl BadSyntax (ap (λ o. left-of es r end (w .indexes) o s) e ∙ left-bad es r end (w .indexes) s 3) (λ k. refl)
 
-  scan-on : {last last′ : List ℕ} {s s′ : Standing} {out out′ : Bytes} (e : Element) (xs : Outcome (List rules.Element))
+  scan-on : {last last′ : List ℕ} {s s′ : Progress} {out out′ : Bytes} (e : Element) (xs : Outcome (List rules.Element))
       → Scanning es b places f end write out₀ last (element-before (element-of f e) xs) s out → Puts es b places f end write e last last′ s out out′ s′ → Scanning es b places f end write out₀ last′ xs s′ out′
-  scan-on e xs w p = let n = p .going (w .indexes) (w .remembers) in record {
+  scan-on e xs w p = let n = p .continues (w .indexes) (w .remembers) in record {
     indexes = n .0;
     remembers = n .1;
     fits = p .fits;
     same = p .kept ∙ w .same;
-    going = λ r h. going-then (w .going r h) (n .2 r h xs);
+    continues = λ r h. continues-then (w .continues r h) (n .2 r h xs);
   }
 
   -- Nothing is left.
-  scan-end : {last : List ℕ} (s : Standing) {out : Bytes} → Scanning es b places f end write out₀ last (done []) s out → Scans es b places f end write out₀ out (answer-of s)
+  scan-end : {last : List ℕ} (s : Progress) {out : Bytes} → Scanning es b places f end write out₀ last (done []) s out → Scans es b places f end write out₀ out (answer-of s)
   unfolding left-of
-  scan-end (At p) {out} w r h = going-end (end - p)
-      (subst (λ (o : Outcome Bytes). Going (whole es f r end) o 0 p write out₀ out)
+  scan-end (At p) {out} w r h = continues-end (end - p)
+      (subst (λ (o : Outcome Bytes). Continues (whole es f r end) o 0 p write out₀ out)
       (ap (λ o. o >>= λ us. filled (parts es) r (end - p) (items us)) (no-uses es (w .indexes)) ∙ ap (filled (parts es) r (end - p)) no-items ∙ filled-together (parts es) r [] (end - p))
-      (w .going r h))
-  scan-end (NoItem n) w r h = going-off (w .going r h) refl n (ap (λ (o : Outcome (List Meaning)). o >>= λ us. refused (refusal-number n)) (no-uses es (w .indexes))) (λ k. refl)
-  scan-end (NoUse n) w r h = going-off (w .going r h) refl n refl (λ k. refl)
+      (w .continues r h))
+  scan-end (ItemRefused n) w r h = continues-off (w .continues r h) refl n (ap (λ (o : Outcome (List Meaning)). o >>= λ us. refused (refusal-number n)) (no-uses es (w .indexes))) (λ k. refl)
+  scan-end (ElementRefused n) w r h = continues-off (w .continues r h) refl n refl (λ k. refl)
 
   -- The element at a place is put.
-  module _ {at : ℕ} {e : Element} {stop : ℕ} (t : Stepped f at (parsed (drop at f)) (step.At e stop)) {last last′ : List ℕ} {s s′ : Standing} {out out′ : Bytes}
+  module _ {at : ℕ} {e : Element} {stop : ℕ} (t : Stepped f at (parsed (drop at f)) (step.At e stop)) {last last′ : List ℕ} {s s′ : Progress} {out out′ : Bytes}
       (w : Scanning es b places f end write out₀ last (parsed (drop at f)) s out) (p : Puts es b places f end write e last last′ s out out′ s′) where
     behind-element : Scanning es b places f end write out₀ last′ (elements-behind f stop) s′ out′
     behind-element = scan-on e (elements-behind f stop) (scan-as w (element-before (element-of f e) (elements-behind f stop)) (t .answer)) p

@@ -15,18 +15,18 @@ use Rattle.rules.proofs.Ranges.{no-field, first-field}
 use Rattle.rules.proofs.Steps.{by-test, true-T, and-left, and-right}
 use Rattle.tables.specs.Entries.{blank, is-group}
 use Rattle.tables.specs.Groups.{field-at}
-use Rattle.formats.specs.Elements.{range}
-use Rattle.uses.specs.Meant.{fields-from, Span-held}
+use Rattle.format_buffer.specs.Elements.{range}
+use Rattle.uses.specs.Meant.{fields-from, Good-span}
 use Rattle.uses.specs.declared.Span.{Span}
 use Rattle.uses.proofs.SpanFields.{no-entry, field-entry, group-entry, asked-stored}
-use Rattle.reading.specs.Spans.{row-items}
+use Rattle.reading.specs.Spans.{occurrence-items}
 
 -- The items of some fields in one occurrence, value 1 of each as it is stored.
 abbrev pub stored-items : ℕ → List Field → List Item
 stored-items o fs = value-items (map as-stored fs) (just o) (range 1 1) false
 
 -- A span of fields as they are stored has value 1 alone of each.
-pub row-once : (es : List Entry) (s : Span) → Span-held es s → s .standard ≡ true → (o : ℕ) → row-items es s o ≡ stored-items o (fields-from es (s .first) (s .end))
+pub row-once : (es : List Entry) (s : Span) → Good-span es s → s .standard ≡ true → (o : ℕ) → occurrence-items es s o ≡ stored-items o (fields-from es (s .first) (s .end))
 row-once es s held standard o =
     let one = held .once standard in
     ap (λ (fs : List Asked). value-items fs (just o) (range (s .«value_from») (s .«value_upto»)) false) (asked-stored es s (s .standard) standard)

@@ -14,14 +14,14 @@ use Rattle.rules.specs.Use.{Use as Meaning, Indexes, indexes-after, use-of, use
 use Rattle.rules.specs.Services.{filled}
 use Rattle.rules.specs.declared.Refusal.{Refusal}
 use Rattle.rules.specs.Numbers.{refusal-number}
-use Rattle.formats.specs.Syntax.{element-before}
-use Rattle.filling.specs.Filling.{Filling, Going}
+use Rattle.format_buffer.specs.Syntax.{element-before}
+use Rattle.filling.specs.Filling.{Filling, Continues}
 use Rattle.reading.specs.Scan.{filled-upto, left-of}
 use Rattle.filling.specs.declared.Next.{Next}
 use Rattle.filling.specs.declared.Next.the-variants as next
-use Rattle.reading.specs.declared.Standing.{Standing}
-use Rattle.reading.specs.declared.Standing.the-variants.{At, NoItem, NoUse}
-use Rattle.filling.proofs.Going.{outcome-before, going-start, going-on, going-both-off, put-off, put-unwritten, room-left}
+use Rattle.reading.specs.declared.Progress.{Progress}
+use Rattle.reading.specs.declared.Progress.the-variants.{At, ItemRefused, ElementRefused}
+use Rattle.filling.proofs.Continues.{outcome-before, continues-start, continues-on, continues-both-off, put-off, put-unwritten, room-left}
 use Rattle.reading.proofs.Items.{items-on, filled-on, filled-off}
 
 pub no-items : items [] ≡ []
@@ -82,34 +82,34 @@ module _ (ps : List Part) (r : Record) (room : ℕ) (u : Meaning) where
 
 -- What is left, where something is refused.
 module _ (es : List Entry) (r : Record) (end : ℕ) (ls : Indexes) where
-  left-unused : (xs : Outcome (List rules.Element)) (n : Refusal) → left-of es r end ls xs (NoUse n) ≡ refused (unless xs (refusal-number n))
+  left-refused : (xs : Outcome (List rules.Element)) (n : Refusal) → left-of es r end ls xs (ElementRefused n) ≡ refused (unless xs (refusal-number n))
   unfolding left-of
-  left-unused xs n = refused-then xs (refusal-number n)
+  left-refused xs n = refused-then xs (refusal-number n)
 
-  pub left-bad : (s : Standing) (n : ℕ) → left-of es r end ls (refused n) s ≡ refused n
+  pub left-bad : (s : Progress) (n : ℕ) → left-of es r end ls (refused n) s ≡ refused n
   unfolding left-of
   left-bad (At p) n = refl
-  left-bad (NoItem k) n = refl
-  left-bad (NoUse k) n = refl
+  left-bad (ItemRefused k) n = refl
+  left-bad (ElementRefused k) n = refl
 
   -- The element x comes first, and the elements xs after it.
   module _ (x : rules.Element) (xs : Outcome (List rules.Element)) where
     -- One that is not looked at, since one before it is refused.
-    pub passed : (n : Refusal) {write : Bool} {out : Bytes} → Going (left-of es r end ls (element-before x xs) (NoUse n)) (left-of es r end ls xs (NoUse n)) 0 0 write out out
-    passed n = going-both-off (unless xs (refusal-number n)) (left-unused (element-before x xs) n ∙ ap refused (unless-then xs (λ ys. x ∷ ys) (refusal-number n))) (left-unused xs n) refl (λ e. refl)
+    pub passed : (n : Refusal) {write : Bool} {out : Bytes} → Continues (left-of es r end ls (element-before x xs) (ElementRefused n)) (left-of es r end ls xs (ElementRefused n)) 0 0 write out out
+    passed n = continues-both-off (unless xs (refusal-number n)) (left-refused (element-before x xs) n ∙ ap refused (unless-then xs (λ ys. x ∷ ys) (refusal-number n))) (left-refused xs n) refl (λ e. refl)
 
     -- One that is refused.
     module _ (n : Refusal) (h : refused (refusal-number n) ≡ use-of es ls x) where
-      before-off : (s : Standing) → ((k : Refusal) → s ≡ NoUse k → ⊥) → left-of es r end ls (element-before x xs) s ≡ refused (unless xs (refusal-number n))
+      before-off : (s : Progress) → ((k : Refusal) → s ≡ ElementRefused k → ⊥) → left-of es r end ls (element-before x xs) s ≡ refused (unless xs (refusal-number n))
       unfolding left-of
       before-off (At p) k = ap (λ o. o >>= λ us. filled (parts es) r (end - p) (items us)) (before-refused es ls x xs (refusal-number n) h)
-      before-off (NoItem m) k = ap (λ (o : Outcome (List Meaning)). o >>= λ us. refused (refusal-number m)) (before-refused es ls x xs (refusal-number n) h)
-      before-off (NoUse m) k = absurd (k m refl)
+      before-off (ItemRefused m) k = ap (λ (o : Outcome (List Meaning)). o >>= λ us. refused (refusal-number m)) (before-refused es ls x xs (refusal-number n) h)
+      before-off (ElementRefused m) k = absurd (k m refl)
 
-      pub refused-use : (s : Standing) → ((k : Refusal) → s ≡ NoUse k → ⊥) → (ls′ : Indexes) {write : Bool} {out : Bytes}
-          → Going (left-of es r end ls (element-before x xs) s) (left-of es r end ls′ xs (NoUse n)) (filled-upto s) 0 write out out
+      pub refused-use : (s : Progress) → ((k : Refusal) → s ≡ ElementRefused k → ⊥) → (ls′ : Indexes) {write : Bool} {out : Bytes}
+          → Continues (left-of es r end ls (element-before x xs) s) (left-of es r end ls′ xs (ElementRefused n)) (filled-upto s) 0 write out out
       unfolding left-of
-      refused-use s k ls′ = going-both-off (unless xs (refusal-number n)) (before-off s k) (refused-then xs (refusal-number n)) refl (λ e. refl)
+      refused-use s k ls′ = continues-both-off (unless xs (refusal-number n)) (before-off s k) (refused-then xs (refusal-number n)) refl (λ e. refl)
 
     -- One that means u.
     module _ (u : Meaning) (h : done u ≡ use-of es ls x) where
@@ -117,11 +117,11 @@ module _ (es : List Entry) (r : Record) (end : ℕ) (ls : Indexes) where
       more = xs >>= uses es (indexes-after u ls)
 
       -- After an item that is refused.
-      pub used-behind : (n : Refusal) {write : Bool} {out : Bytes} → Going (left-of es r end ls (element-before x xs) (NoItem n)) (left-of es r end (indexes-after u ls) xs (NoItem n)) 0 0 write out out
+      pub used-behind : (n : Refusal) {write : Bool} {out : Bytes} → Continues (left-of es r end ls (element-before x xs) (ItemRefused n)) (left-of es r end (indexes-after u ls) xs (ItemRefused n)) 0 0 write out out
       unfolding left-of
       used-behind k =
           let n = refusal-number k in
-          going-both-off (unless more n)
+          continues-both-off (unless more n)
           (refused-then (element-before x xs >>= uses es ls) n ∙ ap (λ o. refused (unless o n)) (before-done es ls x xs u h) ∙ ap refused (unless-then more (λ us. u ∷ us) n))
           (refused-then more n) refl (λ e. refl)
 
@@ -130,17 +130,17 @@ module _ (es : List Entry) (r : Record) (end : ℕ) (ls : Indexes) where
       before-used p = ap (λ o. o >>= λ us. filled (parts es) r (end - p) (items us)) (before-done es ls x xs u h)
 
       module _ {p : ℕ} {write : Bool} {out out′ : Bytes} {m : Next} (g : Filling (filled (parts es) r (end - p) (items-of u)) p write out out′ m) (fits : p ≤ end) (room : end ≤ length out) where
-        pub used-at : (p′ : ℕ) → m ≡ next.At p′ → Going (left-of es r end ls (element-before x xs) (At p)) (left-of es r end (indexes-after u ls) xs (At p′)) p p′ write out out′
+        pub used-at : (p′ : ℕ) → m ≡ next.At p′ → Continues (left-of es r end ls (element-before x xs) (At p)) (left-of es r end (indexes-after u ls) xs (At p′)) p p′ write out out′
         unfolding left-of
         used-at p′ q = items-on (parts es) r end (items-of u) g fits p′ q λ a k n l c.
             let o = before-used p ∙ used-on (parts es) r (end - p) u more a k ∙ ap (λ w. outcome-before a (more >>= λ us. filled (parts es) r w (items us))) (room-left end p p′ (length a) n l) in
-            going-on (going-start (left-of es r end ls (element-before x xs) (At p)) p write out) (g .same) a (left-of es r end (indexes-after u ls) xs (At p′)) p′ o n (omega arith) c
+            continues-on (continues-start (left-of es r end ls (element-before x xs) (At p)) p write out) (g .same) a (left-of es r end (indexes-after u ls) xs (At p′)) p′ o n (omega arith) c
 
-        pub used-refused : (k : Refusal) → m ≡ next.Refused k → Going (left-of es r end ls (element-before x xs) (At p)) (left-of es r end (indexes-after u ls) xs (NoItem k)) p 0 write out out′
+        pub used-refused : (k : Refusal) → m ≡ next.Refused k → Continues (left-of es r end ls (element-before x xs) (At p)) (left-of es r end (indexes-after u ls) xs (ItemRefused k)) p 0 write out out′
         unfolding left-of
         used-refused k q =
             let n = refusal-number k in
-            going-both-off (unless more n) (before-used p ∙ used-off (parts es) r (end - p) u more n (put-off g k q)) (refused-then more n) (g .same) (put-unwritten g)
+            continues-both-off (unless more n) (before-used p ∙ used-off (parts es) r (end - p) u more n (put-off g k q)) (refused-then more n) (g .same) (put-unwritten g)
 
 -- Items end within their room.
 pub used-within : (es : List Entry) (r : Record) (end : ℕ) (xs : List Item) {p : ℕ} {write : Bool} {out out′ : Bytes} {m : Next} → Filling (filled (parts es) r (end - p) xs) p write out out′ m

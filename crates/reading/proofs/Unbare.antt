@@ -9,7 +9,7 @@ use Rattle.rules.specs.Record.{Record}
 use Rattle.rules.specs.Format.{Range}
 use Rattle.rules.specs.Use.{Item, blanks-item, text-item, group-count, value-count, value-item, Asked, over, value-items}
 use Rattle.rules.specs.Services.{item-bytes, filled}
-use Rattle.rules.proofs.Ranges.{row-items, field-items, item-at}
+use Rattle.rules.proofs.Ranges.{occurrence-items, field-items, item-at}
 
 unbare : Item → Item
 unbare (blanks-item n) = blanks-item n
@@ -60,9 +60,9 @@ rows-same vs bare i (a ∷ fs) = let q = rows-same vs bare i fs in rw (map-run u
 items-same : (fs : List Asked) (os vs : Range) (bare : Bool) → map unbare (value-items fs os vs bare) ≡ value-items fs os vs false
 unfolding value-items
 items-same fs os vs bare =
-    map-join unbare (over os (row-items fs vs bare))
-    ∙ ap join (map-run (map unbare) (row-items fs vs bare) (os .from) (suc (os .upto) - os .from)
-    ∙ run-same (λ i. map unbare (row-items fs vs bare i)) (row-items fs vs false) (λ i. map-join unbare (map (field-items bare vs i) fs) ∙ ap join (rows-same vs bare i fs)) (os .from) (suc (os .upto) - os .from))
+    map-join unbare (over os (occurrence-items fs vs bare))
+    ∙ ap join (map-run (map unbare) (occurrence-items fs vs bare) (os .from) (suc (os .upto) - os .from)
+    ∙ run-same (λ i. map unbare (occurrence-items fs vs bare i)) (occurrence-items fs vs false) (λ i. map-join unbare (map (field-items bare vs i) fs) ∙ ap join (rows-same vs bare i fs)) (os .from) (suc (os .upto) - os .from))
 
 pub filled-bare : (ps : List Part) (r : Record) (room : ℕ) (fs : List Asked) (os vs : Range) (bare : Bool)
     → filled ps r room (value-items fs os vs bare) ≡ filled ps r room (value-items fs os vs false)

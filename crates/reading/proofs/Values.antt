@@ -8,7 +8,7 @@ use Rattle.rules.specs.Lists.{Bytes}
 use Rattle.rules.specs.Limits.{formats}
 use Rattle.rules.specs.Values.{Format, alpha, binary, fixed, packed, unpacked, conversion, allowed, converts}
 use Rattle.rules.specs.Table.{What, field, group, Entry}
-use Rattle.kinds.specs.Formats.{format-at}
+use Rattle.value_formats.specs.Formats.{format-at}
 use Rattle.tables.specs.Entries.{Valid, entries-of, blank, decoded, is-group}
 use Rattle.tables.specs.Groups.{field-by, field-at}
 use Rattle.tables.specs.declared.Entry.{Entry as Row}

@@ -7,13 +7,13 @@ use lib.ListN.{length, take, drop, getD}
 use Rattle.rules.specs.Outcome.{Outcome, done}
 use Rattle.rules.specs.Limits.{formats, highest-index}
 use Rattle.rules.specs.Lists.{Bytes}
-use Rattle.rules.specs.Values.{Format, allowed, converts, carried, content, null}
+use Rattle.rules.specs.Values.{Format, allowed, converts, converted-bytes, content, null}
 use Rattle.rules.specs.Table.{Entry}
 use Rattle.rules.specs.Record.{times, counted, stored-value}
 use Rattle.rules.specs.Use.{over}
-use Rattle.kinds.specs.Formats.{format-at}
+use Rattle.value_formats.specs.Formats.{format-at}
 use Rattle.tables.specs.Entries.{blank, is-multiple, format-number, size-of}
-use Rattle.formats.specs.Elements.{range}
+use Rattle.format_buffer.specs.Elements.{range}
 use Rattle.records.specs.declared.places.Cell.{Cell}
 use Rattle.records.specs.declared.places.Cell.the-variants as cell
 use Rattle.reading.specs.declared.cells.Run.{Run}
@@ -42,11 +42,11 @@ wanted-at es i first last format size =
     record { own = format-number what; standard = size-of what; multiple = is-multiple what; first = first; last = last; format = format; size = size }
 
 -- A stored value at the format and length in effect; and those wanted of a cell's values, of which one that doesn't exist is null.
-abbrev pub carried-to : Wanted → Bytes → Outcome Bytes
-carried-to w v = carried (format-at (w .own)) (format-at (w .format)) (w .size) (content (w .standard) v)
+abbrev pub converted-to : Wanted → Bytes → Outcome Bytes
+converted-to w v = converted-bytes (format-at (w .own)) (format-at (w .format)) (w .size) (content (w .standard) v)
 
 abbrev pub wanted : Wanted → List Bytes → List (Outcome Bytes)
-wanted w vs = over (range (w .first) (w .last)) (λ k. carried-to w (getD vs (pred k) (null (format-at (w .own)) (w .standard))))
+wanted w vs = over (range (w .first) (w .last)) (λ k. converted-to w (getD vs (pred k) (null (format-at (w .own)) (w .standard))))
 
 -- Those that exist.
 abbrev pub existing : Wanted → List Bytes → List Bytes

@@ -12,57 +12,57 @@ use Rattle.rules.specs.Format as rules
 use Rattle.rules.specs.Use.{Indexes, uses, items}
 use Rattle.rules.specs.Services.{filled}
 use Rattle.rules.specs.Numbers.{refusal-number}
-use Rattle.formats.specs.Elements.{element-of}
-use Rattle.formats.specs.Syntax.{element-before}
-use Rattle.formats.specs.declared.Element.{Element}
+use Rattle.format_buffer.specs.Elements.{element-of}
+use Rattle.format_buffer.specs.Syntax.{element-before}
+use Rattle.format_buffer.specs.declared.Element.{Element}
 use Rattle.uses.specs.Meant.{Remembers, uses-of}
-use Rattle.records.specs.Places.{Held}
-use Rattle.filling.specs.Filling.{Filling, Going}
+use Rattle.records.specs.Places.{Is-record}
+use Rattle.filling.specs.Filling.{Filling, Continues}
 use Rattle.filling.specs.declared.Next.{Next}
 use Rattle.filling.specs.declared.Next.the-variants as next
-use Rattle.reading.specs.declared.Standing.{Standing}
-use Rattle.reading.specs.declared.Standing.the-variants.{At, NoItem, NoUse}
+use Rattle.reading.specs.declared.Progress.{Progress}
+use Rattle.reading.specs.declared.Progress.the-variants.{At, ItemRefused, ElementRefused}
 
 -- Where a scan stands in the buffer; after a refusal that does not matter.
-abbrev pub filled-upto : Standing → ℕ
+abbrev pub filled-upto : Progress → ℕ
 filled-upto (At p) = p
-filled-upto (NoItem n) = 0
-filled-upto (NoUse n) = 0
+filled-upto (ItemRefused n) = 0
+filled-upto (ElementRefused n) = 0
 
 -- What a scan answers where it stands.
-abbrev pub answer-of : Standing → Next
+abbrev pub answer-of : Progress → Next
 answer-of (At p) = next.At p
-answer-of (NoItem n) = next.Refused n
-answer-of (NoUse n) = next.Refused n
+answer-of (ItemRefused n) = next.Refused n
+answer-of (ElementRefused n) = next.Refused n
 
 -- Whether an element is refused; and where a scan stands after items that end at a place or are refused.
-abbrev pub use-refused : Standing → Bool
-use-refused (At p) = false
-use-refused (NoItem n) = false
-use-refused (NoUse n) = true
+abbrev pub element-refused : Progress → Bool
+element-refused (At p) = false
+element-refused (ItemRefused n) = false
+element-refused (ElementRefused n) = true
 
-abbrev pub standing-of : Next → Standing
-standing-of (next.At p) = At p
-standing-of (next.Refused n) = NoItem n
+abbrev pub progress-after : Next → Progress
+progress-after (next.At p) = At p
+progress-after (next.Refused n) = ItemRefused n
 
 -- What is left, by the elements that are left: their items; after an item that is refused whether their uses are, and after an
 -- element that is refused whether their syntax is bad, since either comes before it.
-unfoldable pub left-of : List Entry → Record → ℕ → Indexes → Outcome (List rules.Element) → Standing → Outcome Bytes
+unfoldable pub left-of : List Entry → Record → ℕ → Indexes → Outcome (List rules.Element) → Progress → Outcome Bytes
 left-of es r end ls xs (At p) = xs >>= uses es ls >>= λ us. filled (parts es) r (end - p) (items us)
-left-of es r end ls xs (NoItem n) = xs >>= uses es ls >>= λ us. refused (refusal-number n)
-left-of es r end ls xs (NoUse n) = xs >>= λ ys. refused (refusal-number n)
+left-of es r end ls xs (ItemRefused n) = xs >>= uses es ls >>= λ us. refused (refusal-number n)
+left-of es r end ls xs (ElementRefused n) = xs >>= λ ys. refused (refusal-number n)
 
 -- An element was put: whatever follows it is left from where the scan stands then.
 pub record Puts (es : List Entry) (b : Bytes) (places : List ℕ) (f : Bytes) (end : ℕ) (write : Bool) (e : Element) (last last′ : List ℕ)
-    (s : Standing) (entry exit : Bytes) (s′ : Standing) : Type 0 where
+    (s : Progress) (entry exit : Bytes) (s′ : Progress) : Type 0 where
   pub fits : filled-upto s′ ≤ end
   pub same : length last′ ≡ length last
   pub kept : length exit ≡ length entry
-  pub going : (ls : Indexes) → Remembers es last ls → (ls′ : Indexes) × Remembers es last′ ls′
-      × ((r : Record) → Held es b places r → (xs : Outcome (List rules.Element))
-      → Going (left-of es r end ls (element-before (element-of f e) xs) s) (left-of es r end ls′ xs s′) (filled-upto s) (filled-upto s′) write entry exit)
+  pub continues : (ls : Indexes) → Remembers es last ls → (ls′ : Indexes) × Remembers es last′ ls′
+      × ((r : Record) → Is-record es b places r → (xs : Outcome (List rules.Element))
+      → Continues (left-of es r end ls (element-before (element-of f e) xs) s) (left-of es r end ls′ xs s′) (filled-upto s) (filled-upto s′) write entry exit)
 
 -- The items of a format end and write as they are to, or the first refusal is the format's.
 abbrev pub Scans : List Entry → Bytes → List ℕ → Bytes → ℕ → Bool → Bytes → Bytes → Next → Type 0
 Scans es b places f end write entry exit n =
-    (r : Record) → Held es b places r → Filling (uses-of es f >>= λ us. filled (parts es) r end (items us)) 0 write entry exit n
+    (r : Record) → Is-record es b places r → Filling (uses-of es f >>= λ us. filled (parts es) r end (items us)) 0 write entry exit n

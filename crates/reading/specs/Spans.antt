@@ -13,12 +13,12 @@ use Rattle.rules.specs.Record.{Record, group-count-at}
 use Rattle.rules.specs.Use.{Item, value-items, just}
 use Rattle.rules.specs.Services.{filled}
 use Rattle.tables.specs.Entries.{blank, is-group}
-use Rattle.formats.specs.Elements.{range}
+use Rattle.format_buffer.specs.Elements.{range}
 use Rattle.uses.specs.Meant.{asked-of}
 use Rattle.uses.specs.declared.Span.{Span}
 use Rattle.records.specs.Where.{fields-of}
 use Rattle.records.specs.Paths.{Wide, Leads}
-use Rattle.records.specs.Places.{Held}
+use Rattle.records.specs.Places.{Is-record}
 use Rattle.records.specs.declared.paths.Path.{Path}
 use Rattle.filling.specs.Filling.{Filling}
 use Rattle.filling.specs.declared.Next.{Next}
@@ -27,7 +27,7 @@ use Rattle.tables.specs.Groups.{group-end}
 -- The items end and write as they are to.
 abbrev pub Fills : List Entry → Bytes → List ℕ → List Item → ℕ → ℕ → Bool → Bytes → Bytes → Next → Type 0
 Fills es b places xs at end write entry exit n =
-    (r : Record) → Held es b places r → Filling (filled (parts es) r (end - at) xs) at write entry exit n
+    (r : Record) → Is-record es b places r → Filling (filled (parts es) r (end - at) xs) at write entry exit n
 
 -- The first n of some numbers are those of entries that are fields.
 abbrev pub Fields-numbered : List Entry → List ℕ → ℕ → Type 0
@@ -38,14 +38,14 @@ abbrev pub nulls-of : List Field → List (Outcome Bytes)
 nulls-of fs = map (λ (f : Field). done (null (f .format) (f .size))) fs
 
 -- The items of a span in one occurrence; in those from one up to another; and in those from one on.
-abbrev pub row-items : List Entry → Span → ℕ → List Item
-row-items es s o = value-items (asked-of es s) (just o) (range (s .«value_from») (s .«value_upto»)) false
+abbrev pub occurrence-items : List Entry → Span → ℕ → List Item
+occurrence-items es s o = value-items (asked-of es s) (just o) (range (s .«value_from») (s .«value_upto»)) false
 
-abbrev pub rows-items : List Entry → Span → ℕ → ℕ → List Item
-rows-items es s o last = value-items (asked-of es s) (range o last) (range (s .«value_from») (s .«value_upto»)) false
+abbrev pub occurrences-items : List Entry → Span → ℕ → ℕ → List Item
+occurrences-items es s o last = value-items (asked-of es s) (range o last) (range (s .«value_from») (s .«value_upto»)) false
 
 abbrev pub span-items : List Entry → Span → ℕ → List Item
-span-items es s o = rows-items es s o (s .upto)
+span-items es s o = occurrences-items es s o (s .upto)
 
 -- The way to the first entry of a span, and where that lies in a periodic group, the width of the span's fields.
 pub record Way (es : List Entry) (s : Span) (path : Path) (width : ℕ) : Type 0 where
@@ -58,9 +58,9 @@ pub record Whole (es : List Entry) (b : Bytes) (places : List ℕ) (s : Span) (p
   pub inside : path .inside ≡ true
   pub first : s .first ≡ path .group + 1
   pub end : s .end ≡ group-end es (path .group)
-  pub exist : (r : Record) → Held es b places r → s .from + n ≤ group-count-at (parts es) r (getD es (path .group) blank .name) + 1
+  pub exist : (r : Record) → Is-record es b places r → s .from + n ≤ group-count-at (parts es) r (getD es (path .group) blank .name) + 1
 
 -- n occurrences of a span, from its first on, stand one after the other: the span is whole and they exist, unless there are none.
-pub record Adjoin (es : List Entry) (b : Bytes) (places : List ℕ) (s : Span) (path : Path) (n : ℕ) : Type 0 where
+pub record Adjacent (es : List Entry) (b : Bytes) (places : List ℕ) (s : Span) (path : Path) (n : ℕ) : Type 0 where
   pub upto : s .from + n ≤ s .upto + 1
   pub whole : 1 ≤ n → Whole es b places s path n

@@ -5,14 +5,14 @@ ghost use mathlib.Core.Bool.{true};
 ghost use Prim.Native.Nat.{_-_, _≤_, _<_};
 ghost use lib.ListN.{length};
 ghost use Rattle.rules.specs.Lists.{Bytes};
-ghost use Rattle.kinds.specs.Formats.{format-at};
+ghost use Rattle.value_formats.specs.Formats.{format-at};
 ghost use Rattle.tables.specs.Entries.{Valid, entries-of};
 ghost use Rattle.filling.specs.Filling.{Roomy, Filling, together};
-ghost use Rattle.reading.specs.Cells.{Cell-holds, Wants, wanted-at, carried-to, wanted, Stand, Exist};
+ghost use Rattle.reading.specs.Cells.{Cell-holds, Wants, wanted-at, converted-to, wanted, Stand, Exist};
 ghost use Rattle.records.specs.declared.places.Cell.the-variants.{At};
 use filling::Next;
 use records::places::Cell;
-use values::First;
+use values::FirstValue;
 
 // What is wanted of a field: its values from first to last, which are stored at its own format and standard length, at a format and a
 // length in effect.
@@ -56,8 +56,8 @@ pub fn wanted_of(
     }
 }
 
-// n values that stand one after the other, carried to the format and length in effect.
-fn put_carried(
+// n values that stand one after the other, converted to the format and length in effect.
+fn put_converted(
     b: &[u8],
     from: usize,
     n: usize,
@@ -68,7 +68,7 @@ fn put_carried(
     write: bool,
 ) -> Next
     requires { ⌜ Wants w × (from ≤ length (now b)) × ((us : List Bytes) × Stand w (now b) from n us) × Roomy at end (now out) ⌝ }
-    ensures { λ r. ⌜ ((us : List Bytes) → Stand w (now (b .entry)) from n us → Filling (together (end - at) (map (carried-to w) us)) at write (now (out .entry)) (now (out .exit)) r) ⌝ }
+    ensures { λ r. ⌜ ((us : List Bytes) → Stand w (now (b .entry)) from n us → Filling (together (end - at) (map (converted-to w) us)) at write (now (out .entry)) (now (out .exit)) r) ⌝ }
 {
     let mut p = at;
     let mut q = from;
@@ -77,10 +77,10 @@ fn put_carried(
         let first = values::first_value(b, q, w.standard);
         match first {
             // The values are known to stand there, so that this does not happen.
-            First::Refused(k) => {
+            FirstValue::Refused(k) => {
                 return Next::Refused(k);
             }
-            First::Value(start, next) => {
+            FirstValue::Value(start, next) => {
                 let put = filling::value::put_value(
                     &b[start..next],
                     w.own,
@@ -118,16 +118,16 @@ fn put_run(
     write: bool,
 ) -> Next
     requires { ⌜ Wants w × (run .at ≤ length (now b)) × ((us : List Bytes) × Stand w (now b) (run .at) (run .count) us) × Roomy at end (now out) ⌝ }
-    ensures { λ r. ⌜ ((us : List Bytes) → Stand w (now (b .entry)) (run .at) (run .count) us → Filling (together (end - at) (map (carried-to w) us)) at write (now (out .entry)) (now (out .exit)) r) ⌝ }
+    ensures { λ r. ⌜ ((us : List Bytes) → Stand w (now (b .entry)) (run .at) (run .count) us → Filling (together (end - at) (map (converted-to w) us)) at write (now (out .entry)) (now (out .exit)) r) ⌝ }
 {
     if w.own == w.format {
         if w.standard == w.size {
             let from = run.at;
-            let upto = records::behind::skip(b, from, run.count, w.standard);
+            let upto = records::skip::values_end(b, from, run.count, w.standard);
             return filling::put_bytes(&b[from..upto], out, at, end, write);
         }
     }
-    put_carried(b, run.at, run.count, w, out, at, end, write)
+    put_converted(b, run.at, run.count, w, out, at, end, write)
 }
 
 // Those of the values wanted that exist, in the cell of an MU field.
@@ -140,7 +140,7 @@ fn run_among(b: &[u8], cell: usize, w: Wanted) -> Run
         return Run { at: 0, count: 0 };
     }
     let from = records::counts::after_count(b, cell);
-    let at = records::behind::skip(b, from, w.first - 1, w.standard);
+    let at = records::skip::values_end(b, from, w.first - 1, w.standard);
     if n < w.last {
         return Run {
             at,

@@ -4,28 +4,28 @@ ghost use Prim.Native.Nat.{_-_, _≤_};
 ghost use lib.ListN.{length};
 ghost use Rattle.rules.specs.Use.{items-of};
 ghost use Rattle.tables.specs.Entries.{Valid, entries-of};
-ghost use Rattle.formats.specs.Elements.{sound};
-ghost use Rattle.uses.specs.Meant.{Use-held, use-meant, indexes-kept};
-ghost use Rattle.records.specs.Places.{Holds};
+ghost use Rattle.format_buffer.specs.Elements.{sound};
+ghost use Rattle.uses.specs.Meant.{Good-use, use-meant, indexes-kept};
+ghost use Rattle.records.specs.Places.{Has-record};
 ghost use Rattle.filling.specs.Filling.{Roomy};
 ghost use Rattle.reading.specs.Spans.{Fills};
-ghost use Rattle.reading.specs.Scan.{filled-upto, answer-of, use-refused, standing-of, Puts, Scans};
+ghost use Rattle.reading.specs.Scan.{filled-upto, answer-of, element-refused, progress-after, Puts, Scans};
 
 mod cells;
 mod spans;
 
 use filling::Next;
-use formats::Element;
-use formats::syntax::Step;
+use format_buffer::Element;
+use format_buffer::syntax::Step;
 use rules::Refusal;
 use uses::Meant;
 use uses::Use;
 
 // Where a scan of a format stands: the items so far end at a place, or an item is refused, or an element.
-enum Standing {
+enum Progress {
     At(usize),
-    NoItem(Refusal),
-    NoUse(Refusal),
+    ItemRefused(Refusal),
+    ElementRefused(Refusal),
 }
 
 // What an element means.
@@ -40,7 +40,7 @@ fn put_use(
     end: usize,
     write: bool,
 ) -> Next
-    requires { ⌜ Valid (now t) × Use-held (entries-of (now t)) (now f) u × Holds (entries-of (now t)) (now b) (now places) × Roomy at end (now out) ⌝ }
+    requires { ⌜ Valid (now t) × Good-use (entries-of (now t)) (now f) u × Has-record (entries-of (now t)) (now b) (now places) × Roomy at end (now out) ⌝ }
     ensures { λ r. ⌜ Fills (entries-of (now (t .entry))) (now (b .entry)) (now (places .entry)) (items-of (use-meant (entries-of (now (t .entry))) (now (f .entry)) u)) at end write (now (out .entry)) (now (out .exit)) r ⌝ }
 {
     match u {
@@ -59,34 +59,34 @@ fn put_use(
 }
 
 // Whether an element is refused.
-fn is_unused(state: Standing) -> bool
-    ensures { λ r. ⌜ r ≡ use-refused state ⌝ }
+fn is_element_refused(state: Progress) -> bool
+    ensures { λ r. ⌜ r ≡ element-refused state ⌝ }
 {
     match state {
-        Standing::At(_) => false,
-        Standing::NoItem(_) => false,
-        Standing::NoUse(_) => true,
+        Progress::At(_) => false,
+        Progress::ItemRefused(_) => false,
+        Progress::ElementRefused(_) => true,
     }
 }
 
 // Where a scan stands after items that end at a place or are refused.
-fn stands(next: Next) -> Standing
-    ensures { λ r. ⌜ r ≡ standing-of next ⌝ }
+fn after_items(next: Next) -> Progress
+    ensures { λ r. ⌜ r ≡ progress-after next ⌝ }
 {
     match next {
-        Next::At(p) => Standing::At(p),
-        Next::Refused(n) => Standing::NoItem(n),
+        Next::At(p) => Progress::At(p),
+        Next::Refused(n) => Progress::ItemRefused(n),
     }
 }
 
 // What a scan answers where it stands.
-fn answer(state: Standing) -> Next
+fn answer(state: Progress) -> Next
     ensures { λ r. ⌜ r ≡ answer-of state ⌝ }
 {
     match state {
-        Standing::At(p) => Next::At(p),
-        Standing::NoItem(n) => Next::Refused(n),
-        Standing::NoUse(n) => Next::Refused(n),
+        Progress::At(p) => Next::At(p),
+        Progress::ItemRefused(n) => Next::Refused(n),
+        Progress::ElementRefused(n) => Next::Refused(n),
     }
 }
 
@@ -99,25 +99,25 @@ fn put_element(
     f: &[u8],
     e: Element,
     last: &mut [uses::Index; uses::INDEXES],
-    state: Standing,
+    state: Progress,
     out: &mut [u8],
     end: usize,
     write: bool,
-) -> Standing
-    requires { ⌜ Valid (now t) × sound (now f) e × (length (now last) ≡ indexes-kept) × Holds (entries-of (now t)) (now b) (now places) × Roomy (filled-upto state) end (now out) ⌝ }
+) -> Progress
+    requires { ⌜ Valid (now t) × sound (now f) e × (length (now last) ≡ indexes-kept) × Has-record (entries-of (now t)) (now b) (now places) × Roomy (filled-upto state) end (now out) ⌝ }
     ensures { λ r. ⌜ Puts (entries-of (now (t .entry))) (now (b .entry)) (now (places .entry)) (now (f .entry)) end write e (now (last .entry)) (now (last .exit)) state (now (out .entry)) (now (out .exit)) r ⌝ }
 {
-    if is_unused(state) {
+    if is_element_refused(state) {
         return state;
     }
     match uses::use_of(t, last, e) {
-        Meant::Refused(n) => Standing::NoUse(n),
+        Meant::Refused(n) => Progress::ElementRefused(n),
         Meant::As(u) => {
             uses::remember(t, last, u);
             match state {
-                Standing::At(p) => stands(put_use(t, b, places, f, u, out, p, end, write)),
-                Standing::NoItem(n) => Standing::NoItem(n),
-                Standing::NoUse(n) => Standing::NoUse(n),
+                Progress::At(p) => after_items(put_use(t, b, places, f, u, out, p, end, write)),
+                Progress::ItemRefused(n) => Progress::ItemRefused(n),
+                Progress::ElementRefused(n) => Progress::ElementRefused(n),
             }
         }
     }
@@ -134,23 +134,23 @@ pub fn scan(
     end: usize,
     write: bool,
 ) -> Next
-    requires { ⌜ Valid (now t) × Holds (entries-of (now t)) (now b) (now places) × (end ≤ length (now out)) ⌝ }
+    requires { ⌜ Valid (now t) × Has-record (entries-of (now t)) (now b) (now places) × (end ≤ length (now out)) ⌝ }
     ensures { λ r. ⌜ Scans (entries-of (now (t .entry))) (now (b .entry)) (now (places .entry)) (now (f .entry)) end write (now (out .entry)) (now (out .exit)) r ⌝ }
 {
     if rules::LONGEST_FORMAT < f.len() {
         return Next::Refused(Refusal::BadSyntax);
     }
     let mut last: [uses::Index; uses::INDEXES] = [0; uses::INDEXES];
-    let mut state = Standing::At(0);
+    let mut state = Progress::At(0);
     let mut at = 0;
     loop {
-        match formats::syntax::next(f, at) {
+        match format_buffer::syntax::next(f, at) {
             Step::Bad => {
                 return Next::Refused(Refusal::BadSyntax);
             }
             Step::At(e, stop) => {
                 state = put_element(t, b, places, f, e, &mut last, state, out, end, write);
-                if formats::syntax::is_last(f, stop) {
+                if format_buffer::syntax::is_last(f, stop) {
                     return answer(state);
                 }
                 at = stop + 1;

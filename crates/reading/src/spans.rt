@@ -12,23 +12,23 @@ ghost use Rattle.rules.specs.Record.{Record};
 ghost use Rattle.tables.specs.Entries.{Valid, entries-of};
 ghost use Rattle.tables.specs.Places.{inside-at};
 ghost use Rattle.tables.specs.Groups.{field-at};
-ghost use Rattle.uses.specs.Meant.{Span-held, fields-from};
+ghost use Rattle.uses.specs.Meant.{Good-span, fields-from};
 ghost use Rattle.records.specs.Where.{fields-of};
 ghost use Rattle.records.specs.Paths.{Wide, Leads};
-ghost use Rattle.records.specs.Places.{Held, Holds, Piece-of};
+ghost use Rattle.records.specs.Places.{Is-record, Has-record, Piece-of};
 ghost use Rattle.filling.specs.Filling.{Roomy, Filling, together};
-ghost use Rattle.reading.specs.Spans.{Fills, Fields-numbered, nulls-of, row-items, span-items, Way, rows-items, Adjoin};
+ghost use Rattle.reading.specs.Spans.{Fills, Fields-numbered, nulls-of, occurrence-items, span-items, Way, occurrences-items, Adjacent};
 use super::cells;
 use filling::Next;
 use records::paths::Path;
-use records::places::Content;
+use records::places::Extent;
 use rules::MOST_ENTRIES;
 use tables::Found;
 use uses::Span;
 
 // The width of a span's fields together, where all are of fixed length and none is MU; otherwise it means nothing.
 fn width(t: &[u8], s: Span) -> usize
-    requires { ⌜ Valid (now t) × Span-held (entries-of (now t)) s ⌝ }
+    requires { ⌜ Valid (now t) × Good-span (entries-of (now t)) s ⌝ }
     ensures { λ w. ⌜ (all plain (fields-of (slice (s .first) (s .end) (entries-of (now (t .entry))))) ≡ true → Wide (fields-of (slice (s .first) (s .end) (entries-of (now (t .entry))))) w) ⌝ }
 {
     let found = records::paths::width_of(t, s.first, s.end);
@@ -47,9 +47,9 @@ fn piece(
     path: Path,
     width: usize,
     o: usize,
-) -> Content
-    requires { ⌜ Valid (now t) × Span-held (entries-of (now t)) s × (s .standard ≡ true) × Way (entries-of (now t)) s path width × (1 ≤ o) × (o ≤ s .upto) × Holds (entries-of (now t)) (now b) (now places) ⌝ }
-    ensures { λ c. ⌜ ((r : Record) → Held (entries-of (now (t .entry))) (now (b .entry)) (now (places .entry)) r → Piece-of (entries-of (now (t .entry))) (now (b .entry)) (s .first) (s .end) o r c) ⌝ }
+) -> Extent
+    requires { ⌜ Valid (now t) × Good-span (entries-of (now t)) s × (s .standard ≡ true) × Way (entries-of (now t)) s path width × (1 ≤ o) × (o ≤ s .upto) × Has-record (entries-of (now t)) (now b) (now places) ⌝ }
+    ensures { λ c. ⌜ ((r : Record) → Is-record (entries-of (now (t .entry))) (now (b .entry)) (now (places .entry)) r → Piece-of (entries-of (now (t .entry))) (now (b .entry)) (s .first) (s .end) o r c) ⌝ }
 {
     if path.inside {
         return records::places::piece_inside(t, b, places, path, s.end, width, o);
@@ -89,8 +89,15 @@ fn put_null_fields(
 }
 
 // The nulls of a group's fields, for an occurrence that does not exist.
-fn put_null_row(t: &[u8], s: Span, out: &mut [u8], at: usize, end: usize, write: bool) -> Next
-    requires { ⌜ Valid (now t) × Span-held (entries-of (now t)) s × (s .standard ≡ true) × (inside-at (entries-of (now t)) (s .first) ≡ true) × Roomy at end (now out) ⌝ }
+fn put_null_occurrence(
+    t: &[u8],
+    s: Span,
+    out: &mut [u8],
+    at: usize,
+    end: usize,
+    write: bool,
+) -> Next
+    requires { ⌜ Valid (now t) × Good-span (entries-of (now t)) s × (s .standard ≡ true) × (inside-at (entries-of (now t)) (s .first) ≡ true) × Roomy at end (now out) ⌝ }
     ensures { λ r. ⌜ Filling (together (end - at) (nulls-of (fields-from (entries-of (now (t .entry))) (s .first) (s .end)))) at write (now (out .entry)) (now (out .exit)) r ⌝ }
 {
     let mut fields = [0u8; MOST_ENTRIES];
@@ -99,7 +106,7 @@ fn put_null_row(t: &[u8], s: Span, out: &mut [u8], at: usize, end: usize, write:
 }
 
 // A span of fields as they are stored, in occurrence o: copied in one piece, or null for each where there is no such occurrence.
-fn put_row(
+fn put_occurrence(
     t: &[u8],
     b: &[u8],
     places: &[u16; records::DIRECTORY],
@@ -112,18 +119,18 @@ fn put_row(
     end: usize,
     write: bool,
 ) -> Next
-    requires { ⌜ Valid (now t) × Span-held (entries-of (now t)) s × (s .standard ≡ true) × Way (entries-of (now t)) s path width × (1 ≤ o) × (o ≤ s .upto) × Holds (entries-of (now t)) (now b) (now places) × Roomy at end (now out) ⌝ }
-    ensures { λ r. ⌜ Fills (entries-of (now (t .entry))) (now (b .entry)) (now (places .entry)) (row-items (entries-of (now (t .entry))) s o) at end write (now (out .entry)) (now (out .exit)) r ⌝ }
+    requires { ⌜ Valid (now t) × Good-span (entries-of (now t)) s × (s .standard ≡ true) × Way (entries-of (now t)) s path width × (1 ≤ o) × (o ≤ s .upto) × Has-record (entries-of (now t)) (now b) (now places) × Roomy at end (now out) ⌝ }
+    ensures { λ r. ⌜ Fills (entries-of (now (t .entry))) (now (b .entry)) (now (places .entry)) (occurrence-items (entries-of (now (t .entry))) s o) at end write (now (out .entry)) (now (out .exit)) r ⌝ }
 {
     let found = piece(t, b, places, s, path, width, o);
     match found {
-        Content::At(from, upto) => filling::put_bytes(&b[from..upto], out, at, end, write),
-        Content::Nothing => put_null_row(t, s, out, at, end, write),
+        Extent::At(from, upto) => filling::put_bytes(&b[from..upto], out, at, end, write),
+        Extent::Nothing => put_null_occurrence(t, s, out, at, end, write),
     }
 }
 
 // How many of the occurrences from..=upto exist, where the record has count of them.
-fn rows_existing(count: usize, from: usize, upto: usize) -> usize
+fn occurrences_existing(count: usize, from: usize, upto: usize) -> usize
     requires { ⌜ (from ≤ upto) × (upto ≤ highest-index) ⌝ }
     ensures { λ n. ⌜ n ≡ min count upto + 1 - from ⌝ }
 {
@@ -138,21 +145,21 @@ fn rows_existing(count: usize, from: usize, upto: usize) -> usize
 
 // How many occurrences of a span stand one after the other, from its first on: those that exist, where the span is the whole of a
 // periodic group.
-fn rows_together(
+fn adjacent_count(
     t: &[u8],
     b: &[u8],
     places: &[u16; records::DIRECTORY],
     s: Span,
     path: Path,
 ) -> usize
-    requires { ⌜ Valid (now t) × Span-held (entries-of (now t)) s × (path .entry ≡ s .first) × Leads (entries-of (now t)) path × Holds (entries-of (now t)) (now b) (now places) ⌝ }
-    ensures { λ n. ⌜ Adjoin (entries-of (now (t .entry))) (now (b .entry)) (now (places .entry)) s path n ⌝ }
+    requires { ⌜ Valid (now t) × Good-span (entries-of (now t)) s × (path .entry ≡ s .first) × Leads (entries-of (now t)) path × Has-record (entries-of (now t)) (now b) (now places) ⌝ }
+    ensures { λ n. ⌜ Adjacent (entries-of (now (t .entry))) (now (b .entry)) (now (places .entry)) s path n ⌝ }
 {
     if path.inside {
         if s.first == path.group + 1 {
             if s.end == tables::group_end(t, path.group) {
                 let count = records::places::group_count(t, b, places, path.group);
-                return rows_existing(count, s.from, s.upto);
+                return occurrences_existing(count, s.from, s.upto);
             }
         }
     }
@@ -160,7 +167,7 @@ fn rows_together(
 }
 
 // The first n occurrences of a span of fields as they are stored, which are adjacent in the record: one copy.
-fn put_together(
+fn put_adjacent(
     t: &[u8],
     b: &[u8],
     places: &[u16; records::DIRECTORY],
@@ -173,19 +180,19 @@ fn put_together(
     end: usize,
     write: bool,
 ) -> Next
-    requires { ⌜ Valid (now t) × Span-held (entries-of (now t)) s × (s .standard ≡ true) × Way (entries-of (now t)) s path width × Adjoin (entries-of (now t)) (now b) (now places) s path n × Holds (entries-of (now t)) (now b) (now places) × Roomy at end (now out) ⌝ }
-    ensures { λ r. ⌜ Fills (entries-of (now (t .entry))) (now (b .entry)) (now (places .entry)) (rows-items (entries-of (now (t .entry))) s (s .from) (s .from + n - 1)) at end write (now (out .entry)) (now (out .exit)) r ⌝ }
+    requires { ⌜ Valid (now t) × Good-span (entries-of (now t)) s × (s .standard ≡ true) × Way (entries-of (now t)) s path width × Adjacent (entries-of (now t)) (now b) (now places) s path n × Has-record (entries-of (now t)) (now b) (now places) × Roomy at end (now out) ⌝ }
+    ensures { λ r. ⌜ Fills (entries-of (now (t .entry))) (now (b .entry)) (now (places .entry)) (occurrences-items (entries-of (now (t .entry))) s (s .from) (s .from + n - 1)) at end write (now (out .entry)) (now (out .exit)) r ⌝ }
 {
     if n == 0 {
         return Next::At(at);
     }
-    let from = records::places::rows_inside(t, b, places, path.group, width, s.from, n);
+    let from = records::places::occurrences_at(t, b, places, path.group, width, s.from, n);
     let upto = from + n * width;
     filling::put_bytes(&b[from..upto], out, at, end, write)
 }
 
 // A span of fields as they are stored: the occurrences that stand together first, then one by one; the way to them is found once.
-fn put_rows(
+fn put_occurrences(
     t: &[u8],
     b: &[u8],
     places: &[u16; records::DIRECTORY],
@@ -195,20 +202,20 @@ fn put_rows(
     end: usize,
     write: bool,
 ) -> Next
-    requires { ⌜ Valid (now t) × Span-held (entries-of (now t)) s × (s .standard ≡ true) × Holds (entries-of (now t)) (now b) (now places) × Roomy at end (now out) ⌝ }
+    requires { ⌜ Valid (now t) × Good-span (entries-of (now t)) s × (s .standard ≡ true) × Has-record (entries-of (now t)) (now b) (now places) × Roomy at end (now out) ⌝ }
     ensures { λ r. ⌜ Fills (entries-of (now (t .entry))) (now (b .entry)) (now (places .entry)) (span-items (entries-of (now (t .entry))) s (s .from)) at end write (now (out .entry)) (now (out .exit)) r ⌝ }
 {
     let path = records::paths::path_to(t, s.first);
     let width = width(t, s);
-    let n = rows_together(t, b, places, s, path);
-    let first = put_together(t, b, places, s, path, width, n, out, at, end, write);
+    let n = adjacent_count(t, b, places, s, path);
+    let first = put_adjacent(t, b, places, s, path, width, n, out, at, end, write);
     let Next::At(start) = first else {
         return first;
     };
     let mut p = start;
     let mut o = s.from + n;
     while o <= s.upto {
-        let next = put_row(t, b, places, s, path, width, o, out, p, end, write);
+        let next = put_occurrence(t, b, places, s, path, width, o, out, p, end, write);
         match next {
             Next::Refused(k) => {
                 return Next::Refused(k);
@@ -233,7 +240,7 @@ fn put_column(
     end: usize,
     write: bool,
 ) -> Next
-    requires { ⌜ Valid (now t) × Span-held (entries-of (now t)) s × (s .standard ≡ false) × Holds (entries-of (now t)) (now b) (now places) × Roomy at end (now out) ⌝ }
+    requires { ⌜ Valid (now t) × Good-span (entries-of (now t)) s × (s .standard ≡ false) × Has-record (entries-of (now t)) (now b) (now places) × Roomy at end (now out) ⌝ }
     ensures { λ r. ⌜ Fills (entries-of (now (t .entry))) (now (b .entry)) (now (places .entry)) (span-items (entries-of (now (t .entry))) s (s .from)) at end write (now (out .entry)) (now (out .exit)) r ⌝ }
 {
     let w = cells::wanted_of(t, s.first, s.value_from, s.value_upto, s.format, s.size);
@@ -267,11 +274,11 @@ pub fn put_span(
     end: usize,
     write: bool,
 ) -> Next
-    requires { ⌜ Valid (now t) × Span-held (entries-of (now t)) s × Holds (entries-of (now t)) (now b) (now places) × Roomy at end (now out) ⌝ }
+    requires { ⌜ Valid (now t) × Good-span (entries-of (now t)) s × Has-record (entries-of (now t)) (now b) (now places) × Roomy at end (now out) ⌝ }
     ensures { λ r. ⌜ Fills (entries-of (now (t .entry))) (now (b .entry)) (now (places .entry)) (span-items (entries-of (now (t .entry))) s (s .from)) at end write (now (out .entry)) (now (out .exit)) r ⌝ }
 {
     if s.standard {
-        return put_rows(t, b, places, s, out, at, end, write);
+        return put_occurrences(t, b, places, s, out, at, end, write);
     }
     put_column(t, b, places, s, out, at, end, write)
 }

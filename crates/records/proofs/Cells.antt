@@ -1,4 +1,4 @@
--- What readers one behind the other took, each at its place: an occurrence of a part, a member of an occurrence, a value of a cell.
+-- What readers one after the other took, each at its place: an occurrence of a part, a member of an occurrence, a value of a cell.
 use mathlib.Core.Path.{_≡_, refl, sym, _∙_, ap}
 use mathlib.Core.Bool.{true, false}
 use mathlib.Core.List.{List, [], _∷_, _++_}
@@ -17,7 +17,7 @@ use Rattle.rules.specs.Record.{Cell, Occurrence, Reader, times, stored-count, c
 use Rattle.rules.proofs.Steps.{from-bind, from-need, from-as, from-done, not-done, not-some, by-test, T-true}
 use Rattle.rules.proofs.Readers.{count-sound, cut-sound, value-sound}
 
--- The first of several, and the others behind it.
+-- The first of several, and the others after it.
 abbrev first-and : {X : Type 0} → Outcome (X × Bytes) → Reader (List X) → Outcome (List X × Bytes)
 first-and first others = do
   x ← first
@@ -49,7 +49,7 @@ pub times-length : {X : Type 0} (one : Reader X) (n : ℕ) (bs : Bytes) {rest : 
 times-length one zero bs p = ap length (times-none one bs p .0)
 times-length one (suc n) bs p = times-first one n bs p λ x ys mid e h t. rw e (ap suc (times-length one n mid t))
 
--- Number k of n: it stands behind the k before it.
+-- Number k of n: it stands after the k before it.
 pub times-at : {X C : Type 0} (one : Reader X) (d : X) (n k : ℕ) (bs : Bytes) {rest : Bytes} {xs : List X} → k < n → times n one bs ≡ done (xs, rest)
     → ((mid next : Bytes) → times k one bs ≡ done (take k xs, mid) → one mid ≡ done (getD xs k d, next) → C) → C
 unfolding times
@@ -58,7 +58,7 @@ times-at one d (suc n) zero bs l p c = times-first one n bs p λ x ys mid e h t.
 times-at one d (suc n) (suc k) bs l p c = times-first one n bs p λ x ys mid e h t.
     times-at one d n k mid (le-of-suc-le-suc l) t λ m next h₁ h₂. c m next (rw (e, h, h₁) refl) (rw e h₂)
 
--- What is counted stands behind its count; what is not counted stands there once.
+-- What is counted stands after its count; what is not counted stands there once.
 pub counted-many : {X C : Type 0} (one : Reader X) (bs : Bytes) {rest : Bytes} {xs : List X} → counted true one bs ≡ done (xs, rest)
     → ((tail : Bytes) → bs ≡ length xs ∷ tail → length xs ≤ greatest-count → times (length xs) one tail ≡ done (xs, rest) → C) → C
 unfolding counted count-bytes
@@ -74,7 +74,7 @@ unfolding counted
 counted-once one bs p c = times-first one 0 bs p λ x ys mid e h t.
     let (z, s) = times-none one mid t in c x (e ∙ rw z refl) (h ∙ rw s refl)
 
--- The first member with the name n: it stands behind the members before it, and the cell of n is what it took.
+-- The first member with the name n: it stands after the members before it, and the cell of n is what it took.
 pub members-at : {C : Type 0} (n : ℕ) (ms₁ : List Field) (f : Field) (ms₂ : List Field) (bs : Bytes) {rest : Bytes} {cs : Occurrence}
     → member n ms₁ ≡ none → eqb (f .name) n ≡ true → each stored-cell (ms₁ ++ f ∷ ms₂) bs ≡ done (cs, rest)
     → ((cs₁ : Occurrence) (mid next : Bytes) → each stored-cell ms₁ bs ≡ done (cs₁, mid) → stored-cell f mid ≡ done (cell-of n (ms₁ ++ f ∷ ms₂) cs, next) → C) → C
@@ -84,7 +84,7 @@ members-at n (g ∷ ms₁) f ms₂ bs m q p c = each-first stored-cell g (ms₁ 
     by-test (eqb (g .name) n) (λ y. absurd (not-some (sym (rw (y, member) at m)))) λ y.
     members-at n ms₁ f ms₂ mid (rw (y, member) at m) q t λ cs₁ mid₁ next h₁ h₂. c (x ∷ cs₁) mid₁ next (rw (h, h₁) refl) (rw (e, y, cell-of) h₂)
 
--- A cell of an MU field stands behind its count; another is its one value.
+-- A cell of an MU field stands after its count; another is its one value.
 module _ {C : Type 0} (n : ℕ) (f : Format) (s : ℕ) (bs : Bytes) {rest : Bytes} {vs : Cell} where
   pub cell-many : stored-cell (record { name = n; format = f; size = s; multiple = true }) bs ≡ done (vs, rest)
       → ((tail : Bytes) → bs ≡ length vs ∷ tail → length vs ≤ greatest-count → times (length vs) (stored-value f s) tail ≡ done (vs, rest) → C) → C

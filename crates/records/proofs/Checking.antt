@@ -19,7 +19,7 @@ use Rattle.rules.proofs.Steps.{done-inj, not-done, by-outcome}
 use Rattle.buffer.proofs.Cases.{by-order}
 use Rattle.records.proofs.Walks.{each-turn, each-stop}
 
--- An entry adds its own part, if any, before those behind it.
+-- An entry adds its own part, if any, before those after it.
 part-first : (inside : Bool) (n : ℕ) (w : What) (es : List Entry) (ps : List Part) → part-of inside n w es ps ≡ part-of inside n w es [] ++ ps
 unfolding part-of
 part-first inside n (group true) es ps = refl
@@ -27,7 +27,7 @@ part-first inside n (group false) es ps = refl
 part-first true n (field f s mu) es ps = refl
 part-first false n (field f s mu) es ps = refl
 
--- Readers one behind the other, in two runs.
+-- Readers one after the other, in two runs.
 module _ {X Y : Type 0} (one : Y → Reader X) (zs : List Y) where
   pub each-on : (ys : List Y) (bs cs : Bytes) → rest-of (each one ys bs) ≡ done cs → rest-of (each one (ys ++ zs) bs) ≡ rest-of (each one zs cs)
   unfolding each
@@ -46,7 +46,7 @@ module _ {X Y : Type 0} (one : Y → Reader X) (zs : List Y) where
 abbrev left : Bool → List Entry → Bytes → Outcome Bytes
 left before es bs = rest-of (each stored-part (parts-from before es) bs)
 
--- An entry and those behind it.
+-- An entry and those after it.
 module _ (before : Bool) (e : Entry) (es : List Entry) (bs : Bytes) where
   entry-on : (cs : Bytes) → behind (is-inside before e) e es bs ≡ done cs → left before (e ∷ es) bs ≡ left (is-inside before e) es cs
   unfolding parts-from behind

@@ -11,14 +11,14 @@ use Rattle.rules.specs.Record.{stored-value}
 use Rattle.rules.specs.declared.Refusal.{Refusal}
 use Rattle.rules.proofs.Steps.{from-done, not-done}
 use Rattle.values.specs.Places.{Located}
-use Rattle.values.specs.declared.First.{First}
-use Rattle.values.specs.declared.First.the-variants.{Value, Refused}
-use Rattle.values.proofs.Carried.{content-allowed}
+use Rattle.values.specs.declared.FirstValue.{FirstValue}
+use Rattle.values.specs.declared.FirstValue.the-variants.{Value, Refused}
+use Rattle.values.proofs.Converted.{content-allowed}
 use Rattle.records.specs.Places.{Content-of}
 use Rattle.records.proofs.Cells.{value-first}
 use Rattle.records.proofs.Normals.{first-at, first-none, value-length}
 
-module _ (b : Bytes) (at size : ℕ) {first : First} (w : Located b at (first-value size (drop at b)) first) (f : Format) (v rest : Bytes)
+module _ (b : Bytes) (at size : ℕ) {first : FirstValue} (w : Located b at (first-value size (drop at b)) first) (f : Format) (v rest : Bytes)
     (h : allowed f size ≡ true) (p : stored-value f size (drop at b) ≡ done (v, rest)) where
   pub content-found : {from upto : ℕ} → first ≡ Value from upto → Content-of f size b v from upto
   content-found {from} {upto} q =

@@ -1,4 +1,4 @@
--- What a check of a record answers at each of its ends, and how its walk goes on behind an entry.
+-- What a check of a record answers at each of its ends, and how its walk goes on after an entry.
 use mathlib.Core.Path.{_≡_, sym, _∙_}
 use mathlib.Core.Bool.{Bool, true, false}
 use mathlib.Core.List.{List}
@@ -16,7 +16,7 @@ use Rattle.buffer.proofs.Cases.{by-order}
 use Rattle.tables.specs.Entries.{blank}
 use Rattle.rules.specs.Limits.{most-entries}
 use Rattle.records.specs.Counts.{greatest-byte}
-use Rattle.records.specs.Walk.{Walked, behind, is-headed, firsts, kept-from, directory, occurrence, rows-of, Kept, Rows, Checked}
+use Rattle.records.specs.Walk.{Walked, behind, is-headed, firsts, kept-from, directory, occurrence, occurrences-counted, Kept, Occurrences-kept, Checked}
 use Rattle.records.specs.declared.Reach.{Reach}
 use Rattle.records.specs.declared.Reach.the-variants.{At, Bad}
 use Rattle.records.proofs.Entries.{never}
@@ -25,7 +25,7 @@ use Rattle.records.proofs.Checking.{Checking, turn, bad, over}
 use Rattle.records.proofs.HeadLaws.{stored-headless, stored-bad, stored-over}
 
 refuses : (es : List Entry) (b : Bytes) (places : List ℕ) (ok : Bool) → is-done (stored (parts es) b) ≡ false → ok ≡ false → Checked es b places ok
-refuses es b places ok h k = record { answer = k ∙ sym h; starts = λ e j l. absurd (never k e); rows = λ e j l. absurd (never k e) }
+refuses es b places ok h k = record { answer = k ∙ sym h; starts = λ e j l. absurd (never k e); occurrences = λ e j l. absurd (never k e) }
 
 pub no-head : (es : List Entry) (b : Bytes) (places : List ℕ) (ok : Bool) → is-headed b ≡ false → ok ≡ false → Checked es b places ok
 no-head es b places ok h k = refuses es b places ok (stored-headless (parts es) b h) k
@@ -36,8 +36,8 @@ pub record Rowing (es : List Entry) (b : Bytes) (places : List ℕ) (i kept : �
   pub least : kept-from ≤ kept
   pub most : kept ≤ kept-from + i * greatest-byte
   pub low : (g : ℕ) → g < i → kept-from ≤ getD places (firsts + g) 0
-  pub high : (g : ℕ) → g < i → getD places (firsts + g) 0 + rows-of (getD es g blank .what) (getD b (getD places g 0) 0) ≤ kept
-  pub rows : (g : ℕ) → g < i → Rows es b places g
+  pub high : (g : ℕ) → g < i → getD places (firsts + g) 0 + occurrences-counted (getD es g blank .what) (getD b (getD places g 0) 0) ≤ kept
+  pub occurrences : (g : ℕ) → g < i → Occurrences-kept es b places g
 
 pub rowing : (es : List Entry) (b : Bytes) (places : List ℕ) → length places ≡ directory → Rowing es b places 0 kept-from
 rowing es b places h = record {
@@ -46,7 +46,7 @@ rowing es b places h = record {
   most = omega arith;
   low = λ g l. absurd (not-suc-le-zero l);
   high = λ g l. absurd (not-suc-le-zero l);
-  rows = λ g l. absurd (not-suc-le-zero l);
+  occurrences = λ g l. absurd (not-suc-le-zero l);
 }
 
 pub long-set : (l : List ℕ) (i v j w : ℕ) → length (set (set l i v) j w) ≡ length l
@@ -54,7 +54,7 @@ long-set l i v j w = length-set (set l i v) j w ∙ length-set l i v
 
 -- Entry i adds its place, the number of its first occurrence, and the places of its occurrences.
 module _ {es : List Entry} {b : Bytes} {places : List ℕ} {i kept : ℕ} (l : Rowing es b places i kept) (small : i < most-entries) (p : ℕ) {after : List ℕ}
-    (k : Kept (occurrence es i) b (p + 1) (rows-of (getD es i blank .what) (getD b p 0)) kept (set (set places i p) (firsts + i) kept) after) where
+    (k : Kept (occurrence es i) b (p + 1) (occurrences-counted (getD es i blank .what) (getD b p 0)) kept (set (set places i p) (firsts + i) kept) after) where
   others : (j : ℕ) → j < kept → (j ≡ i → ⊥) → (j ≡ firsts + i → ⊥) → getD after j 0 ≡ getD places j 0
   others j h a c = k .others j h ∙ getD-set-other (set places i p) (firsts + i) j kept 0 c ∙ getD-set-other places i j p 0 a
 
@@ -70,14 +70,14 @@ module _ {es : List Entry} {b : Bytes} {places : List ℕ} {i kept : ℕ} (l : R
   new-first : getD after (firsts + i) 0 ≡ kept
   new-first = k .others (firsts + i) (omega (arith, l .least)) ∙ getD-set-same (set places i p) (firsts + i) kept 0 (omega (arith, length-set places i p, l .long))
 
-  old-rows : (g : ℕ) → g < i → Rows es b after g
+  old-rows : (g : ℕ) → g < i → Occurrences-kept es b after g
   old-rows g h = rw (old g h, old-first g h) λ n less room.
-      rw (others (getD places (firsts + g) 0 + n) (omega (arith, less, l .high g h)) (λ z. omega (arith, l .low g h)) (λ z. omega (arith, l .low g h))) (l .rows g h n less room)
+      rw (others (getD places (firsts + g) 0 + n) (omega (arith, less, l .high g h)) (λ z. omega (arith, l .low g h)) (λ z. omega (arith, l .low g h))) (l .occurrences g h n less room)
 
-  new-rows : Rows es b after i
-  new-rows = rw (new, new-first) (k .rows)
+  new-rows : Occurrences-kept es b after i
+  new-rows = rw (new, new-first) (k .occurrences)
 
-  pub rowed : {next : ℕ} → next ≡ kept + rows-of (getD es i blank .what) (getD b p 0) → next ≤ kept + greatest-byte → Rowing es b after (i + 1) next
+  pub rowed : {next : ℕ} → next ≡ kept + occurrences-counted (getD es i blank .what) (getD b p 0) → next ≤ kept + greatest-byte → Rowing es b after (i + 1) next
   rowed q h = record {
     long = k .long ∙ long-set places i p (firsts + i) kept ∙ l .long;
     least = omega (arith, l .least, q);
@@ -86,11 +86,11 @@ module _ {es : List Entry} {b : Bytes} {places : List ℕ} {i kept : ℕ} (l : R
     high = λ g m. by-order g i
         (λ o. rw (old g o, old-first g o) (omega (arith, l .high g o, q)))
         (λ o. let z : g ≡ i = omega arith in rw (z, new, new-first) (omega (arith, q)));
-    rows = λ g m. by-order g i (old-rows g) (λ o. let z : g ≡ i = omega arith in rw z new-rows);
+    occurrences = λ g m. by-order g i (old-rows g) (λ o. let z : g ≡ i = omega arith in rw z new-rows);
   }
 
 module _ {es : List Entry} {b : Bytes} {places : List ℕ} {before : Bool} {i p : ℕ} (c : Checking es b places before i p) where
-  -- Behind entry i, or at something that is not its part.
+  -- After entry i, or at something that is not its part.
   module _ (less : i < length es) (d : Entry) {inside : Bool} (q : inside ≡ is-inside before (getD es i d))
       {s : Reach} (w : Walked b (behind inside (getD es i d) (drop (suc i) es) (drop p b)) s) where
     pub passed : {next : ℕ} → s ≡ At next → (after : List ℕ) → getD after i 0 ≡ p → ((j : ℕ) → j < i → getD after j 0 ≡ getD places j 0) → Checking es b after inside (i + 1) next
@@ -100,11 +100,11 @@ module _ {es : List Entry} {b : Bytes} {places : List ℕ} {before : Bool} {i p 
     unfolding parts
     no-part after ok e h k = refuses es b after ok (stored-bad (parts es) b h (bad c less d (rw q at (walked-bad w e)))) k
 
-  -- Behind the last entry.
+  -- After the last entry.
   pub at-the-end : {kept : ℕ} → Rowing es b places i kept → (ok : Bool) → length es ≤ i → is-headed b ≡ true → ok ≡ eqb p (length b) → Checked es b places ok
   unfolding parts
   at-the-end l ok h t k = record {
     answer = k ∙ sym (stored-over (parts es) b t p (c .inside) (over c h));
     starts = λ e j m. c .kept j (omega arith);
-    rows = λ e j m. l .rows j (omega arith);
+    occurrences = λ e j m. l .occurrences j (omega arith);
   }

@@ -1,4 +1,4 @@
--- The body of the empty record is what its entries add to it, one behind the other: each entry is a part of its own or adds nothing.
+-- The body of the empty record is what its entries add to it, one after the other: each entry is a part of its own or adds nothing.
 use mathlib.Core.Path.{_≡_, refl, sym, _∙_, ap}
 use mathlib.Core.Bool.{Bool, true, false}
 use mathlib.Core.List.{List, [], _∷_, _++_, map, append-nil}
@@ -13,7 +13,7 @@ use Rattle.records.specs.Empty.{empty-entry, empty-from}
 abbrev pub empty-body : List Part → Bytes
 empty-body ps = body-bytes ps (empty-record ps)
 
--- One entry before the parts behind it.
+-- One entry before the parts after it.
 step : (inside : Bool) (name : ℕ) (w : What) (es : List Entry) (ps : List Part)
     → empty-body (part-of inside name w es ps) ≡ empty-entry inside w ++ empty-body ps
 unfolding body-bytes part-bytes cell-bytes each-bytes count-bytes counted-bytes empty-record laid-out laid-part laid-cell count-or-one part-of alone empty-entry join run

@@ -21,14 +21,14 @@ use Rattle.tables.specs.Entries.{blank, format-at, format-number, size-of, is-m
 use Rattle.tables.specs.Groups.{run-below, group-end}
 use Rattle.tables.proofs.Nesting.{run-short}
 use Rattle.records.specs.Counts.{has-count}
-use Rattle.records.specs.Walk.{rest-of, behind, occurrence, rows-of, Kept}
+use Rattle.records.specs.Walk.{rest-of, behind, occurrence, occurrences-counted, Kept}
 use Rattle.records.specs.Where.{field-of, fields-of}
 use Rattle.records.proofs.Walks.{each-turn, each-stop, count-missing, count-over, count-good, not-counted}
 use Rattle.records.proofs.Entries.{never}
 use Rattle.records.proofs.Passing.{below-on, below-end}
-use Rattle.records.proofs.EmptyRows.{row-field, row-group}
+use Rattle.records.proofs.EmptyEntries.{entry-field, entry-group}
 
--- A count that stands there and is not over its limit: so many follow; else nothing is read.
+-- A count that stands there and is not over its limit: that many follow; else nothing is read.
 has-count-is : (b : Bytes) (at : ℕ) → at < length b → getD b at 0 ≤ greatest-count → has-count b at ≡ true
 unfolding has-count
 has-count-is b at h k = rw (lt-ltb at (length b) h, le-leb (getD b at 0) greatest-count k) refl
@@ -61,14 +61,14 @@ module _ (n : ℕ) (w : What) (bs : Bytes) where
       → rest-of (each stored-cell (field-of n w) bs) ≡ rest-of (counted (is-multiple w) (stored-value (format-at (format-number w)) (size-of w)) bs)
   unfolding field-of stored-cell
   cell-of-field h =
-      ap (λ (v : What). rest-of (each stored-cell (field-of n v) bs)) (row-field w h)
+      ap (λ (v : What). rest-of (each stored-cell (field-of n v) bs)) (entry-field w h)
       ∙ each-single stored-cell (record { name = n; format = format-at (format-number w); size = size-of w; multiple = is-multiple w }) bs
 
   pub cell-of-group : format-number w ≡ 5 → rest-of (each stored-cell (field-of n w) bs) ≡ done bs
   unfolding field-of each
-  cell-of-group h = ap (λ (v : What). rest-of (each stored-cell (field-of n v) bs)) (row-group w h)
+  cell-of-group h = ap (λ (v : What). rest-of (each stored-cell (field-of n v) bs)) (entry-group w h)
 
--- What stands behind an entry's part: a periodic group's occurrences, nothing of another entry inside one, and a field's cell.
+-- What stands after an entry's part: a periodic group's occurrences, nothing of another entry inside one, and a field's cell.
 module _ (inside : Bool) (n : ℕ) (es : List Entry) (bs : Bytes) where
   periodic-part : (w : What) → is-periodic w ≡ true
       → rest-of (each stored-part (part-of inside n w es []) bs) ≡ rest-of (counted true (each stored-cell (fields-below 1 es)) bs)
@@ -102,7 +102,7 @@ module _ (inside : Bool) (e : Entry) (es : List Entry) (bs : Bytes) where
   unfolding behind
   behind-outside h i = outside-part inside (e .name) es bs (e .what) h i
 
--- The fields of a group of level 1 are those among the entries from behind it to its end.
+-- The fields of a group of level 1 are those among the entries from after it to its end.
 below-run : (es : List Entry) → fields-below 1 es ≡ fields-of (take (run-below 1 es) es)
 unfolding fields-below fields-of run-below
 below-run [] = refl
@@ -126,19 +126,19 @@ module _ (es : List Entry) (g : ℕ) where
 
 -- How many occurrences an entry has.
 module _ (w : What) where
-  pub rows-some : (n : ℕ) → is-periodic w ≡ true → rows-of w n ≡ n
-  unfolding rows-of
+  pub rows-some : (n : ℕ) → is-periodic w ≡ true → occurrences-counted w n ≡ n
+  unfolding occurrences-counted
   rows-some n h = rw h refl
 
-  pub rows-none : (n : ℕ) → is-periodic w ≡ false → rows-of w n ≡ 0
-  unfolding rows-of
+  pub rows-none : (n : ℕ) → is-periodic w ≡ false → occurrences-counted w n ≡ 0
+  unfolding occurrences-counted
   rows-none n h = rw h refl
 
-  pub rows-zero : rows-of w 0 ≡ 0
-  unfolding rows-of
+  pub rows-zero : occurrences-counted w 0 ≡ 0
+  unfolding occurrences-counted
   rows-zero = by-test (is-periodic w) (λ t. rw t refl) (λ t. rw t refl)
 
--- What stands behind a periodic group, by its count and its end.
+-- What stands after a periodic group, by its count and its end.
 module _ (inside : Bool) (es : List Entry) (g : ℕ) (b : Bytes) (at : ℕ) (p : is-periodic (getD es g blank .what) ≡ true) where
   pub behind-countless : has-count b at ≡ false → behind inside (getD es g blank) (drop (suc g) es) (drop at b) ≡ refused 2
   behind-countless h = behind-periodic inside (getD es g blank) (drop (suc g) es) (drop at b) p ∙ count-none (each stored-cell (fields-below 1 (drop (suc g) es))) b at h
@@ -153,9 +153,9 @@ module _ (inside : Bool) (es : List Entry) (g : ℕ) (b : Bytes) (at : ℕ) (p :
 -- What entry i keeps: a periodic group the beginnings of its occurrences, another entry nothing.
 module _ (es : List Entry) (i : ℕ) where
   pub kept-rows : is-periodic (getD es i blank .what) ≡ true → {end : ℕ} → end ≡ group-end es i → {b : Bytes} {at n kept : ℕ} {before after : List ℕ}
-      → Kept (each stored-cell (fields-of (slice (i + 1) end es))) b at n kept before after → Kept (occurrence es i) b at (rows-of (getD es i blank .what) n) kept before after
+      → Kept (each stored-cell (fields-of (slice (i + 1) end es))) b at n kept before after → Kept (occurrence es i) b at (occurrences-counted (getD es i blank .what) n) kept before after
   unfolding occurrence
   kept-rows p {end} q {b} {at} {n} k = rw (rows-some (getD es i blank .what) n p, ← q) k
 
-  pub kept-none : is-periodic (getD es i blank .what) ≡ false → (n : ℕ) {b : Bytes} {at : ℕ} (kept : ℕ) (places : List ℕ) → Kept (occurrence es i) b at (rows-of (getD es i blank .what) n) kept places places
-  kept-none p n {b} {at} kept places = rw (rows-none (getD es i blank .what) n p) (record { long = refl; others = λ j l. refl; rows = λ k l. absurd (not-suc-le-zero l) })
+  pub kept-none : is-periodic (getD es i blank .what) ≡ false → (n : ℕ) {b : Bytes} {at : ℕ} (kept : ℕ) (places : List ℕ) → Kept (occurrence es i) b at (occurrences-counted (getD es i blank .what) n) kept places places
+  kept-none p n {b} {at} kept places = rw (rows-none (getD es i blank .what) n p) (record { long = refl; others = λ j l. refl; occurrences = λ k l. absurd (not-suc-le-zero l) })

@@ -73,7 +73,7 @@ module _ (es : List Entry) (d : Entry) (g j n : ℕ) (behind : g < j) (deep : De
   pub member-below : member n (fields-below 1 (drop (suc g) es)) ≡ some own
   member-below = rw split-own (some-there n (fields-of (slice (suc g) j es)) own (fields-below 1 (drop (suc j) es)) (none-between n es (suc g) j first) (first-name n es d j first))
 
-  -- In an occurrence of the group, the cell of n stands behind those of the fields between.
+  -- In an occurrence of the group, the cell of n stands after those of the fields between.
   pub cell-below : {C : Type 0} (bs : Bytes) {rest : Bytes} {cs : Occurrence} → each stored-cell (fields-below 1 (drop (suc g) es)) bs ≡ done (cs, rest)
       → ((cs₁ : Occurrence) (mid next : Bytes) → each stored-cell (fields-of (slice (suc g) j es)) bs ≡ done (cs₁, mid)
       → stored-cell (record { name = n; format = f; size = s; multiple = mu }) mid ≡ done (cell-of n (fields-below 1 (drop (suc g) es)) cs, next) → C) → C

@@ -8,7 +8,7 @@ pub mod Groups
 pub mod Lookups
 pub mod Occurrences
 pub mod Homes
-pub mod EmptyRows
+pub mod EmptyEntries
 pub mod Turns
 pub mod Ends
 pub mod HeadLaws
@@ -20,4 +20,4 @@ pub mod Skips
 pub mod Widths
 pub mod Pieces
 pub mod Strips
-pub mod Rows
+pub mod Adjacent

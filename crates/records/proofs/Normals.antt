@@ -22,18 +22,18 @@ use Rattle.rules.proofs.Readers.{cut-sound}
 use Rattle.buffer.proofs.Cases.{by-order}
 use Rattle.values.specs.Normals.{Any-normal}
 use Rattle.values.specs.Places.{found, Located}
-use Rattle.values.specs.declared.First.{First}
-use Rattle.values.specs.declared.First.the-variants.{Value, Refused}
+use Rattle.values.specs.declared.FirstValue.{FirstValue}
+use Rattle.values.specs.declared.FirstValue.the-variants.{Value, Refused}
 use Rattle.values.proofs.Cuts.{cut-enough, cut-short, first-own}
 use Rattle.records.specs.Walk.{rest-of}
 use Rattle.records.proofs.Walks.{times-turn, times-stop}
 
 -- Where a first value was found, or that it was refused.
-pub first-at : {s : Bytes} {at : ℕ} {o : Outcome (Bytes × Bytes)} {r : First} {from next : ℕ} → Located s at o r → r ≡ Value from next
+pub first-at : {s : Bytes} {at : ℕ} {o : Outcome (Bytes × Bytes)} {r : FirstValue} {from next : ℕ} → Located s at o r → r ≡ Value from next
     → (o ≡ done (take (next - from) (drop from s), drop next s)) × (from ≤ next) × (next ≤ length s)
 first-at {s} {at} {o} {r} {from} {next} w q = (sym (w .answer) ∙ ap (found s) q, (rw q at (w .place)) .1, (rw q at (w .place)) .2)
 
-pub first-none : {s : Bytes} {at : ℕ} {o : Outcome (Bytes × Bytes)} {r : First} {x : Refusal} → Located s at o r → r ≡ Refused x → o ≡ refused (refusal-number x)
+pub first-none : {s : Bytes} {at : ℕ} {o : Outcome (Bytes × Bytes)} {r : FirstValue} {x : Refusal} → Located s at o r → r ≡ Refused x → o ≡ refused (refusal-number x)
 first-none {s} {at} {o} {r} {x} w q = sym (w .answer) ∙ ap (found s) q
 
 module _ (f : Format) (n : ℕ) (bs : Bytes) where
@@ -64,7 +64,7 @@ below-take (suc n) [] b i = omega arith
 below-take (suc n) (x ∷ bs) b zero = b 0
 below-take (suc n) (x ∷ bs) b (suc i) = below-take n bs (λ j. b (suc j)) i
 
--- Values of a length at which all bytes are in normal form: n of them are so many bytes.
+-- Values of a length at which all bytes are in normal form: they are n times the length in bytes.
 module _ (f : Format) (size : ℕ) (any : Any-normal f size) where
   any-value : (bs : Bytes) → ((i : ℕ) → getD bs i 0 < 256) → size ≤ length bs → rest-of (stored-value f size bs) ≡ done (drop size bs)
   any-value bs b l = value-normal f size bs (first-own size bs (λ z. omega (arith, any .0)) ∙ cut-enough 7 size bs l) (any .1 (take size bs) (below-take size bs b) (length-take-le size bs l))

@@ -1,4 +1,4 @@
--- Where the values of a field in a periodic group lie: behind the group's count, the occurrences before, and the fields before it in its own.
+-- Where the values of a field in a periodic group lie: after the group's count, the occurrences before, and the fields before it in its own.
 use mathlib.Core.Path.{_≡_, refl, _∙_, ap}
 use mathlib.Core.Bool.{Bool}
 use mathlib.Core.List.{List, [], _∷_}
@@ -45,7 +45,7 @@ module _ {before : Bool} {es : List Entry} {bs : Bytes} {r : Record} {d : Entry}
         cell-below es d g j n behind deep first f s mu what one h₂ λ cs cell next h₃ h₄.
         k one cell next (ap rest-of h₁) (ap rest-of h₃) (h₄ ∙ rw (q .values level n j behind deep first f s mu what (suc i)) refl)
 
--- A walk over the fields between two entries: on behind a field's cell, past a group, and over.
+-- A walk over the fields between two entries: on after a field's cell, past a group, and over.
 module _ (es : List Entry) (d : Entry) (k j : ℕ) (less : k < j) (most : j ≤ length es) (bs : Bytes) where
   pub between-field : (f : Format) (s : ℕ) (mu : Bool) {cs : Bytes} → getD es k d .what ≡ field f s mu
       → rest-of (stored-cell (record { name = getD es k d .name; format = f; size = s; multiple = mu }) bs) ≡ done cs

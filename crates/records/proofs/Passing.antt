@@ -39,7 +39,7 @@ stays level (field f s mu) t = t
 stays level (group true) t = refl
 stays level (group false) t = t
 
--- An entry of a level above 1 adds its field, if it is one, to those behind it; an entry of level 1 ends them.
+-- An entry of a level above 1 adds its field, if it is one, to those after it; an entry of level 1 ends them.
 module _ (e : Entry) (es : List Entry) where
   pub below-on : ltb 1 (e .level) ≡ true → fields-below 1 (e ∷ es) ≡ field-of (e .name) (e .what) ++ fields-below 1 es
   unfolding fields-below field-of
@@ -69,7 +69,7 @@ none-below n (e ∷ es) d (suc j) l u c = by-test (ltb 1 (e .level))
     (none-below n es d j (le-of-suc-le-suc l) (u .1) (λ s i. c s (rw (stays (e .level) (e .what) t) i))))
     (λ t. rw (below-end e es t) refl)
 
--- An entry that is passed: what stands behind its part, if it begins one, is the record of the parts behind it, and they have what the whole
+-- An entry that is passed: what stands after its part, if it begins one, is the record of the parts after it, and they have what the whole
 -- has of a name that is not the entry's, nor in the periodic group that the entry is.
 record Passed (inside : Bool) (m : ℕ) (w : What) (es : List Entry) (ps : List Part) (bs : Bytes) (r : Record) (rest cs : Bytes) (r′ : Record) : Type 0 where
   left : rest-of (each stored-part (part-of inside m w es []) bs) ≡ done cs
@@ -103,7 +103,7 @@ pass false m (field f s mu) es ps bs r rest p k =
 abbrev pub parts-at : Bool → List Entry → Entry → ℕ → List Part
 parts-at before es d j = part-of (inside-from before es j) (getD es j d .name) (getD es j d .what) (drop (suc j) es) (parts-from (inside-from before es j) (drop (suc j) es))
 
--- Entry j is reached: what stands from it on is the record of its part and those behind it.
+-- Entry j is reached: what stands from it on is the record of its part and those after it.
 pub record Reached (before : Bool) (es : List Entry) (bs : Bytes) (r : Record) (rest : Bytes) (d : Entry) (j : ℕ) (r′ : Record) : Type 0 where
   pub stands : each stored-part (parts-at before es d j) (start-of before es bs j) ≡ done (r′, rest)
   pub counts : (n : ℕ) → Unnamed n es j → group-count-at (parts-from before es) r n ≡ group-count-at (parts-at before es d j) r′ n

@@ -1,4 +1,4 @@
--- Entries outside periodic groups stand one behind the other: what stands from one on is its field's bytes, and then what stands from the next on.
+-- Entries outside periodic groups stand one after the other: what stands from one on is its field's bytes, and then what stands from the next on.
 use mathlib.Core.Path.{_≡_, refl, sym, _∙_, ap}
 use mathlib.Core.Bool.{Bool, true, false}
 use mathlib.Core.List.{List, [], _∷_, _++_, append-assoc, append-nil}
@@ -21,15 +21,15 @@ use Rattle.tables.specs.Groups.{field-at}
 use Rattle.tables.specs.Places.{inside-at, inside-before}
 use Rattle.records.specs.Walk.{rest-of, bytes-left, behind, start-of}
 use Rattle.records.specs.Where.{inside-from, field-of, fields-of}
-use Rattle.records.specs.Places.{Held, values-of, Outside, Celled, Piece-of}
-use Rattle.records.specs.declared.places.Content.the-variants.{At}
+use Rattle.records.specs.Places.{Is-record, values-of, Outside, Celled, Piece-of}
+use Rattle.records.specs.declared.places.Extent.the-variants.{At}
 use Rattle.records.proofs.Entries.{never}
 use Rattle.records.proofs.Cells.{counted-once}
 use Rattle.records.proofs.Ends.{each-single, behind-outside}
 use Rattle.records.proofs.Passing.{reach}
 use Rattle.records.proofs.Placed.{whole-body, field-is, inside-same, cell-outside}
 
--- What stands from the next entry on, and behind the last.
+-- What stands from the next entry on, and after the last.
 start-next : (before : Bool) (es : List Entry) (d : Entry) (bs : Bytes) (j : ℕ) → suc j < length es
     → start-of before es bs (suc j) ≡ bytes-left (behind (inside-from before es j) (getD es j d) (drop (suc j) es) (start-of before es bs j))
 unfolding start-of inside-from
@@ -60,7 +60,7 @@ pub inside-group : (es : List Entry) (j : ℕ) → getD es j blank .what ≡ gro
 unfolding inside-at inside-before inside-of
 inside-group es j q = ap (inside-of (inside-before es j) (getD es j blank .level)) q
 
-module _ {es : List Entry} {b : Bytes} {places : List ℕ} {r : Record} (held : Held es b places r) (named : differ (names es) ≡ true) where
+module _ {es : List Entry} {b : Bytes} {places : List ℕ} {r : Record} (held : Is-record es b places r) (named : differ (names es) ≡ true) where
   abbrev from : ℕ → Bytes
   from j = start-of false es (drop record-head-size b) j
 

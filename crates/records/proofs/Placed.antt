@@ -19,11 +19,11 @@ use Rattle.buffer.proofs.Cases.{by-order}
 use Rattle.tables.specs.Entries.{blank, is-group, is-multiple, is-periodic, size-of, format-at, format-number}
 use Rattle.tables.specs.Places.{inside-at, inside-before, Home}
 use Rattle.tables.specs.Groups.{group-end, field-by, field-at}
-use Rattle.kinds.proofs.Letters.{number-back}
+use Rattle.value_formats.proofs.Letters.{number-back}
 use Rattle.tables.proofs.Nesting.{run-levels}
 use Rattle.records.specs.Walk.{rest-of, Walked, Ends, firsts, directory, occurrence, Checked}
 use Rattle.records.specs.Where.{inside-from, First, Deeper, fields-of}
-use Rattle.records.specs.Places.{Held, Holds, Entered, Cell-of}
+use Rattle.records.specs.Places.{Is-record, Has-record, Entered, Cell-of}
 use Rattle.records.specs.declared.Reach.the-variants as S
 use Rattle.records.specs.declared.places.Cell.{Cell}
 use Rattle.records.specs.declared.places.Cell.the-variants.{At, Nothing}
@@ -36,9 +36,9 @@ use Rattle.records.proofs.Lookups.{Grouped, outside, grouped}
 use Rattle.records.proofs.Occurrences.{occurrences, values-missing, values-there}
 
 -- A check that finds a record finds its places.
-pub holds : (es : List Entry) (b : Bytes) (places : List ℕ) (ok : Bool) → Checked es b places ok → ok ≡ true → Holds es b places
+pub holds : (es : List Entry) (b : Bytes) (places : List ℕ) (ok : Bool) → Checked es b places ok → ok ≡ true → Has-record es b places
 holds es b places ok c t = by-outcome (stored (parts es) b)
-    (λ r h. (r, record { stands = h; starts = c .starts t; rows = c .rows t }))
+    (λ r h. (r, record { stands = h; starts = c .starts t; occurrences = c .occurrences t }))
     (λ n h. absurd (never (c .answer ∙ ap is-done h) t))
 
 -- The body of a record is what its parts read.
@@ -83,7 +83,7 @@ home-deeper es i g home k p q =
     let l = run-levels 1 (drop (suc g) es) (k - suc g) (omega (arith, home .within)) in
     rw (getD-drop (suc g) es (k - suc g) blank, z) at l
 
--- What lies in a periodic group stands behind it.
+-- What lies in a periodic group stands after it.
 pub home-before : (es : List Entry) (i g : ℕ) → is-periodic (getD es i blank .what) ≡ false → Home es i g → g < i
 home-before es i g what home = by-order g i (λ l. l) (λ l. let z : g ≡ i = omega (arith, home .upto) in absurd (never (rw (← z) at what) (ap is-periodic (home .periodic))))
 
@@ -96,7 +96,7 @@ unfolding group-end
 home-end es i g home = rw (home .level) (omega (arith, home .within))
 
 -- Bytes that hold a record by a table's entries, of which each is the first with its name.
-module _ {es : List Entry} {b : Bytes} {places : List ℕ} {r : Record} (held : Held es b places r) (named : differ (names es) ≡ true) where
+module _ {es : List Entry} {b : Bytes} {places : List ℕ} {r : Record} (held : Is-record es b places r) (named : differ (names es) ≡ true) where
   own-name : (i : ℕ) → i < length es → First (getD es i blank .name) es i
   own-name i h = differ-first es blank i h (true-T named)
 
@@ -123,7 +123,7 @@ module _ {es : List Entry} {b : Bytes} {places : List ℕ} {r : Record} (held : 
         let c = byte-there b (getD places g 0) (held .starts g less .1 ∙ h) in
         (c .0, c .1 ∙ sym (q .count (getD es g blank .name) (own-name g less)))
 
-    -- Its occurrences stand behind that, and those that are kept stand where they are kept.
+    -- Its occurrences stand after that, and those that are kept stand where they are kept.
     pub row-ends : getD es g blank .level ≡ 1 → (k : ℕ) → k < getD b (getD places g 0) 0 → Ends (rest-of (times k (occurrence es g) (drop (getD places g 0 + 1) b)))
     unfolding occurrence
     row-ends level k some = group-there λ os mid q.
@@ -152,7 +152,7 @@ module _ {es : List Entry} {b : Bytes} {places : List ℕ} {r : Record} (held : 
 
     pub row-kept : (k : ℕ) → k < getD b (getD places g 0) 0 → getD places (firsts + g) 0 + k < directory
         → Walked b (rest-of (times k (occurrence es g) (drop (getD places g 0 + 1) b))) (S.At (getD places (getD places (firsts + g) 0 + k) 0))
-    row-kept k some room = held .rows g less k (rw (rows-some (getD es g blank .what) (getD b (getD places g 0) 0) (ap is-periodic what)) some) room
+    row-kept k some room = held .occurrences g less k (rw (rows-some (getD es g blank .what) (getD b (getD places g 0) 0) (ap is-periodic what)) some) room
 
   -- Entry i, a field in the periodic group that entry g is, in occurrence o.
   module _ (i g o : ℕ) (less : i < length es) (what : is-group (getD es i blank .what) ≡ false) (some : 1 ≤ o) (home : Home es i g) where

@@ -36,7 +36,7 @@ times-ends one n bs e = by-outcome (rest-of (one bs)) (λ cs h. (cs, h)) (λ k h
 each-ends : {X Y : Type 0} (one : Y → Reader X) (y : Y) (ys : List Y) (bs : Bytes) → Ends (rest-of (each one (y ∷ ys) bs)) → Ends (rest-of (one y bs))
 each-ends one y ys bs e = by-outcome (rest-of (one y bs)) (λ cs h. (cs, h)) (λ k h. absurd (not-done (sym (each-stop one y ys bs h) ∙ e .1)))
 
--- What is counted stands behind its count; what is not counted stands there once.
+-- What is counted stands after its count; what is not counted stands there once.
 module _ {X : Type 0} (one : Reader X) where
   pub counted-ends : (b : Bytes) (at : ℕ) → Ends (rest-of (counted true one (drop at b)))
       → (at < length b) × (rest-of (counted true one (drop at b)) ≡ rest-of (times (getD b at 0) one (drop (at + 1) b)))
@@ -48,7 +48,7 @@ module _ {X : Type 0} (one : Reader X) where
   unfolding counted
   counted-one bs = refl
 
--- A value of so many bytes.
+-- A value of w bytes.
 value-walked : (f : Format) (size : ℕ) (b : Bytes) (p w : ℕ) → p ≤ length b → Ends (rest-of (stored-value f size (drop p b)))
     → ((v rest : Bytes) → stored-value f size (drop p b) ≡ done (v, rest) → length v ≡ w) → Walked b (rest-of (stored-value f size (drop p b))) (At (p + w))
 value-walked f size b p w h e long = from-rest (stored-value f size (drop p b)) (e .1) λ v q.

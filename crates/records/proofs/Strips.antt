@@ -1,4 +1,4 @@
--- Plain fields in an occurrence of a periodic group stand one behind the other: from each on stand its bytes, and then, its length further, the next.
+-- Plain fields in an occurrence of a periodic group stand one after the other: from each on stand its bytes, and then, its length further, the next.
 use mathlib.Core.Path.{_≡_, refl, sym, _∙_, ap}
 use mathlib.Core.Bool.{Bool, true, false, _&&_}
 use mathlib.Core.List.{List, [], _∷_, _++_, append-assoc, append-nil}
@@ -21,9 +21,9 @@ use Rattle.tables.proofs.Nesting.{members-inside}
 use Rattle.records.specs.Walk.{rest-of, Walked, occurrence}
 use Rattle.records.specs.Where.{field-of, fields-of}
 use Rattle.records.specs.Paths.{lengths}
-use Rattle.records.specs.Places.{Held, values-of, Celled, Valueless, Piece-of}
+use Rattle.records.specs.Places.{Is-record, values-of, Celled, Valueless, Piece-of}
 use Rattle.records.specs.declared.Reach.the-variants as S
-use Rattle.records.specs.declared.places.Content.the-variants.{At}
+use Rattle.records.specs.declared.places.Extent.the-variants.{At}
 use Rattle.records.proofs.Entries.{never}
 use Rattle.records.proofs.Walks.{walked-as}
 use Rattle.records.proofs.Checking.{each-on}
@@ -46,7 +46,7 @@ pub first-own : (es : List Entry) (i j : ℕ) → i < j → j ≤ length es → 
 unfolding fields-of
 first-own es i j less most = rw (slice-cons i j es blank less most) refl
 
--- A walk that stands behind the fields before an entry stands next behind its own.
+-- A walk that stands after the fields before an entry stands next after its own.
 walked-next : (es : List Entry) (i g : ℕ) (b bs : Bytes) (q w : ℕ) → g < i → i < length es → Walked b (rest-of (each stored-cell (fields-of (slice (g + 1) i es)) bs)) (S.At q)
     → Walked b (rest-of (each stored-cell (own es i) (drop q b))) (S.At w) → Walked b (rest-of (each stored-cell (fields-of (slice (g + 1) (suc i) es)) bs)) (S.At w)
 unfolding fields-of
@@ -55,7 +55,7 @@ walked-next es i g b bs q w k less p n =
     let e = fields-split es blank (i - (g + 1)) (g + 1) i (suc i) (omega arith) (omega arith) less ∙ ap (λ (fs : List Field). fields-of (slice (g + 1) i es) ++ fs) single in
     walked-as (rw e (each-on stored-cell (own es i) (fields-of (slice (g + 1) i es)) bs (drop q b) (sym (p .answer)))) n
 
-module _ (t : Bytes) (valid : Valid t) {b : Bytes} {places : List ℕ} {r : Record} (held : Held (entries-of t) b places r) (g o : ℕ) (some : 1 ≤ o)
+module _ (t : Bytes) (valid : Valid t) {b : Bytes} {places : List ℕ} {r : Record} (held : Is-record (entries-of t) b places r) (g o : ℕ) (some : 1 ≤ o)
     (level : getD (entries-of t) g blank .level ≡ 1) (periodic : getD (entries-of t) g blank .what ≡ group true) (there : g < length (entries-of t)) where
   abbrev es : List Entry
   es = entries-of t
@@ -77,7 +77,7 @@ module _ (t : Bytes) (valid : Valid t) {b : Bytes} {places : List ℕ} {r : Reco
 
   module _ (many : o ≤ group-count-at (parts es) r (getD es g blank .name)) (p : ℕ)
       (row : Walked b (rest-of (times (o - 1) (occurrence es g) (drop (getD places g 0 + 1) b))) (S.At p)) where
-    -- An entry's own bytes, and what stands behind them.
+    -- An entry's own bytes, and what stands after them.
     record Next (q : ℕ) (fs : List Field) : Type 0 where
       place : Walked b (rest-of (each stored-cell fs (drop q b))) (S.At (q + lengths fs))
       bytes : drop q b ≡ values-of es r o fs ++ drop (q + lengths fs) b

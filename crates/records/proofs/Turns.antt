@@ -21,7 +21,7 @@ use Rattle.records.proofs.Walks.{walked-at, walked-bad, times-stop, tim
 use Rattle.records.proofs.Checking.{each-on, each-off}
 use Rattle.records.proofs.Occurrences.{between-over}
 
--- A reader n times, of which i are behind, at the place p.
+-- A reader n times, of which i are done, at the place p.
 pub record Repeating {X : Type 0} (one : Reader X) (b : Bytes) (whole : Outcome Bytes) (n i p : ℕ) : Type 0 where
   pub upto : i ≤ n
   pub place : p ≤ length b
@@ -47,14 +47,14 @@ module _ {X : Type 0} {one : Reader X} {b : Bytes} {whole : Outcome Bytes} {n i 
       (λ cs h. (cs, h))
       (λ k h. let q : n - i ≡ suc (n - (i + 1)) = omega arith in absurd (not-done (sym (times-stop one (n - (i + 1)) (drop p b) h) ∙ rw q at (l .rest) ∙ e .1)))
 
--- Beginnings that are kept on the way: i of n times are behind, at the place p.
+-- Beginnings that are kept on the way: i of n times are done, at the place p.
 pub record Keeping {X : Type 0} (one : Reader X) (b : Bytes) (at kept : ℕ) (before after : List ℕ) (i p : ℕ) : Type 0 where
   pub here : rest-of (times i one (drop at b)) ≡ done (drop p b)
   pub far : Kept one b at i kept before after
 
 pub keeping : {X : Type 0} (one : Reader X) (b : Bytes) (at kept : ℕ) (places : List ℕ) → Keeping one b at kept places places 0 at
 unfolding times
-keeping one b at kept places = record { here = refl; far = record { long = refl; others = λ j l. refl; rows = λ k l. absurd (not-suc-le-zero l) } }
+keeping one b at kept places = record { here = refl; far = record { long = refl; others = λ j l. refl; occurrences = λ k l. absurd (not-suc-le-zero l) } }
 
 pub keep-on : {X : Type 0} {one : Reader X} {b : Bytes} {at kept : ℕ} {before after : List ℕ} {i p : ℕ} → Keeping one b at kept before after i p → length before ≡ directory → p ≤ length b
     → {r : Reach} → Walked b (rest-of (one (drop p b))) r → {e : ℕ} → r ≡ At e → Keeping one b at kept before (set after (kept + i) p) (i + 1) e
@@ -63,8 +63,8 @@ keep-on {X} {one} {b} {at} {kept} {before} {after} {i} {p} l room h w {e} q = re
   far = record {
     long = length-set after (kept + i) p ∙ l .far .long;
     others = λ j k. getD-set-other after (kept + i) j p 0 (λ z. omega arith) ∙ l .far .others j k;
-    rows = λ k m s. by-order k i
-        (λ o. rw (getD-set-other after (kept + i) (kept + k) p 0 (λ z. omega arith)) (l .far .rows k o s))
+    occurrences = λ k m s. by-order k i
+        (λ o. rw (getD-set-other after (kept + i) (kept + k) p 0 (λ z. omega arith)) (l .far .occurrences k o s))
         (λ o. let z : k ≡ i = omega arith in rw (z, getD-set-same after (kept + i) p 0 (omega (arith, l .far .long))) (record { answer = sym (l .here); place = h }));
   };
 }

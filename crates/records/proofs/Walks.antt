@@ -60,7 +60,7 @@ module _ {X : Type 0} (one : Reader X) (n : ℕ) (bs : Bytes) where
   unfolding times
   times-stop q = then-stop (λ x xs. x ∷ xs) (one bs) (times n one) q
 
--- One more behind n of them.
+-- One more after n of them.
 pub times-more : {X : Type 0} (one : Reader X) (n : ℕ) (bs : Bytes) {cs : Bytes} {o : Outcome Bytes} → rest-of (times n one bs) ≡ done cs → rest-of (one cs) ≡ o
     → rest-of (times (suc n) one bs) ≡ o
 unfolding times
@@ -80,7 +80,7 @@ module _ {X Y : Type 0} (one : Y → Reader X) (y : Y) (ys : List Y) (bs : Bytes
   unfolding each
   each-stop q = then-stop (λ x xs. x ∷ xs) (one y bs) (each one ys) q
 
--- A loop over `times` in code: i of n are behind, and it stands at p.
+-- A loop over `times` in code: i of n are done, and it stands at p.
 module _ {X : Type 0} (one : Reader X) (b : Bytes) (n i p : ℕ) (less : i < n) {o : Outcome Bytes} (inv : rest-of (times (n - i) one (drop p b)) ≡ o) where
   pub turn-at : (e : ℕ) → rest-of (one (drop p b)) ≡ done (drop e b) → rest-of (times (n - (i + 1)) one (drop e b)) ≡ o
   turn-at e h = let q : n - i ≡ suc (n - (i + 1)) = omega arith in sym (times-turn one (n - (i + 1)) (drop p b) h) ∙ rw q at inv
@@ -92,7 +92,7 @@ pub turns-over : {X : Type 0} (one : Reader X) (b : Bytes) (n i p : ℕ) {o : Ou
 unfolding times
 turns-over one b n i p h inv = let q : n - i ≡ 0 = omega arith in rw q at inv
 
--- What is counted: no byte, a count over its limit, a count and so many; and what is not counted.
+-- What is counted: no byte, a count over its limit, a count and that many; and what is not counted.
 module _ {X : Type 0} (one : Reader X) (b : Bytes) (at : ℕ) where
   pub count-missing : length b ≤ at → rest-of (counted true one (drop at b)) ≡ refused 2
   unfolding counted stored-count

@@ -1,4 +1,4 @@
--- The width of fields one behind the other: plain fields are as long as their standard lengths together.
+-- The width of fields one after the other: plain fields are as long as their standard lengths together.
 use mathlib.Core.Path.{_≡_, refl, sym, _∙_, ap}
 use mathlib.Core.Bool.{Bool, true, false, _&&_}
 use mathlib.Core.List.{List, [], _∷_, _++_}
@@ -20,12 +20,12 @@ use Rattle.records.specs.Paths.{lengths, Width}
 use Rattle.records.proofs.Entries.{never}
 use Rattle.rules.specs.Limits.{most-entries}
 use Rattle.records.specs.Counts.{greatest-byte}
-use Rattle.records.proofs.EmptyRows.{row-group}
+use Rattle.records.proofs.EmptyEntries.{entry-group}
 
 -- One entry, by the numbers that the code has of it.
 pub width-group : (n : ℕ) (w : What) → format-number w ≡ 5 → Width (field-of n w) greatest-byte (At 0)
 unfolding field-of all lengths
-width-group n w h = rw (row-group w h) (record { plains = refl; width = refl }, omega arith)
+width-group n w h = rw (entry-group w h) (record { plains = refl; width = refl }, omega arith)
 
 pub width-multiple : (n : ℕ) (w : What) → is-multiple w ≡ true → all plain (field-of n w) ≡ false
 unfolding field-of all plain
@@ -42,7 +42,7 @@ unfolding field-of all plain lengths
 width-plain n (field f s mu) g h z m = (record { plains = rw (h, le-leb 1 s z) refl; width = omega arith }, m)
 width-plain n (group p) g h z m = absurd (g refl)
 
--- Fields and others behind them.
+-- Fields and others after them.
 and-more : (t x y z : Bool) → x ≡ (y && z) → (t && x) ≡ ((t && y) && z)
 and-more true x y z h = h
 and-more false x y z h = refl

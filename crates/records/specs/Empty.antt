@@ -8,7 +8,7 @@ use Rattle.rules.specs.Values.{null}
 use Rattle.rules.specs.Record.{count-bytes}
 use Rattle.rules.specs.Table.{What, field, group, Entry, is-inside}
 use Rattle.tables.specs.Entries.{group-number}
-use Rattle.tables.specs.declared.Entry.{Entry as Row}
+use Rattle.tables.specs.declared.Entry.{Entry as Decoded}
 
 -- An entry that is or lies in a periodic group, or not: a count 0, null, or nothing.
 unfoldable pub empty-entry : Bool → What → Bytes
@@ -23,5 +23,5 @@ empty-from before [] = []
 empty-from before (e ∷ es) = empty-entry (is-inside before e) (e .what) ++ empty-from (is-inside before e) es
 
 -- Whether an entry adds null, by the numbers that the code has of it: a plain field outside periodic groups.
-unfoldable pub null-row : Bool → Row → Bool
-null-row inside r = not (eqb (r .format) group-number) && not inside && not (r .multiple)
+unfoldable pub null-entry : Bool → Decoded → Bool
+null-entry inside r = not (eqb (r .format) group-number) && not inside && not (r .multiple)

@@ -18,7 +18,7 @@ unfoldable pub lengths : List Field → ℕ
 lengths [] = 0
 lengths (f ∷ fs) = f .size + lengths fs
 
--- Whether fields always have as many bytes, being of fixed length and not MU; and then how many, at most so many.
+-- Whether fields always have as many bytes, being of fixed length and not MU; and then how many, which is `most` at most.
 pub record Wide (fs : List Field) (w : ℕ) : Type 0 where
   pub plains : all plain fs ≡ true
   pub width : w ≡ lengths fs

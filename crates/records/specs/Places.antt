@@ -14,33 +14,33 @@ use Rattle.rules.specs.Record.{Record, times, each, stored-cell, stored, group-
 use Rattle.tables.specs.Entries.{blank, is-group, is-multiple}
 use Rattle.tables.specs.Groups.{group-end, field-at}
 use Rattle.tables.specs.Places.{inside-at}
-use Rattle.records.specs.Walk.{rest-of, Walked, occurrence, Starts, Rows}
+use Rattle.records.specs.Walk.{rest-of, Walked, occurrence, Starts, Occurrences-kept}
 use Rattle.records.specs.Where.{fields-of}
 use Rattle.records.specs.declared.Reach.the-variants as Reach
 use Rattle.records.specs.declared.places.Cell.{Cell}
 use Rattle.records.specs.declared.places.Cell.the-variants.{At, Nothing}
-use Rattle.records.specs.declared.places.Content.{Content}
-use Rattle.records.specs.declared.places.Content.the-variants.{At as Lies, Nothing as Absent}
+use Rattle.records.specs.declared.places.Extent.{Extent}
+use Rattle.records.specs.declared.places.Extent.the-variants.{At as Lies, Nothing as Absent}
 
 -- The bytes hold the record r, and places is their directory.
-pub record Held (es : List Entry) (b : Bytes) (places : List ℕ) (r : Record) : Type 0 where
+pub record Is-record (es : List Entry) (b : Bytes) (places : List ℕ) (r : Record) : Type 0 where
   pub stands : stored (parts es) b ≡ done r
   pub starts : (j : ℕ) → j < length es → Starts es b places j
-  pub rows : (g : ℕ) → g < length es → Rows es b places g
+  pub occurrences : (g : ℕ) → g < length es → Occurrences-kept es b places g
 
 -- They hold some record.
-abbrev pub Holds : List Entry → Bytes → List ℕ → Type 0
-Holds es b places = (r : Record) × Held es b places r
+abbrev pub Has-record : List Entry → Bytes → List ℕ → Type 0
+Has-record es b places = (r : Record) × Is-record es b places r
 
 -- Entry i's place in occurrence o of the periodic group that entry g is: the occurrence stands at p, and there the fields before the entry.
-pub record Stands (es : List Entry) (b : Bytes) (places : List ℕ) (g i o : ℕ) (r : Record) (p q : ℕ) : Type 0 where
+pub record Entry-at (es : List Entry) (b : Bytes) (places : List ℕ) (g i o : ℕ) (r : Record) (p q : ℕ) : Type 0 where
   pub many : o ≤ group-count-at (parts es) r (getD es g blank .name)
   pub row : Walked b (rest-of (times (o - 1) (occurrence es g) (drop (getD places g 0 + count-size) b))) (Reach.At p)
   pub before : Walked b (rest-of (each stored-cell (fields-of (slice (g + 1) i es)) (drop p b))) (Reach.At q)
 
 -- The same of the code's answer: or there is no such occurrence.
 abbrev pub Entered : List Entry → Bytes → List ℕ → ℕ → ℕ → ℕ → Record → Cell → Type 0
-Entered es b places g i o r (At q) = (p : ℕ) × Stands es b places g i o r p q
+Entered es b places g i o r (At q) = (p : ℕ) × Entry-at es b places g i o r p q
 Entered es b places g i o r Nothing = group-count-at (parts es) r (getD es g blank .name) < o
 
 -- The cell of entry i in occurrence o of a record: from a place on, or there is none.
@@ -55,7 +55,7 @@ pub record Content-of (f : Format) (size : ℕ) (b v : Bytes) (from upto : ℕ) 
   pub is : content size v ≡ take (upto - from) (drop from b)
   pub long : allowed f (upto - from) ≡ true
 
--- The values of some fields in occurrence o, one behind the other.
+-- The values of some fields in occurrence o, one after the other.
 unfoldable pub values-of : List Entry → Record → ℕ → List Field → Bytes
 values-of es r o [] = []
 values-of es r o (f ∷ fs) = join (values-at (parts es) r (f .name) o) ++ values-of es r o fs
@@ -74,13 +74,13 @@ abbrev pub Valueless : List Entry → ℕ → ℕ → ℕ → Record → Type 0
 Valueless es first end o r = (j : ℕ) → first ≤ j → j < end → is-group (getD es j blank .what) ≡ false → values-at (parts es) r (getD es j blank .name) o ≡ []
 
 -- The piece of a record that those fields are; or they lie in a periodic group, and there is no such occurrence.
-abbrev pub Piece-of : List Entry → Bytes → ℕ → ℕ → ℕ → Record → Content → Type 0
+abbrev pub Piece-of : List Entry → Bytes → ℕ → ℕ → ℕ → Record → Extent → Type 0
 Piece-of es b first end o r (Lies from upto) =
     (from ≤ upto) × (upto ≤ length b) × (take (upto - from) (drop from b) ≡ values-of es r o (fields-of (slice first end es))) × Celled es first end o r
 Piece-of es b first end o r Absent = (inside-at es first ≡ true) × Valueless es first end o r
 
--- n occurrences of the periodic group that entry g is, from occurrence o on, stand one behind the other from a place on, each so many bytes wide.
-pub record Rows-of (es : List Entry) (b : Bytes) (g o n width : ℕ) (r : Record) (from : ℕ) : Type 0 where
+-- n occurrences of the periodic group that entry g is, from occurrence o on, stand one after the other from a place on, each `width` bytes wide.
+pub record Occurrences-of (es : List Entry) (b : Bytes) (g o n width : ℕ) (r : Record) (from : ℕ) : Type 0 where
   pub inside : from + n * width ≤ length b
   pub bytes : take (n * width) (drop from b) ≡ join (run (λ k. values-of es r k (fields-of (slice (g + 1) (group-end es g) es))) o n)
   pub cells : (k : ℕ) → o ≤ k → k < o + n → Celled es (g + 1) (group-end es g) k r

@@ -44,7 +44,7 @@ Ends o = (rest : Bytes) × (o ≡ done rest)
 abbrev pub Behind : Bytes → Outcome Bytes → ℕ → Type 0
 Behind b o r = Ends o → Walked b o (At r)
 
--- What stands behind the part that an entry begins, if it begins one.
+-- What stands after the part that an entry begins, if it begins one.
 abbrev pub bytes-left : Outcome Bytes → Bytes
 bytes-left (done bs) = bs
 bytes-left (refused n) = []
@@ -84,14 +84,14 @@ greatest-kept = 65535
 unfoldable pub occurrence : List Entry → ℕ → Reader Occurrence
 occurrence es g = each stored-cell (fields-of (slice (g + 1) (group-end es g) es))
 
-unfoldable pub rows-of : What → ℕ → ℕ
-rows-of w n = cond (is-periodic w) n 0
+unfoldable pub occurrences-counted : What → ℕ → ℕ
+occurrences-counted w n = cond (is-periodic w) n 0
 
 -- Of n times one reader, from a place on, each beginning is kept from the number `kept` on, where the directory has room; what is kept before that number stays.
 pub record Kept {X : Type 0} (one : Reader X) (b : Bytes) (at n kept : ℕ) (before after : List ℕ) : Type 0 where
   pub long : length after ≡ length before
   pub others : (j : ℕ) → j < kept → getD after j 0 ≡ getD before j 0
-  pub rows : (k : ℕ) → k < n → kept + k < directory → Walked b (rest-of (times k one (drop at b))) (At (getD after (kept + k) 0))
+  pub occurrences : (k : ℕ) → k < n → kept + k < directory → Walked b (rest-of (times k one (drop at b))) (At (getD after (kept + k) 0))
 
 -- The same of a walk that comes to its end.
 abbrev pub Keeps : {X : Type 0} → Reader X → Bytes → ℕ → ℕ → ℕ → List ℕ → List ℕ → Reach → Type 0
@@ -101,13 +101,13 @@ Keeps one b at n kept before after r = (e : ℕ) → r ≡ At e → Kept one b a
 abbrev pub Starts : List Entry → Bytes → List ℕ → ℕ → Type 0
 Starts es b places j = (getD places j 0 ≤ length b) × (drop (getD places j 0) b ≡ start-of false es (drop record-head-size b) j)
 
-abbrev pub Rows : List Entry → Bytes → List ℕ → ℕ → Type 0
-Rows es b places g =
-    (k : ℕ) → k < rows-of (getD es g blank .what) (count-at b (getD places g 0)) → getD places (firsts + g) 0 + k < directory
+abbrev pub Occurrences-kept : List Entry → Bytes → List ℕ → ℕ → Type 0
+Occurrences-kept es b places g =
+    (k : ℕ) → k < occurrences-counted (getD es g blank .what) (count-at b (getD places g 0)) → getD places (firsts + g) 0 + k < directory
     → Walked b (rest-of (times k (occurrence es g) (drop (getD places g 0 + count-size) b))) (At (getD places (getD places (firsts + g) 0 + k) 0))
 
 -- What is found of a slice: whether it is a record, and then its directory.
 pub record Checked (es : List Entry) (b : Bytes) (places : List ℕ) (ok : Bool) : Type 0 where
   pub answer : ok ≡ is-done (stored (parts es) b)
   pub starts : ok ≡ true → (j : ℕ) → j < length es → Starts es b places j
-  pub rows : ok ≡ true → (g : ℕ) → g < length es → Rows es b places g
+  pub occurrences : ok ≡ true → (g : ℕ) → g < length es → Occurrences-kept es b places g

@@ -19,7 +19,7 @@ First n [] j = ⊥
 First n (e ∷ es) zero = eqb (e .name) n ≡ true
 First n (e ∷ es) (suc j) = (eqb (e .name) n ≡ false) × First n es j
 
--- The entries behind entry g, up to entry j, have levels above 1: they lie in the group that entry g is.
+-- The entries after entry g, up to entry j, have levels above 1: they lie in the group that entry g is.
 abbrev pub Deeper : List Entry → Entry → ℕ → ℕ → Type 0
 Deeper es d g j = (k : ℕ) → g < k → k ≤ j → 1 < getD es k d .level
 

@@ -8,7 +8,7 @@ ghost use Rattle.rules.specs.Limits.{longest-alpha, record-head-size};
 ghost use Rattle.rules.specs.Record.{record-head};
 ghost use Rattle.buffer.specs.Splice.{splice};
 ghost use Rattle.tables.specs.Entries.{Valid, entries-of, blank};
-ghost use Rattle.records.specs.Empty.{empty-entry, empty-from, null-row};
+ghost use Rattle.records.specs.Empty.{empty-entry, empty-from, null-entry};
 use crate::counts;
 use crate::heads;
 use crate::inside_next;
@@ -54,7 +54,7 @@ pub fn empty_length(t: &[u8]) -> usize
 
 // Whether an entry adds null: a plain field outside periodic groups.
 fn adds_null(e: Entry, inside: bool) -> bool
-    ensures { λ r. ⌜ r ≡ null-row inside e ⌝ }
+    ensures { λ r. ⌜ r ≡ null-entry inside e ⌝ }
 {
     if e.format == tables::GROUP {
         return false;
@@ -65,7 +65,7 @@ fn adds_null(e: Entry, inside: bool) -> bool
     !e.multiple
 }
 
-// Writes what entry i adds to the empty record; the place behind it.
+// Writes what entry i adds to the empty record; the place after it.
 fn write_entry(t: &[u8], i: usize, inside: bool, out: &mut [u8], at: usize) -> usize
     requires { ⌜ Valid (now t) × (i < length (entries-of (now t))) × (at + length (empty-entry inside (getD (entries-of (now t)) i blank .what)) ≤ length (now out)) ⌝ }
     ensures { λ r. ⌜ (r ≡ at + length (empty-entry inside (getD (entries-of (now (t .entry))) i blank .what))) × (now (out .exit) ≡ splice at (empty-entry inside (getD (entries-of (now (t .entry))) i blank .what)) (now (out .entry))) ⌝ }

@@ -5,12 +5,12 @@ ghost use lib.ListN.{length, getD};
 ghost use Rattle.rules.specs.Table.{is-inside};
 ghost use Rattle.tables.specs.Entries.{Valid, entries-of, blank};
 
-pub mod behind;
 pub mod counts;
 pub mod empty;
 pub mod heads;
 pub mod paths;
 pub mod places;
+pub mod skip;
 pub mod walk;
 
 // The directory of a record is one array of numbers in three regions: the place of each entry's part; for each entry, from FIRSTS on, the
@@ -23,7 +23,7 @@ const MOST_KEPT: usize = 512;
 
 pub const DIRECTORY: usize = KEPT + MOST_KEPT;
 
-// Where a walk over a record stands: at a place behind what it was to take, or at something that is no record.
+// Where a walk over a record stands: at a place after what it was to take, or at something that is no record.
 pub enum Reach {
     At(usize),
     Bad,

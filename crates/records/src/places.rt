@@ -10,7 +10,7 @@ ghost use Rattle.rules.specs.Record.{Record, times, each, stored-cell, group-co
 ghost use Rattle.tables.specs.Entries.{Valid, entries-of, blank, is-group, is-multiple};
 ghost use Rattle.tables.specs.Places.{inside-at};
 ghost use Rattle.tables.specs.Groups.{group-end};
-ghost use Rattle.records.specs.Places.{Held, Holds, Entered, Cell-of, Outside, Piece-of, Rows-of};
+ghost use Rattle.records.specs.Places.{Is-record, Has-record, Entered, Cell-of, Outside, Piece-of, Occurrences-of};
 ghost use Rattle.records.specs.Counts.{count-at, greatest-byte};
 ghost use Rattle.records.specs.Walk.{directory, rest-of, Walked, Ends, start-of, occurrence, greatest-kept};
 ghost use Rattle.records.specs.Paths.{Wide, Leads};
@@ -18,10 +18,10 @@ ghost use Rattle.records.specs.Where.{fields-of};
 ghost use Rattle.records.specs.declared.Reach.the-variants.{At};
 use crate::DIRECTORY;
 use crate::FIRSTS;
-use crate::behind;
 use crate::counts;
 use crate::paths;
 use crate::paths::Path;
+use crate::skip;
 
 // The cell of a field in an occurrence: the place where it begins, or there is no such occurrence.
 pub enum Cell {
@@ -30,7 +30,7 @@ pub enum Cell {
 }
 
 // The piece of a record that some fields are: from a place up to another, or there is no such occurrence.
-pub enum Content {
+pub enum Extent {
     At(usize, usize),
     Nothing,
 }
@@ -52,15 +52,15 @@ fn place_of(places: &[u16; DIRECTORY], i: usize) -> usize
 
 // The count of the periodic group that entry g is.
 pub fn group_count(t: &[u8], b: &[u8], places: &[u16; DIRECTORY], g: usize) -> usize
-    requires { ⌜ Valid (now t) × (g < length (entries-of (now t))) × (getD (entries-of (now t)) g blank .what ≡ group true) × Holds (entries-of (now t)) (now b) (now places) ⌝ }
-    ensures { λ n. ⌜ (n ≤ greatest-byte) × ((r : Record) → Held (entries-of (now (t .entry))) (now (b .entry)) (now (places .entry)) r → n ≡ group-count-at (parts (entries-of (now (t .entry)))) r (getD (entries-of (now (t .entry))) g blank .name)) ⌝ }
+    requires { ⌜ Valid (now t) × (g < length (entries-of (now t))) × (getD (entries-of (now t)) g blank .what ≡ group true) × Has-record (entries-of (now t)) (now b) (now places) ⌝ }
+    ensures { λ n. ⌜ (n ≤ greatest-byte) × ((r : Record) → Is-record (entries-of (now (t .entry))) (now (b .entry)) (now (places .entry)) r → n ≡ group-count-at (parts (entries-of (now (t .entry)))) r (getD (entries-of (now (t .entry))) g blank .name)) ⌝ }
 {
     counts::count_at(b, place_of(places, g))
 }
 
-// The place of occurrence o of the periodic group that entry g is: as it is kept, or behind those before it.
-fn row_at(t: &[u8], b: &[u8], places: &[u16; DIRECTORY], g: usize, o: usize) -> usize
-    requires { ⌜ Valid (now t) × (g < length (entries-of (now t))) × (getD (entries-of (now t)) g blank .what ≡ group true) × (1 ≤ o) × (o ≤ count-at (now b) (getD (now places) g 0)) × Holds (entries-of (now t)) (now b) (now places) ⌝ }
+// The place of occurrence o of the periodic group that entry g is: as it is kept, or after those before it.
+fn occurrence_at(t: &[u8], b: &[u8], places: &[u16; DIRECTORY], g: usize, o: usize) -> usize
+    requires { ⌜ Valid (now t) × (g < length (entries-of (now t))) × (getD (entries-of (now t)) g blank .what ≡ group true) × (1 ≤ o) × (o ≤ count-at (now b) (getD (now places) g 0)) × Has-record (entries-of (now t)) (now b) (now places) ⌝ }
     ensures { λ r. ⌜ Walked (now (b .entry)) (rest-of (times (o - 1) (occurrence (entries-of (now (t .entry))) g) (drop (getD (now (places .entry)) g 0 + count-size) (now (b .entry))))) (At r) ⌝ }
 {
     let number = place_of(places, FIRSTS + g) + (o - 1);
@@ -69,10 +69,10 @@ fn row_at(t: &[u8], b: &[u8], places: &[u16; DIRECTORY], g: usize, o: usize) -> 
     }
     let from = counts::after_count(b, place_of(places, g));
     let end = tables::group_end(t, g);
-    behind::behind_occurrences(t, b, from, o - 1, g + 1, end)
+    skip::occurrences_end(t, b, from, o - 1, g + 1, end)
 }
 
-// The place of an entry in the occurrence that stands at a place: behind the fields before it there.
+// The place of an entry in the occurrence that stands at a place: after the fields before it there.
 fn place_in(t: &[u8], b: &[u8], path: Path, row: usize) -> usize
     requires { ⌜ Valid (now t) × (path .group < path .entry) × (path .entry ≤ length (entries-of (now t))) × Leads (entries-of (now t)) path × (row ≤ length (now b)) × Ends (rest-of (each stored-cell (fields-of (slice (path .group + 1) (path .entry) (entries-of (now t)))) (drop row (now b)))) ⌝ }
     ensures { λ r. ⌜ Walked (now (b .entry)) (rest-of (each stored-cell (fields-of (slice (path .group + 1) (path .entry) (entries-of (now (t .entry))))) (drop row (now (b .entry))))) (At r) ⌝ }
@@ -80,26 +80,26 @@ fn place_in(t: &[u8], b: &[u8], path: Path, row: usize) -> usize
     if path.fixed {
         return row + path.offset;
     }
-    behind::behind_members(t, b, row, path.group + 1, path.entry)
+    skip::members_end(t, b, row, path.group + 1, path.entry)
 }
 
 // The place of an entry in an occurrence of the periodic group that it lies in.
 fn entry_in(t: &[u8], b: &[u8], places: &[u16; DIRECTORY], path: Path, o: usize) -> Cell
-    requires { ⌜ Valid (now t) × (path .group < path .entry) × (path .entry < length (entries-of (now t))) × (1 ≤ o) × Leads (entries-of (now t)) path × (path .inside ≡ true) × Holds (entries-of (now t)) (now b) (now places) ⌝ }
-    ensures { λ c. ⌜ ((r : Record) → Held (entries-of (now (t .entry))) (now (b .entry)) (now (places .entry)) r → Entered (entries-of (now (t .entry))) (now (b .entry)) (now (places .entry)) (path .group) (path .entry) o r c) ⌝ }
+    requires { ⌜ Valid (now t) × (path .group < path .entry) × (path .entry < length (entries-of (now t))) × (1 ≤ o) × Leads (entries-of (now t)) path × (path .inside ≡ true) × Has-record (entries-of (now t)) (now b) (now places) ⌝ }
+    ensures { λ c. ⌜ ((r : Record) → Is-record (entries-of (now (t .entry))) (now (b .entry)) (now (places .entry)) r → Entered (entries-of (now (t .entry))) (now (b .entry)) (now (places .entry)) (path .group) (path .entry) o r c) ⌝ }
 {
     let g = path.group;
     if group_count(t, b, places, g) < o {
         return Cell::Nothing;
     }
-    let row = row_at(t, b, places, g, o);
+    let row = occurrence_at(t, b, places, g, o);
     Cell::At(place_in(t, b, path, row))
 }
 
 // The cell of a field in occurrence o, by the way to it; outside periodic groups there is occurrence 1.
 pub fn cell_by(t: &[u8], b: &[u8], places: &[u16; DIRECTORY], path: Path, o: usize) -> Cell
-    requires { ⌜ Valid (now t) × (path .entry < length (entries-of (now t))) × (is-group (getD (entries-of (now t)) (path .entry) blank .what) ≡ false) × (1 ≤ o) × (inside-at (entries-of (now t)) (path .entry) ≡ false → o ≡ 1) × Leads (entries-of (now t)) path × Holds (entries-of (now t)) (now b) (now places) ⌝ }
-    ensures { λ c. ⌜ ((r : Record) → Held (entries-of (now (t .entry))) (now (b .entry)) (now (places .entry)) r → Cell-of (entries-of (now (t .entry))) (now (b .entry)) (path .entry) o r c) ⌝ }
+    requires { ⌜ Valid (now t) × (path .entry < length (entries-of (now t))) × (is-group (getD (entries-of (now t)) (path .entry) blank .what) ≡ false) × (1 ≤ o) × (inside-at (entries-of (now t)) (path .entry) ≡ false → o ≡ 1) × Leads (entries-of (now t)) path × Has-record (entries-of (now t)) (now b) (now places) ⌝ }
+    ensures { λ c. ⌜ ((r : Record) → Is-record (entries-of (now (t .entry))) (now (b .entry)) (now (places .entry)) r → Cell-of (entries-of (now (t .entry))) (now (b .entry)) (path .entry) o r c) ⌝ }
 {
     if path.inside {
         return entry_in(t, b, places, path, o);
@@ -109,16 +109,16 @@ pub fn cell_by(t: &[u8], b: &[u8], places: &[u16; DIRECTORY], path: Path, o: usi
 
 // The cell of entry i, a field, in occurrence o.
 pub fn cell_at(t: &[u8], b: &[u8], places: &[u16; DIRECTORY], i: usize, o: usize) -> Cell
-    requires { ⌜ Valid (now t) × (i < length (entries-of (now t))) × (is-group (getD (entries-of (now t)) i blank .what) ≡ false) × (1 ≤ o) × (inside-at (entries-of (now t)) i ≡ false → o ≡ 1) × Holds (entries-of (now t)) (now b) (now places) ⌝ }
-    ensures { λ c. ⌜ ((r : Record) → Held (entries-of (now (t .entry))) (now (b .entry)) (now (places .entry)) r → Cell-of (entries-of (now (t .entry))) (now (b .entry)) i o r c) ⌝ }
+    requires { ⌜ Valid (now t) × (i < length (entries-of (now t))) × (is-group (getD (entries-of (now t)) i blank .what) ≡ false) × (1 ≤ o) × (inside-at (entries-of (now t)) i ≡ false → o ≡ 1) × Has-record (entries-of (now t)) (now b) (now places) ⌝ }
+    ensures { λ c. ⌜ ((r : Record) → Is-record (entries-of (now (t .entry))) (now (b .entry)) (now (places .entry)) r → Cell-of (entries-of (now (t .entry))) (now (b .entry)) i o r c) ⌝ }
 {
     cell_by(t, b, places, paths::path_to(t, i), o)
 }
 
 // The count of entry i, an MU field, in occurrence o: 0 where there is no such occurrence.
 pub fn value_count(t: &[u8], b: &[u8], places: &[u16; DIRECTORY], i: usize, o: usize) -> usize
-    requires { ⌜ Valid (now t) × (i < length (entries-of (now t))) × (is-multiple (getD (entries-of (now t)) i blank .what) ≡ true) × (1 ≤ o) × (inside-at (entries-of (now t)) i ≡ false → o ≡ 1) × Holds (entries-of (now t)) (now b) (now places) ⌝ }
-    ensures { λ n. ⌜ (n ≤ greatest-byte) × ((r : Record) → Held (entries-of (now (t .entry))) (now (b .entry)) (now (places .entry)) r → n ≡ value-count-at (parts (entries-of (now (t .entry)))) r (getD (entries-of (now (t .entry))) i blank .name) o) ⌝ }
+    requires { ⌜ Valid (now t) × (i < length (entries-of (now t))) × (is-multiple (getD (entries-of (now t)) i blank .what) ≡ true) × (1 ≤ o) × (inside-at (entries-of (now t)) i ≡ false → o ≡ 1) × Has-record (entries-of (now t)) (now b) (now places) ⌝ }
+    ensures { λ n. ⌜ (n ≤ greatest-byte) × ((r : Record) → Is-record (entries-of (now (t .entry))) (now (b .entry)) (now (places .entry)) r → n ≡ value-count-at (parts (entries-of (now (t .entry)))) r (getD (entries-of (now (t .entry))) i blank .name) o) ⌝ }
 {
     let cell = cell_at(t, b, places, i, o);
     match cell {
@@ -127,9 +127,9 @@ pub fn value_count(t: &[u8], b: &[u8], places: &[u16; DIRECTORY], i: usize, o: u
     }
 }
 
-// The place behind the parts of the entries before entry i.
-fn place_behind(t: &[u8], b: &[u8], places: &[u16; DIRECTORY], i: usize) -> usize
-    requires { ⌜ Valid (now t) × (i ≤ length (entries-of (now t))) × Holds (entries-of (now t)) (now b) (now places) ⌝ }
+// The place after the parts of the entries before entry i.
+fn part_start(t: &[u8], b: &[u8], places: &[u16; DIRECTORY], i: usize) -> usize
+    requires { ⌜ Valid (now t) × (i ≤ length (entries-of (now t))) × Has-record (entries-of (now t)) (now b) (now places) ⌝ }
     ensures { λ p. ⌜ (p ≤ length (now (b .entry))) × (drop p (now (b .entry)) ≡ start-of false (entries-of (now (t .entry))) (drop record-head-size (now (b .entry))) i) ⌝ }
 {
     if i < tables::count(t) {
@@ -145,16 +145,16 @@ pub fn piece_outside(
     places: &[u16; DIRECTORY],
     first: usize,
     end: usize,
-) -> Content
-    requires { ⌜ Valid (now t) × (first ≤ end) × (end ≤ length (entries-of (now t))) × Outside (entries-of (now t)) first end × Holds (entries-of (now t)) (now b) (now places) ⌝ }
-    ensures { λ c. ⌜ ((r : Record) → Held (entries-of (now (t .entry))) (now (b .entry)) (now (places .entry)) r → Piece-of (entries-of (now (t .entry))) (now (b .entry)) first end 1 r c) ⌝ }
+) -> Extent
+    requires { ⌜ Valid (now t) × (first ≤ end) × (end ≤ length (entries-of (now t))) × Outside (entries-of (now t)) first end × Has-record (entries-of (now t)) (now b) (now places) ⌝ }
+    ensures { λ c. ⌜ ((r : Record) → Is-record (entries-of (now (t .entry))) (now (b .entry)) (now (places .entry)) r → Piece-of (entries-of (now (t .entry))) (now (b .entry)) first end 1 r c) ⌝ }
 {
-    let from = place_behind(t, b, places, first);
-    Content::At(from, place_behind(t, b, places, end))
+    let from = part_start(t, b, places, first);
+    Extent::At(from, part_start(t, b, places, end))
 }
 
 // The same of entries that all lie in the periodic group to which the way to the first leads, in occurrence o; their fields are of
-// fixed length, and so many bytes together.
+// fixed length, and `width` bytes together.
 pub fn piece_inside(
     t: &[u8],
     b: &[u8],
@@ -163,20 +163,20 @@ pub fn piece_inside(
     end: usize,
     width: usize,
     o: usize,
-) -> Content
-    requires { ⌜ Valid (now t) × (path .group < path .entry) × (path .entry < end) × (end ≤ length (entries-of (now t))) × (end ≤ group-end (entries-of (now t)) (path .group)) × (1 ≤ o) × Leads (entries-of (now t)) path × (path .inside ≡ true) × Wide (fields-of (slice (path .entry) end (entries-of (now t)))) width × Holds (entries-of (now t)) (now b) (now places) ⌝ }
-    ensures { λ c. ⌜ ((r : Record) → Held (entries-of (now (t .entry))) (now (b .entry)) (now (places .entry)) r → Piece-of (entries-of (now (t .entry))) (now (b .entry)) (path .entry) end o r c) ⌝ }
+) -> Extent
+    requires { ⌜ Valid (now t) × (path .group < path .entry) × (path .entry < end) × (end ≤ length (entries-of (now t))) × (end ≤ group-end (entries-of (now t)) (path .group)) × (1 ≤ o) × Leads (entries-of (now t)) path × (path .inside ≡ true) × Wide (fields-of (slice (path .entry) end (entries-of (now t)))) width × Has-record (entries-of (now t)) (now b) (now places) ⌝ }
+    ensures { λ c. ⌜ ((r : Record) → Is-record (entries-of (now (t .entry))) (now (b .entry)) (now (places .entry)) r → Piece-of (entries-of (now (t .entry))) (now (b .entry)) (path .entry) end o r c) ⌝ }
 {
     let first = entry_in(t, b, places, path, o);
     match first {
-        Cell::Nothing => Content::Nothing,
-        Cell::At(from) => Content::At(from, from + width),
+        Cell::Nothing => Extent::Nothing,
+        Cell::At(from) => Extent::At(from, from + width),
     }
 }
 
 // Where n occurrences of the periodic group that entry g is stand, from occurrence o on, all of which exist; its fields are of fixed
-// length, and so many bytes together.
-pub fn rows_inside(
+// length, and `width` bytes together.
+pub fn occurrences_at(
     t: &[u8],
     b: &[u8],
     places: &[u16; DIRECTORY],
@@ -185,8 +185,8 @@ pub fn rows_inside(
     o: usize,
     n: usize,
 ) -> usize
-    requires { ⌜ Valid (now t) × (g < length (entries-of (now t))) × (getD (entries-of (now t)) g blank .what ≡ group true) × (1 ≤ o) × (1 ≤ n) × ((r : Record) → Held (entries-of (now t)) (now b) (now places) r → o + n ≤ group-count-at (parts (entries-of (now t))) r (getD (entries-of (now t)) g blank .name) + 1) × Wide (fields-of (slice (g + 1) (group-end (entries-of (now t)) g) (entries-of (now t)))) width × Holds (entries-of (now t)) (now b) (now places) ⌝ }
-    ensures { λ p. ⌜ ((r : Record) → Held (entries-of (now (t .entry))) (now (b .entry)) (now (places .entry)) r → Rows-of (entries-of (now (t .entry))) (now (b .entry)) g o n width r p) ⌝ }
+    requires { ⌜ Valid (now t) × (g < length (entries-of (now t))) × (getD (entries-of (now t)) g blank .what ≡ group true) × (1 ≤ o) × (1 ≤ n) × ((r : Record) → Is-record (entries-of (now t)) (now b) (now places) r → o + n ≤ group-count-at (parts (entries-of (now t))) r (getD (entries-of (now t)) g blank .name) + 1) × Wide (fields-of (slice (g + 1) (group-end (entries-of (now t)) g) (entries-of (now t)))) width × Has-record (entries-of (now t)) (now b) (now places) ⌝ }
+    ensures { λ p. ⌜ ((r : Record) → Is-record (entries-of (now (t .entry))) (now (b .entry)) (now (places .entry)) r → Occurrences-of (entries-of (now (t .entry))) (now (b .entry)) g o n width r p) ⌝ }
 {
-    row_at(t, b, places, g, o)
+    occurrence_at(t, b, places, g, o)
 }

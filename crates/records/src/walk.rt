@@ -11,24 +11,24 @@ ghost use Rattle.rules.specs.Record.{times, each, counted, stored-value, stored
 ghost use Rattle.tables.specs.Entries.{Valid, entries-of, blank, format-at};
 ghost use Rattle.records.specs.Where.{field-of, fields-of};
 ghost use Rattle.records.specs.Counts.{count-at, greatest-byte};
-ghost use Rattle.records.specs.Walk.{directory, rest-of, Walked, behind, occurrence, rows-of, Keeps, Checked, greatest-kept};
+ghost use Rattle.records.specs.Walk.{directory, rest-of, Walked, behind, occurrence, occurrences-counted, Keeps, Checked, greatest-kept};
 use crate::DIRECTORY;
 use crate::FIRSTS;
 use crate::KEPT;
 use crate::Reach;
 use crate::counts;
 use crate::heads;
-use values::First;
+use values::FirstValue;
 
-// The place behind a value of a format and standard length.
+// The place after a value of a format and standard length.
 fn value_end(b: &[u8], at: usize, format: usize, size: usize) -> Reach
     requires { ⌜ (at ≤ length (now b)) × (format < formats) × (allowed (format-at format) size ≡ true) ⌝ }
     ensures { λ r. ⌜ Walked (now (b .entry)) (rest-of (stored-value (format-at format) size (drop at (now (b .entry))))) r ⌝ }
 {
     let first = values::first_value(b, at, size);
     match first {
-        First::Refused(_) => Reach::Bad,
-        First::Value(from, next) => {
+        FirstValue::Refused(_) => Reach::Bad,
+        FirstValue::Value(from, next) => {
             if values::is_normal(&b[from..next], format, size) {
                 Reach::At(next)
             } else {
@@ -38,7 +38,7 @@ fn value_end(b: &[u8], at: usize, format: usize, size: usize) -> Reach
     }
 }
 
-// The place behind n bytes.
+// The place after n bytes.
 fn bytes_end(b: &[u8], at: usize, n: usize) -> Reach
     requires { ⌜ at ≤ length (now b) ⌝ }
     ensures { λ r. ⌜ Walked (now (b .entry)) (rest-of (cut 2 n (drop at (now (b .entry))))) r ⌝ }
@@ -49,7 +49,7 @@ fn bytes_end(b: &[u8], at: usize, n: usize) -> Reach
     Reach::At(at + n)
 }
 
-// The place behind n values. Where all bytes are in normal form, n values are so many bytes; an n that no count can say goes one by one,
+// The place after n values. Where all bytes are in normal form, they are n times the length in bytes; an n that no count can say goes one by one,
 // so that the product is never too large.
 fn values_end(b: &[u8], at: usize, n: usize, format: usize, size: usize) -> Reach
     requires { ⌜ (at ≤ length (now b)) × (format < formats) × (allowed (format-at format) size ≡ true) ⌝ }
@@ -77,7 +77,7 @@ fn values_end(b: &[u8], at: usize, n: usize, format: usize, size: usize) -> Reac
     Reach::At(p)
 }
 
-// The place behind the cell of a field, by its format, standard length and whether it is MU.
+// The place after the cell of a field, by its format, standard length and whether it is MU.
 fn cell_end(b: &[u8], at: usize, format: usize, size: usize, multiple: bool) -> Reach
     requires { ⌜ (at ≤ length (now b)) × (format < formats) × (allowed (format-at format) size ≡ true) ⌝ }
     ensures { λ r. ⌜ Walked (now (b .entry)) (rest-of (counted multiple (stored-value (format-at format) size) (drop at (now (b .entry))))) r ⌝ }
@@ -92,7 +92,7 @@ fn cell_end(b: &[u8], at: usize, format: usize, size: usize, multiple: bool) -> 
     value_end(b, at, format, size)
 }
 
-// The place behind the cell of entry i, where it is a field; a group by itself has no bytes.
+// The place after the cell of entry i, where it is a field; a group by itself has no bytes.
 fn member_end(t: &[u8], b: &[u8], at: usize, i: usize) -> Reach
     requires { ⌜ Valid (now t) × (i < length (entries-of (now t))) × (at ≤ length (now b)) ⌝ }
     ensures { λ r. ⌜ Walked (now (b .entry)) (rest-of (each stored-cell (field-of (getD (entries-of (now (t .entry))) i blank .name) (getD (entries-of (now (t .entry))) i blank .what)) (drop at (now (b .entry))))) r ⌝ }
@@ -104,7 +104,7 @@ fn member_end(t: &[u8], b: &[u8], at: usize, i: usize) -> Reach
     cell_end(b, at, e.format as usize, e.size as usize, e.multiple)
 }
 
-// The place behind the cells of the fields among the entries from first to end, once each.
+// The place after the cells of the fields among the entries from first to end, once each.
 fn members_end(t: &[u8], b: &[u8], at: usize, first: usize, end: usize) -> Reach
     requires { ⌜ Valid (now t) × (first ≤ end) × (end ≤ length (entries-of (now t))) × (at ≤ length (now b)) ⌝ }
     ensures { λ r. ⌜ Walked (now (b .entry)) (rest-of (each stored-cell (fields-of (slice first end (entries-of (now (t .entry))))) (drop at (now (b .entry))))) r ⌝ }
@@ -126,7 +126,7 @@ fn members_end(t: &[u8], b: &[u8], at: usize, first: usize, end: usize) -> Reach
     Reach::At(p)
 }
 
-// Keeps a place at a number of the directory, where it has so many.
+// Keeps a place at a number of the directory, if the directory is as long.
 fn keep(places: &mut [u16; DIRECTORY], number: usize, place: usize)
     requires { ⌜ (length (now places) ≡ directory) × (place ≤ greatest-kept) ⌝ }
     ensures { λ _. ⌜ now (places .exit) ≡ set (now (places .entry)) number place ⌝ }
@@ -168,7 +168,7 @@ fn occurrences_end(
     Reach::At(p)
 }
 
-// The place behind the part that entry i begins, if it begins one.
+// The place after the part that entry i begins, if it begins one.
 fn entry_end(
     t: &[u8],
     b: &[u8],
@@ -179,7 +179,7 @@ fn entry_end(
     kept: usize,
 ) -> Reach
     requires { ⌜ Valid (now t) × (i < length (entries-of (now t))) × (at ≤ length (now b)) × (length (now b) ≤ longest-record) × (length (now places) ≡ directory) × (kept + greatest-byte ≤ greatest-kept) ⌝ }
-    ensures { λ r. ⌜ Walked (now (b .entry)) (behind inside (getD (entries-of (now (t .entry))) i blank) (drop (suc i) (entries-of (now (t .entry)))) (drop at (now (b .entry)))) r × Keeps (occurrence (entries-of (now (t .entry))) i) (now (b .entry)) (at + count-size) (rows-of (getD (entries-of (now (t .entry))) i blank .what) (count-at (now (b .entry)) at)) kept (now (places .entry)) (now (places .exit)) r ⌝ }
+    ensures { λ r. ⌜ Walked (now (b .entry)) (behind inside (getD (entries-of (now (t .entry))) i blank) (drop (suc i) (entries-of (now (t .entry)))) (drop at (now (b .entry)))) r × Keeps (occurrence (entries-of (now (t .entry))) i) (now (b .entry)) (at + count-size) (occurrences-counted (getD (entries-of (now (t .entry))) i blank .what) (count-at (now (b .entry)) at)) kept (now (places .entry)) (now (places .exit)) r ⌝ }
 {
     if tables::periodic_at(t, i) {
         if counts::has_count(b, at) {
@@ -196,10 +196,10 @@ fn entry_end(
     member_end(t, b, at, i)
 }
 
-// The number behind those of entry i's occurrences.
-fn kept_behind(t: &[u8], b: &[u8], at: usize, i: usize, kept: usize) -> usize
+// The number after those of entry i's occurrences.
+fn kept_after(t: &[u8], b: &[u8], at: usize, i: usize, kept: usize) -> usize
     requires { ⌜ Valid (now t) × (i < length (entries-of (now t))) × (kept + greatest-byte ≤ greatest-kept) ⌝ }
-    ensures { λ r. ⌜ (r ≡ kept + rows-of (getD (entries-of (now (t .entry))) i blank .what) (count-at (now (b .entry)) at)) × (r ≤ kept + greatest-byte) ⌝ }
+    ensures { λ r. ⌜ (r ≡ kept + occurrences-counted (getD (entries-of (now (t .entry))) i blank .what) (count-at (now (b .entry)) at)) × (r ≤ kept + greatest-byte) ⌝ }
 {
     if b.len() <= at {
         return kept;
@@ -226,7 +226,7 @@ pub fn check(t: &[u8], b: &[u8], places: &mut [u16; DIRECTORY]) -> bool
             keep(places, FIRSTS + i, kept);
             inside = crate::inside_next(t, i, inside);
             let step = entry_end(t, b, p, i, inside, places, kept);
-            kept = kept_behind(t, b, p, i, kept);
+            kept = kept_after(t, b, p, i, kept);
             match step {
                 Reach::Bad => {
                     return false;

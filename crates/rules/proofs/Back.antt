@@ -1,4 +1,4 @@
--- A record as it should be, written, is read back as that record: what a writer wrote the reader takes, whatever stands behind it.
+-- A record as it should be, written, is read back as that record: what a writer wrote the reader takes, whatever stands after it.
 use mathlib.Core.Path.{_≡_, refl, sym, _∙_, ap, subst}
 use mathlib.Core.Bool.{Bool, true, false, _&&_}
 use mathlib.Core.List.{List, [], _∷_, _++_, map, append-assoc, append-nil}

@@ -6,7 +6,7 @@ use Prim.Native.Nat.{ℕ, zero, suc, _-_, _≤_}
 use native.Mathlib.Omega.{arith}
 use lib.Dec.{T, leb, leb→le, le→leb}
 use lib.ListN.{length, take, drop}
-use Rattle.rules.specs.Outcome.{Outcome, done, refused, _>>=_, need, as-number}
+use Rattle.rules.specs.Outcome.{Outcome, done, refused, _>>=_, need, refused-as}
 use Rattle.rules.specs.Limits.{greatest-count, longest-record, longest-alpha}
 use Rattle.rules.specs.Lists.{Bytes, nothing, same, cut}
 use Rattle.rules.specs.Values.{Format, first-value, with-length-byte, in-normal-form}

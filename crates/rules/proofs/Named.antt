@@ -11,7 +11,7 @@ use lib.Dec.{eqb, eqb→eq}
 use lib.ListN.{length}
 use Rattle.rules.specs.Outcome.{done}
 use Rattle.rules.specs.Lists.{Bytes, all, filter, run, join, look-up, cut, absent}
-use Rattle.rules.specs.Values.{Format, allowed, converts, carried, first-value}
+use Rattle.rules.specs.Values.{Format, allowed, converts, converted-bytes, first-value}
 use Rattle.rules.specs.Table.{Field, What, field, group, Entry, fields-below}
 use Rattle.rules.specs.Format.{Range, Element, blanks, quoted, named, count, series}
 use Rattle.rules.specs.Use.{Item, blanks-item, text-item, group-count, value-count, value-item, Asked, Use, values, value-items, items-of, Found, find, format-in-effect, length-in-effect, asked, as-stored, in-order, just, Spread, spread, Indexes, last-index, indexes-after, plain, use-of-group, use-of-field, use-of-count, fields-to, use-of-series, use-of}
@@ -59,7 +59,7 @@ assigned-named n i (group-count m ∷ xs) bs ws p = from-bind (cut 7 1 bs) _ p �
 assigned-named n i (value-count m o ∷ xs) bs ws p = from-bind (cut 7 1 bs) _ p λ r h k. assigned-named n i xs (r .1) ws k
 assigned-named n i (value-item q g s bare ∷ xs) bs ws p =
     from-bind (first-value s bs) _ p λ r h k.
-    from-bind (carried g (q .field .format) (q .field .size) (r .0)) _ k λ w h₂ k₂.
+    from-bind (converted-bytes g (q .field .format) (q .field .size) (r .0)) _ k λ w h₂ k₂.
     from-bind (assignments xs (r .1)) _ k₂ λ vs h₃ k₃.
     rw (← done-inj k₃) (by-test (eqb (q .field .name) n && eqb (q .occurrence) i)
     (λ e. rw (e, values-named, filter) (ap (_∷_ (q .value, bare)) (assigned-named n i xs (r .1) vs h₃)))

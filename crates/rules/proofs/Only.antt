@@ -4,7 +4,7 @@ use mathlib.Core.Bool.{Bool, true, false}
 use mathlib.Core.List.{List, [], _∷_}
 use mathlib.Core.Option.{Option, none, some}
 use Prim.Native.Nat.{ℕ}
-use Rattle.rules.specs.Outcome.{Outcome, done, refused, _>>=_, need, as-number, is-done}
+use Rattle.rules.specs.Outcome.{Outcome, done, refused, _>>=_, need, refused-as, is-done}
 use Rattle.rules.proofs.Steps.{not-both}
 
 abbrev pub Only : {A : Type 0} → (ℕ → Type 0) → Outcome A → Type 0
@@ -24,7 +24,7 @@ module _ (P : ℕ → Type 0) where
   only-need true p g k = k
   only-need false p g k = p
 
-  pub only-as : {A : Type 0} {n : ℕ} → P n → (m : Outcome A) → Only P (as-number n m)
+  pub only-as : {A : Type 0} {n : ℕ} → P n → (m : Outcome A) → Only P (refused-as n m)
   only-as p (done a) = tt
   only-as p (refused k) = p
 

@@ -24,7 +24,7 @@ places-of (group-count n ∷ xs) = places-of xs
 places-of (value-count n i ∷ xs) = places-of xs
 places-of (value-item p g n bare ∷ xs) = p ∷ places-of xs
 
--- A place stands behind one that is the same.
+-- A place stands after one that is the same.
 unfoldable pub repeats : List Place → Bool
 repeats [] = false
 repeats (p ∷ ps) = any (same-place p) ps || repeats ps

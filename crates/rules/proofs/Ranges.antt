@@ -9,7 +9,7 @@ use native.Mathlib.Nat.{sub-zero, sub-add-eq}
 use lib.ListN.{length, length-append}
 use Rattle.rules.specs.Outcome.{Outcome, done, refused, _>>=_}
 use Rattle.rules.specs.Lists.{Bytes, run, join, cut}
-use Rattle.rules.specs.Values.{carried, first-value}
+use Rattle.rules.specs.Values.{converted-bytes, first-value}
 use Rattle.rules.specs.Table.{Part}
 use Rattle.rules.specs.Record.{Record, Reader}
 use Rattle.rules.specs.Format.{Range}
@@ -45,22 +45,22 @@ item-at bare a i k = value-item (spot a i k) (a .format) (a .size) bare
 abbrev pub field-items : Bool → Range → ℕ → Asked → List Item
 field-items bare vs i a = over vs (item-at bare a i)
 
-abbrev pub row-items : List Asked → Range → Bool → ℕ → List Item
-row-items fs vs bare i = join (map (field-items bare vs i) fs)
+abbrev pub occurrence-items : List Asked → Range → Bool → ℕ → List Item
+occurrence-items fs vs bare i = join (map (field-items bare vs i) fs)
 
 -- The items of an element from its first occurrence on.
 module _ (fs : List Asked) (vs : Range) (bare : Bool) where
   pub no-occurrence : (i j : ℕ) → j < i → value-items fs (from-to i j) vs bare ≡ []
   unfolding value-items join
-  no-occurrence i j h = rw (over-none (row-items fs vs bare) i j h)
+  no-occurrence i j h = rw (over-none (occurrence-items fs vs bare) i j h)
 
-  pub one-occurrence : (i : ℕ) → value-items fs (just i) vs bare ≡ row-items fs vs bare i
+  pub one-occurrence : (i : ℕ) → value-items fs (just i) vs bare ≡ occurrence-items fs vs bare i
   unfolding value-items join
-  one-occurrence i = rw (over-just (row-items fs vs bare) i, append-nil)
+  one-occurrence i = rw (over-just (occurrence-items fs vs bare) i, append-nil)
 
   pub first-occurrence : (i j : ℕ) → i ≤ j → value-items fs (from-to i j) vs bare ≡ value-items fs (just i) vs bare ++ value-items fs (from-to (i + 1) j) vs bare
   unfolding value-items join
-  first-occurrence i j h = rw (over-first (row-items fs vs bare) i j h, over-just (row-items fs vs bare) i, append-nil)
+  first-occurrence i j h = rw (over-first (occurrence-items fs vs bare) i j h, over-just (occurrence-items fs vs bare) i, append-nil)
 
 -- In one occurrence, from its first field on.
 module _ (i : ℕ) (vs : Range) (bare : Bool) where
@@ -93,7 +93,7 @@ bind-end (done a) = refl
 bind-end (refused n) = refl
 
 module _ (ps : List Part) (r : Record) where
-  -- Reading items one part behind the other: the room of the second is what the first leaves.
+  -- Reading items one part after the other: the room of the second is what the first leaves.
   pub filled-append : (xs ys : List Item) (room : ℕ) → filled ps r room (xs ++ ys) ≡ (do
     a ← filled ps r room xs
     b ← filled ps r (room - length a) ys
@@ -111,7 +111,7 @@ taking (group-count n ∷ xs) bs = cut 7 1 bs >>= λ r. taking xs (r .1)
 taking (value-count n i ∷ xs) bs = cut 7 1 bs >>= λ r. taking xs (r .1)
 taking (value-item p g n bare ∷ xs) bs = do
   r ← first-value n bs
-  w ← carried g (p .field .format) (p .field .size) (r .0)
+  w ← converted-bytes g (p .field .format) (p .field .size) (r .0)
   ws ← taking xs (r .1)
   done (record { place = p; bare = bare; bytes = w } ∷ ws .0, ws .1)
 
@@ -124,7 +124,7 @@ assignments-taking (group-count n ∷ xs) bs = simp (bind-bind, assignments-taki
 assignments-taking (value-count n i ∷ xs) bs = simp (bind-bind, assignments-taking xs)
 assignments-taking (value-item p g n bare ∷ xs) bs = simp (bind-bind, assignments-taking xs)
 
--- Updating by items one part behind the other: the bytes of the second are what the first leaves.
+-- Updating by items one part after the other: the bytes of the second are what the first leaves.
 pub taking-append : (xs ys : List Item) (bs : Bytes) → taking (xs ++ ys) bs ≡ (do
   a ← taking xs bs
   b ← taking ys (a .1)

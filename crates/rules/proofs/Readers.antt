@@ -1,4 +1,4 @@
--- What was read from bytes, written again, is those bytes: each reader is sound, and so are readers one behind the other.
+-- What was read from bytes, written again, is those bytes: each reader is sound, and so are readers one after the other.
 use mathlib.Core.Path.{_≡_, refl, sym, _∙_, ap, subst}
 use mathlib.Core.Bool.{Bool, true, false, _&&_}
 use mathlib.Core.List.{List, [], _∷_, _++_, map, append-assoc, append-nil}
@@ -6,7 +6,7 @@ use Prim.Native.Nat.{ℕ, zero, suc, _-_, _+_, _≤_}
 use native.Mathlib.Omega.{arith}
 use lib.Dec.{T, leb, leb→le}
 use lib.ListN.{length, take, drop, take-append-drop}
-use Rattle.rules.specs.Outcome.{Outcome, done, refused, _>>=_, need, as-number}
+use Rattle.rules.specs.Outcome.{Outcome, done, refused, _>>=_, need, refused-as}
 use Rattle.rules.specs.Limits.{greatest-count, longest-record, longest-alpha}
 use Rattle.rules.specs.Lists.{Bytes, nothing, same, cut, join}
 use Rattle.rules.specs.Values.{Format, first-value, with-length-byte, in-normal-form}

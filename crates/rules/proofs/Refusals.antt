@@ -5,7 +5,7 @@ use mathlib.Core.List.{List, [], _∷_}
 use Prim.Native.Nat.{ℕ, zero, suc}
 use lib.Dec.{eqb, leb}
 use lib.ListN.{length, take, drop, getD}
-use Rattle.rules.specs.Outcome.{refused, as-number, is-done}
+use Rattle.rules.specs.Outcome.{refused, refused-as, is-done}
 use Rattle.rules.specs.Limits.{most-entries, greatest-count, longest-record, longest-format, longest-blanks, longest-text, greatest-length, most-digits}
 use Rattle.rules.specs.Characters.{space, period, apostrophe, hyphen, open-parenthesis, close-parenthesis, digit, letter-C, letter-X}
 use Rattle.rules.specs.Lists.{Bytes, nothing, absent, same, all, but-last, last}
@@ -54,7 +54,7 @@ no-table t h = refused-by 1 (table t) (table-only t) h
 value-only : (f : Format) (n : ℕ) (bs : Bytes) → Only (Is 2) (stored-value f n bs)
 unfolding stored-value
 value-only f n bs =
-    only-bind (Is 2) (as-number 2 (first-value n bs)) _ (only-as (Is 2) refl (first-value n bs))
+    only-bind (Is 2) (refused-as 2 (first-value n bs)) _ (only-as (Is 2) refl (first-value n bs))
     (λ r. only-need (Is 2) (in-normal-form f n (r .0)) refl _ tt)
 
 times-only : {X : Type 0} (one : Reader X) → ((bs : Bytes) → Only (Is 2) (one bs)) → (n : ℕ) (bs : Bytes) → Only (Is 2) (times n one bs)

@@ -113,7 +113,7 @@ same-answer (refused n) (refused m) = eqb n m
 
 -- Every definition of the rules is opened here, and with `passes` wherever that is.
 unfoldable pub passes : Case → Bool
-unfolding job-table job-record same-answer CharactersS.letter CharactersS.digit FormatS.onto FormatS.texts FormatS.skip-spaces FormatS.trim FormatS.leading-digits FormatS.number-first FormatS.closing FormatS.parenthesis FormatS.after-range FormatS.after-index FormatS.series-to FormatS.after-name FormatS.override-letters FormatS.is-override FormatS.after-number FormatS.text-piece FormatS.piece FormatS.settled FormatS.completed FormatS.put-before FormatS.assembled FormatS.elements ListsS.bytes-of ListsS.nothing ListsS.absent ListsS.same ListsS.all ListsS.any ListsS.filter ListsS.look-up ListsS.maximum ListsS.run ListsS.join ListsS.cut ListsS.spelled ListsS.digits ListsS.but-last ListsS.last RecordS.record-head RecordS.times RecordS.stored-count RecordS.counted RecordS.each RecordS.stored-value RecordS.stored-cell RecordS.stored-part RecordS.stored RecordS.count-bytes RecordS.counted-bytes RecordS.each-bytes RecordS.cell-bytes RecordS.part-bytes RecordS.body-bytes RecordS.record-bytes RecordS.cell-of RecordS.values-at RecordS.value-at RecordS.value-count-at RecordS.group-count-at RecordS.laid-cell RecordS.laid-part RecordS.laid-out RecordS.count-or-one RecordS.empty-record ServicesS.item-bytes ServicesS.filled ServicesS.read ServicesS.assignments-of ServicesS.fitting ServicesS.update ServicesS.empty TableS.table-head TableS.is-name TableS.name-of TableS.format-letters TableS.format-of TableS.what-of TableS.entries TableS.levels TableS.differ TableS.names TableS.table TableS.inside-of TableS.fields-below TableS.alone TableS.part-of TableS.parts-from TableS.parts TableS.member UpdateS.meet UpdateS.share UpdateS.name-alike UpdateS.named-twice UpdateS.assignments UpdateS.same-place UpdateS.assigned UpdateS.to-field UpdateS.to-part UpdateS.highest-occurrence UpdateS.highest-value UpdateS.bare-only UpdateS.new-value-count UpdateS.new-group-count UpdateS.new-value UpdateS.update-plan UpdateS.after-update UseS.value-items UseS.items-of UseS.items UseS.find-from UseS.find UseS.format-in-effect UseS.length-in-effect UseS.asked UseS.as-stored UseS.in-order UseS.spread UseS.last-index UseS.indexes-after UseS.plain UseS.use-of-group UseS.use-of-field UseS.use-of-count UseS.fields-to UseS.use-of-series UseS.use-of UseS.uses ValuesS.allowed ValuesS.signed ValuesS.strip ValuesS.halves ValuesS.pairs ValuesS.accepted-plus ValuesS.accepted-minus ValuesS.sign-means ValuesS.decimal ValuesS.twos-complement ValuesS.meaning ValuesS.sign-written ValuesS.zoned ValuesS.normal ValuesS.null-value ValuesS.null ValuesS.first-value ValuesS.content ValuesS.with-length-byte ValuesS.in-normal-form ValuesS.conversion ValuesS.converts ValuesS.in-range ValuesS.converted ValuesS.carried
+unfolding job-table job-record same-answer CharactersS.letter CharactersS.digit FormatS.onto FormatS.texts FormatS.skip-spaces FormatS.trim FormatS.leading-digits FormatS.number-first FormatS.closing FormatS.parenthesis FormatS.after-range FormatS.after-index FormatS.series-to FormatS.after-name FormatS.override-letters FormatS.is-override FormatS.after-number FormatS.text-piece FormatS.piece FormatS.settled FormatS.completed FormatS.put-before FormatS.assembled FormatS.elements ListsS.bytes-of ListsS.nothing ListsS.absent ListsS.same ListsS.all ListsS.any ListsS.filter ListsS.look-up ListsS.maximum ListsS.run ListsS.join ListsS.cut ListsS.spelled ListsS.digits ListsS.but-last ListsS.last RecordS.record-head RecordS.times RecordS.stored-count RecordS.counted RecordS.each RecordS.stored-value RecordS.stored-cell RecordS.stored-part RecordS.stored RecordS.count-bytes RecordS.counted-bytes RecordS.each-bytes RecordS.cell-bytes RecordS.part-bytes RecordS.body-bytes RecordS.record-bytes RecordS.cell-of RecordS.values-at RecordS.value-at RecordS.value-count-at RecordS.group-count-at RecordS.laid-cell RecordS.laid-part RecordS.laid-out RecordS.count-or-one RecordS.empty-record ServicesS.item-bytes ServicesS.filled ServicesS.read ServicesS.assignments-of ServicesS.fitting ServicesS.update ServicesS.empty TableS.table-head TableS.is-name TableS.name-of TableS.format-letters TableS.format-of TableS.what-of TableS.entries TableS.levels TableS.differ TableS.names TableS.table TableS.inside-of TableS.fields-below TableS.alone TableS.part-of TableS.parts-from TableS.parts TableS.member UpdateS.meet UpdateS.share UpdateS.name-alike UpdateS.named-twice UpdateS.assignments UpdateS.same-place UpdateS.assigned UpdateS.to-field UpdateS.to-part UpdateS.highest-occurrence UpdateS.highest-value UpdateS.bare-only UpdateS.new-value-count UpdateS.new-group-count UpdateS.new-value UpdateS.update-plan UpdateS.after-update UseS.value-items UseS.items-of UseS.items UseS.find-from UseS.find UseS.format-in-effect UseS.length-in-effect UseS.asked UseS.as-stored UseS.in-order UseS.spread UseS.last-index UseS.indexes-after UseS.plain UseS.use-of-group UseS.use-of-field UseS.use-of-count UseS.fields-to UseS.use-of-series UseS.use-of UseS.uses ValuesS.allowed ValuesS.signed ValuesS.strip ValuesS.halves ValuesS.pairs ValuesS.accepted-plus ValuesS.accepted-minus ValuesS.sign-means ValuesS.decimal ValuesS.twos-complement ValuesS.meaning ValuesS.sign-written ValuesS.zoned ValuesS.normal ValuesS.null-value ValuesS.null ValuesS.first-value ValuesS.content ValuesS.with-length-byte ValuesS.in-normal-form ValuesS.conversion ValuesS.converts ValuesS.in-range ValuesS.converted ValuesS.converted-bytes
 passes (reads f room a) = same-answer (read job-table job-record f room) a
 passes (updates f buffer a) = same-answer (update job-table job-record f buffer longest-new-record) a
 

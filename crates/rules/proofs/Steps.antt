@@ -6,7 +6,7 @@ use mathlib.Core.Option.{Option, none, some}
 use Prim.Native.Nat.{ℕ}
 use native.Mathlib.Omega.{arith}
 use lib.Dec.{T, eqb, eqb→eq, eqb-refl}
-use Rattle.rules.specs.Outcome.{Outcome, done, refused, _>>=_, need, as-number, is-done}
+use Rattle.rules.specs.Outcome.{Outcome, done, refused, _>>=_, need, refused-as, is-done}
 use Rattle.rules.specs.Lists.{same, nothing}
 
 pub done-inj : {A : Type 0} {a b : A} → done a ≡ done b → a ≡ b
@@ -26,9 +26,9 @@ pub need-done : (t : Bool) (n : ℕ) {u : Unit {0}} → need t n ≡ done u → 
 need-done true n p = tt
 need-done false n p = absurd (not-done p)
 
-pub as-number-done : {A : Type 0} (n : ℕ) (m : Outcome A) {a : A} → as-number n m ≡ done a → m ≡ done a
-as-number-done n (done a) p = p
-as-number-done n (refused k) p = absurd (not-done p)
+pub refused-as-done : {A : Type 0} (n : ℕ) (m : Outcome A) {a : A} → refused-as n m ≡ done a → m ≡ done a
+refused-as-done n (done a) p = p
+refused-as-done n (refused k) p = absurd (not-done p)
 
 pub and-left : (a b : Bool) → T (a && b) → T a
 and-left true b t = tt
@@ -61,7 +61,7 @@ pub from-need : {B C : Type 0} (t : Bool) (n : ℕ) (f : Unit {0} → Outcome B)
 from-need true n f p k = k tt p
 from-need false n f p k = absurd (not-done p)
 
-pub from-as : {A B C : Type 0} (n : ℕ) (m : Outcome A) (f : A → Outcome B) {b : B} → (as-number n m >>= f) ≡ done b → ((a : A) → m ≡ done a → f a ≡ done b → C) → C
+pub from-as : {A B C : Type 0} (n : ℕ) (m : Outcome A) (f : A → Outcome B) {b : B} → (refused-as n m >>= f) ≡ done b → ((a : A) → m ≡ done a → f a ≡ done b → C) → C
 from-as n (done a) f p k = k a refl p
 from-as n (refused j) f p k = absurd (not-done p)
 

@@ -61,7 +61,7 @@ plain-single (f ∷ fs) t =
 abbrev pub field-names : List Field → List ℕ
 field-names fs = map (λ f. f .name) fs
 
--- The fields of a group, and of a series, have names of different entries; what is found, and all behind it, are entries.
+-- The fields of a group, and of a series, have names of different entries; what is found, and all after it, are entries.
 pub below-picked : (level : ℕ) (es : List Entry) → Picked (field-names (fields-below level es)) (names es)
 unfolding fields-below names
 below-picked level [] = nothing-left

@@ -81,7 +81,7 @@ closing r (b ∷ bs) = do
   _ ← need (eqb b close-parenthesis && nothing bs) 3
   done r
 
--- Behind `(`: `k)` or `k-l)`.
+-- After `(`: `k)` or `k-l)`.
 unfoldable pub parenthesis : Bytes → Outcome Range
 parenthesis bs = do
   k ← number-first bs
@@ -93,7 +93,7 @@ parenthesis bs = do
     ]
   ]
 
--- Behind a name and `i` or `i-j`: nothing, or `(k)` or `(k-l)`.
+-- After a name and `i` or `i-j`: nothing, or `(k)` or `(k-l)`.
 unfoldable pub after-range : ℕ → Range → Bytes → Outcome Element
 after-range n r [] = done (named n (some r) none none none)
 after-range n r (b ∷ bs) = do
@@ -101,7 +101,7 @@ after-range n r (b ∷ bs) = do
   v ← parenthesis bs
   done (named n (some r) (some v) none none)
 
--- Behind a name and `i`: nothing, `C`, `-j`, or a parenthesis.
+-- After a name and `i`: nothing, `C`, `-j`, or a parenthesis.
 unfoldable pub after-index : ℕ → ℕ → Bytes → Outcome Element
 after-index n i [] = done (named n (some (record { from = i; upto = i })) none none none)
 after-index n i (b ∷ bs) =
@@ -113,7 +113,7 @@ after-index n i (b ∷ bs) =
       ]
     ]
 
--- Behind `name-`: a name and nothing more.
+-- After `name-`: a name and nothing more.
 unfoldable pub series-to : ℕ → Bytes → Outcome Element
 series-to n [] = refused 3
 series-to n (a ∷ []) = refused 3
@@ -121,7 +121,7 @@ series-to n (a ∷ b ∷ bs) = do
   _ ← need (is-name a b && nothing bs) 3
   done (series n (name-of a b))
 
--- Behind a name: nothing, `C`, `-name`, or an index.
+-- After a name: nothing, `C`, `-name`, or an index.
 unfoldable pub after-name : ℕ → Bytes → Outcome Element
 after-name n [] = done (named n none none none none)
 after-name n (b ∷ bs) =
@@ -138,7 +138,7 @@ override-letters = letter-A ∷ letter-B ∷ letter-F ∷ letter-G ∷ letter-P 
 unfoldable pub is-override : ℕ → Bool
 is-override b = any (eqb b) override-letters
 
--- Behind a number at the start: nothing, which makes it a length (0 to 255); or `X`, which makes it blanks (1 to 255).
+-- After a number at the start: nothing, which makes it a length (0 to 255); or `X`, which makes it blanks (1 to 255).
 unfoldable pub after-number : ℕ → Bytes → Outcome Piece
 after-number n [] = do
   _ ← need (leb n greatest-length) 3
@@ -147,7 +147,7 @@ after-number n (b ∷ bs) = do
   _ ← need (eqb b letter-X && nothing bs && leb 1 n && leb n longest-blanks) 3
   done (element (blanks n))
 
--- Behind an apostrophe: "text of 1 to 255 bytes but 7D", and an apostrophe.
+-- After an apostrophe: "text of 1 to 255 bytes but 7D", and an apostrophe.
 unfoldable pub text-piece : Bytes → Outcome Piece
 text-piece bs = do
   _ ← need (eqb (last bs) apostrophe && all (λ b. not (eqb b apostrophe)) (but-last bs)) 3
@@ -173,7 +173,7 @@ piece (a ∷ b ∷ bs) =
       ]
     ]
 
--- The elements behind a place, and a length and a format right behind it that want the name they belong to.
+-- The elements after a place, and a length and a format right after it that want the name they belong to.
 pub record Pending : Type 0 where
   pub size : Option ℕ
   pub format : Option ℕ
@@ -190,7 +190,7 @@ completed (quoted t) p = need (settled p) 3 >>= λ _. done (quoted t)
 completed (count n i) p = need (settled p) 3 >>= λ _. done (count n i)
 completed (series n m) p = need (settled p) 3 >>= λ _. done (series n m)
 
--- A piece before what stands behind it: an element, a length before a format or alone, a format.
+-- A piece before what stands after it: an element, a length before a format or alone, a format.
 unfoldable pub put-before : Piece → Pending → Outcome Pending
 put-before (element e) p = do
   x ← completed e p

@@ -66,7 +66,7 @@ cut k zero bs = done ([], bs)
 cut k (suc n) [] = refused k
 cut k (suc n) (b ∷ bs) = cut k n bs >>= λ r. done (b ∷ r .0, r .1)
 
--- The number that digits spell in a base, behind what stands before them.
+-- The number that digits spell in a base, after what stands before them.
 unfoldable pub spelled : ℕ → List ℕ → ℕ → ℕ
 spelled base [] before = before
 spelled base (d ∷ ds) before = spelled base ds (before * base + d)

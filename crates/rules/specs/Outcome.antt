@@ -18,9 +18,9 @@ need true n = done tt
 need false n = refused n
 
 -- Any refusal becomes the number n.
-abbrev pub as-number : {A : Type 0} → ℕ → Outcome A → Outcome A
-as-number n (done a) = done a
-as-number n (refused m) = refused n
+abbrev pub refused-as : {A : Type 0} → ℕ → Outcome A → Outcome A
+refused-as n (done a) = done a
+refused-as n (refused m) = refused n
 
 -- Whether it was done.
 abbrev pub is-done : {A : Type 0} → Outcome A → Bool

@@ -5,7 +5,7 @@ use mathlib.Core.Option.{Option, none, some}
 use Prim.Native.Nat.{ℕ, zero, suc, pred, _+_}
 use lib.Dec.{eqb, leb}
 use lib.ListN.{length, take, drop, getD}
-use Rattle.rules.specs.Outcome.{Outcome, done, refused, _>>=_, need, as-number}
+use Rattle.rules.specs.Outcome.{Outcome, done, refused, _>>=_, need, refused-as}
 use Rattle.rules.specs.Limits.{greatest-count, longest-record, record-head-size}
 use Rattle.rules.specs.Lists.{Bytes, nothing, same, join, run}
 use Rattle.rules.specs.Values.{Format, first-value, with-length-byte, in-normal-form, null}
@@ -63,7 +63,7 @@ each one (y ∷ ys) bs = do
 -- "Every value has the field's standard length and is in normal form."
 unfoldable pub stored-value : Format → ℕ → Reader Bytes
 stored-value f n bs = do
-  r ← as-number 2 (first-value n bs)
+  r ← refused-as 2 (first-value n bs)
   _ ← need (in-normal-form f n (r .0)) 2
   done (with-length-byte n (r .0), r .1)
 

@@ -108,7 +108,7 @@ inside-of before level (group p) = p || (before && ltb 1 level)
 abbrev pub is-inside : Bool → Entry → Bool
 is-inside before e = inside-of before (e .level) (e .what)
 
--- The fields of a group of a level, from the entries behind it: those before the next entry that is not deeper.
+-- The fields of a group of a level, from the entries after it: those before the next entry that is not deeper.
 unfoldable pub fields-below : ℕ → List Entry → List Field
 fields-below level [] = []
 fields-below level (e ∷ es) = elim (ltb level (e .level)) [
@@ -128,7 +128,7 @@ pub record Part : Type 0 where
 unfoldable pub alone : Field → Part
 alone f = record { name = f .name; periodic = false; members = f ∷ [] }
 
--- An entry before the parts behind it. "Another group adds no bytes", and a field in a periodic group stands in that group's part.
+-- An entry before the parts after it. "Another group adds no bytes", and a field in a periodic group stands in that group's part.
 unfoldable pub part-of : Bool → ℕ → What → List Entry → List Part → List Part
 part-of inside name (group true) es ps = record { name = name; periodic = true; members = fields-below 1 es } ∷ ps
 part-of inside name (group false) es ps = ps

@@ -7,7 +7,7 @@ use lib.Dec.{eqb, leb, ltb}
 use lib.ListN.{length}
 use Rattle.rules.specs.Outcome.{Outcome, done, refused, _>>=_}
 use Rattle.rules.specs.Lists.{Bytes, absent, all, any, filter, maximum, cut}
-use Rattle.rules.specs.Values.{carried, first-value}
+use Rattle.rules.specs.Values.{converted-bytes, first-value}
 use Rattle.rules.specs.Table.{Field, Part, member}
 use Rattle.rules.specs.Record.{Record, value-at, value-count-at, Plan, laid-out, count-or-one}
 use Rattle.rules.specs.Format.{Range}
@@ -49,7 +49,7 @@ assignments (group-count n ∷ xs) bs = cut 7 1 bs >>= λ r. assignments xs (r .
 assignments (value-count n i ∷ xs) bs = cut 7 1 bs >>= λ r. assignments xs (r .1)
 assignments (value-item p g n bare ∷ xs) bs = do
   r ← first-value n bs
-  w ← carried g (p .field .format) (p .field .size) (r .0)
+  w ← converted-bytes g (p .field .format) (p .field .size) (r .0)
   ws ← assignments xs (r .1)
   done (record { place = p; bare = bare; bytes = w } ∷ ws)
 

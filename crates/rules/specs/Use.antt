@@ -53,7 +53,7 @@ items-of (values fs os vs bare) = value-items fs os vs bare
 unfoldable pub items : List Use → List Item
 items us = join (map items-of us)
 
--- An entry by its name: whether it is a periodic group or in one, and the entries behind it. 4 where there is none.
+-- An entry by its name: whether it is a periodic group or in one, and the entries after it. 4 where there is none.
 pub record Found : Type 0 where
   pub entry : Entry
   pub inside : Bool
@@ -189,7 +189,7 @@ use-of-series x n = elim (x .entry .what) [
     done (values (map as-stored fs) (just 1) (just 1) false)
 ]
 
--- What an element means, behind the indexes so far.
+-- What an element means, after the indexes so far.
 unfoldable pub use-of : List Entry → Indexes → Element → Outcome Use
 use-of es ls (blanks n) = done (one (blanks-item n))
 use-of es ls (quoted t) = done (one (text-item t))

@@ -69,11 +69,11 @@ decimal ds s = do
   below ← sign-means s
   done (signed below (spelled 10 ds 0))
 
--- "F is two's complement": n in so many bytes.
+-- "F is two's complement": the number whose bits, in `size` bytes, spell n.
 unfoldable pub twos-complement : ℕ → ℕ → Value
 twos-complement size n = elim (ltb n (2 ^ (8 * size - 1))) [ true ↦ number false n | false ↦ number true (2 ^ (8 * size) - n) ]
 
--- Column "Meaning": what bytes mean; of a value of length 0, the bytes behind its length byte. 8 where they mean nothing.
+-- Column "Meaning": what bytes mean; of a value of length 0, the bytes after its length byte. 8 where they mean nothing.
 unfoldable pub meaning : Format → Bytes → Outcome Value
 meaning alpha bs = done (text (strip bs))
 meaning binary bs = done (number false (spelled 256 bs 0))
@@ -214,7 +214,7 @@ converted f g n v = do
   normal g n v
 
 -- What the bytes of a value of format f, without their length byte, give at format g and length n: 8 where they mean nothing, then 9.
-unfoldable pub carried : Format → Format → ℕ → Bytes → Outcome Bytes
-carried f g n bs = do
+unfoldable pub converted-bytes : Format → Format → ℕ → Bytes → Outcome Bytes
+converted-bytes f g n bs = do
   v ← meaning f bs
   converted f g n v

@@ -21,7 +21,7 @@ use Rattle.tables.proofs.Bools.{or-false}
 use Rattle.rules.proofs.Steps.{from-bind, from-need, done-inj, not-done, by-test, by-option, T-true, and-left, and-right}
 use Rattle.tables.specs.Entries.{blank, entry-place, letter-number, decoded, entry-of-bytes, group-letter, is-group, format-number, size-of, is-multiple, is-periodic, bytes-at}
 use Rattle.tables.specs.Validity.{right-of}
-use Rattle.kinds.proofs.Letters.{number-small, letter-some, letter-none}
+use Rattle.value_formats.proofs.Letters.{number-small, letter-some, letter-none}
 
 -- ---- names
 

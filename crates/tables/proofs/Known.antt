@@ -16,7 +16,7 @@ use Rattle.tables.specs.Groups.{group-end}
 use Rattle.tables.proofs.Names.{one-name, find-name}
 use Rattle.tables.proofs.Nesting.{level-range, group-next}
 use Rattle.tables.proofs.Partings.{parts-periodic, parts-members}
-use Rattle.kinds.proofs.Letters.{number-back, number-small}
+use Rattle.value_formats.proofs.Letters.{number-back, number-small}
 use Rattle.tables.proofs.EntryBytes.{Sound}
 use Rattle.tables.proofs.Bools.{clash}
 use Rattle.tables.proofs.Tables.{valid-levels, valid-names, valid-sound}
@@ -55,7 +55,7 @@ module _ (t : Bytes) (v : Valid t) where
         → (suc i < length (entries-of t)) × (getD (entries-of t) (suc i) blank .level ≡ suc (getD (entries-of t) i blank .level))
     member-next = group-next (entries-of t) (valid-levels t v) i h
 
-    -- the part of a periodic group, and then those behind its members
+    -- the part of a periodic group, and then those after its members
     pub periodic-part : (b : Bool) → getD (entries-of t) i blank .what ≡ group true
         → parts-from b (drop i (entries-of t))
         ≡ record { name = getD (entries-of t) i blank .name; periodic = true; members = fields-below 1 (drop (i + 1) (entries-of t)) }

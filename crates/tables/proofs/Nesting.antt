@@ -312,7 +312,7 @@ pub numbers-each : (es : List Entry) (l at k : ℕ) → at ≤ length es → k <
     → Member es l at (getD (numbers-below l at (drop at es)) k 0)
 numbers-each es l at k h = each-from es l at (length es - at) k (omega arith)
 
--- ---- the walk to the number behind a group's members
+-- ---- the walk to the number after a group's members
 module _ (es : List Entry) (l i : ℕ) where
   pub end-start : l ≡ getD es i blank .level → i + 1 + run-below l (drop (i + 1) es) ≡ group-end es i
   unfolding group-end

@@ -66,7 +66,7 @@ module _ (es : List Entry) (level at count : ℕ) (before : List ℕ) where
         same = y .same ∙ x .same;
       }
 
--- the walk from the entry behind group i, as its expansion
+-- the walk from the entry after group i, as its expansion
 pub expanded : (es : List Entry) (i : ℕ) (before after : List ℕ) (r : Expansion) → Expanded es (getD es i blank .level) (i + 1) 0 before after r
     → Fields-of es i before after (r .count)
 expanded es i before after r x =

@@ -10,8 +10,8 @@ use Rattle.rules.specs.Limits.{formats, table-head-size, entry-size}
 use Rattle.rules.specs.Lists.{Bytes}
 use Rattle.rules.specs.Characters.{space}
 use Rattle.rules.specs.Table.{What, field, group, Entry, name-of, table}
-unfoldable pub use Rattle.kinds.specs.Formats.{format-at, letter-number}
-pub use Rattle.kinds.specs.Formats.{number-of}
+unfoldable pub use Rattle.value_formats.specs.Formats.{format-at, letter-number}
+pub use Rattle.value_formats.specs.Formats.{number-of}
 use Rattle.tables.specs.declared.Entry.{Entry as Decoded}
 
 -- The entries of an outcome: none where it was refused.

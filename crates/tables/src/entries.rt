@@ -61,7 +61,7 @@ fn decode(t: &[u8], i: usize) -> Entry
     Entry {
         name: name_at(t, i),
         level: entry_byte(t, i, LEVEL),
-        format: kinds::format_number(entry_byte(t, i, FORMAT)) as u8,
+        format: value_formats::format_number(entry_byte(t, i, FORMAT)) as u8,
         size: entry_byte(t, i, SIZE),
         multiple: option == MULTIPLE,
         periodic: option == PERIODIC,

@@ -34,11 +34,11 @@ fn group_right(level: u8, letter: u8, size: u8, option: u8) -> bool
 fn what_right(level: u8, letter: u8, size: u8, option: u8) -> bool
     ensures { λ r. ⌜ r ≡ is-done (what-of level letter size option) ⌝ }
 {
-    let format = kinds::format_number(letter);
+    let format = value_formats::format_number(letter);
     if format == rules::FORMATS {
         return group_right(level, letter, size, option);
     }
-    if kinds::allowed(format, size as usize) {
+    if value_formats::allowed(format, size as usize) {
         return option <= entries::MULTIPLE;
     }
     false

@@ -15,12 +15,12 @@ use Rattle.rules.specs.Format as rules
 use Rattle.rules.specs.Format.{elements}
 use Rattle.rules.specs.Use.{Use as Meaning, Indexes, indexes-after, use-of, uses}
 use Rattle.rules.proofs.Steps.{from-bind, done-inj, not-done}
-use Rattle.formats.specs.Elements.{element-of}
-use Rattle.formats.specs.Syntax.{parsed, element-before as put, elements-behind, Stepped}
-use Rattle.formats.specs.declared.Element.{Element}
-use Rattle.formats.specs.declared.syntax.Step.{Step}
-use Rattle.formats.specs.declared.syntax.Step.the-variants as step
-use Rattle.formats.proofs.StepLaws.{behind-last, behind-more}
+use Rattle.format_buffer.specs.Elements.{element-of}
+use Rattle.format_buffer.specs.Syntax.{parsed, element-before as put, elements-behind, Stepped}
+use Rattle.format_buffer.specs.declared.Element.{Element}
+use Rattle.format_buffer.specs.declared.syntax.Step.{Step}
+use Rattle.format_buffer.specs.declared.syntax.Step.the-variants as step
+use Rattle.format_buffer.proofs.StepLaws.{behind-last, behind-more}
 use Rattle.uses.specs.Meant.{use-meant, Means, indexes-kept, Remembered, uses-of}
 use Rattle.uses.specs.Ahead.{Ahead, Nexts}
 use Rattle.uses.specs.declared.Use.{Use}

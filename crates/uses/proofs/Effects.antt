@@ -10,8 +10,8 @@ use Rattle.rules.specs.Limits.{formats}
 use Rattle.rules.specs.Values.{allowed, converts}
 use Rattle.rules.specs.Table.{Field, format-of}
 use Rattle.rules.specs.Use.{format-in-effect, length-in-effect, Asked, asked}
-use Rattle.kinds.specs.Formats.{format-at, letter-number, number-of}
-use Rattle.kinds.proofs.Letters.{number-back, number-small, letter-some, letter-none}
+use Rattle.value_formats.specs.Formats.{format-at, letter-number, number-of}
+use Rattle.value_formats.proofs.Letters.{number-back, number-small, letter-some, letter-none}
 use Rattle.rules.proofs.Steps.{by-option, from-need, done-inj, not-done, T-true}
 use Rattle.tables.proofs.Bools.{and-both}
 use Rattle.uses.specs.Effect.{numbered}

@@ -1,4 +1,4 @@
--- An entry as a field, the fields of a group by the entries behind it, and those of a series.
+-- An entry as a field, the fields of a group by the entries after it, and those of a series.
 use mathlib.Core.Path.{_≡_, refl, sym, ap, _∙_}
 use mathlib.Core.Bool.{Bool, true, false, not, _&&_}
 use mathlib.Core.List.{List, [], _∷_, map}
@@ -15,14 +15,14 @@ use Rattle.rules.specs.Table.{What, field, group, Field, Entry, fields-below}
 use Rattle.rules.specs.Use.{plain, as-stored, fields-to}
 use Rattle.rules.proofs.Steps.{by-test, true-T}
 use Rattle.rules.proofs.Uses.{by-what, Single, plain-single, to-picked}
-use Rattle.kinds.specs.Formats.{format-at}
+use Rattle.value_formats.specs.Formats.{format-at}
 use Rattle.tables.specs.Entries.{blank, is-group, is-multiple, size-of, format-number}
 use Rattle.tables.specs.Groups.{run-below, group-end, field-by, field-at, with-field, fields-in}
 use Rattle.tables.proofs.Bools.{clash}
 use Rattle.tables.proofs.EntryFields.{no-fields, first-field}
 use Rattle.tables.proofs.Nesting.{below-deeper, below-ends, below-nil, run-nil, run-deeper, run-ends, run-short}
 use Rattle.uses.specs.Meant.{fields-from}
-use Rattle.kinds.proofs.Letters.{number-back, number-small}
+use Rattle.value_formats.proofs.Letters.{number-back, number-small}
 
 -- What a field's entry says of it.
 multiple-by : (n : ℕ) (w : What) → field-by n w .multiple ≡ is-multiple w
@@ -54,7 +54,7 @@ module _ (es : List Entry) (i : ℕ) where
   unfolding field-at
   format-of-field e = format-by (getD es i blank .name) (getD es i blank .what) e
 
--- The fields of a group stand among the entries behind it that are deeper.
+-- The fields of a group stand among the entries after it that are deeper.
 below-run : (l : ℕ) (es : List Entry) → fields-below l es ≡ fields-in (take (run-below l es) es)
 below-run l [] = rw (run-nil l, below-nil l) (sym no-fields)
 below-run l (e ∷ es) =

@@ -20,9 +20,9 @@ use Rattle.tables.specs.Entries.{blank, is-group}
 use Rattle.tables.specs.Places.{inside-at, found-at}
 use Rattle.tables.specs.Groups.{field-by, field-at}
 use Rattle.tables.proofs.Bools.{clash}
-use Rattle.formats.specs.declared.Named.{Named}
-use Rattle.formats.specs.declared.Count.{Count}
-use Rattle.formats.specs.declared.Element.the-variants as element
+use Rattle.format_buffer.specs.declared.Named.{Named}
+use Rattle.format_buffer.specs.declared.Count.{Count}
+use Rattle.format_buffer.specs.declared.Element.the-variants as element
 use Rattle.uses.specs.Meant.{Settles, Means, field-use, group-use, count-use, series-use}
 use Rattle.uses.specs.declared.Use.the-variants as code
 use Rattle.uses.specs.declared.Meant.{Meant}

@@ -1,4 +1,4 @@
--- The spans kept in an area: one that is kept behind others leaves those as they are, and names what it named.
+-- The spans kept in an area: one that is kept after others leaves those as they are, and names what it named.
 use mathlib.Core.Path.{_≡_, refl, sym, ap, _∙_}
 use mathlib.Core.Bool.{Bool, true, false, _||_}
 use mathlib.Core.List.{List, [], _∷_}
@@ -13,8 +13,8 @@ use Rattle.rules.specs.Table.{Entry}
 use Rattle.rules.specs.Use as rules
 use Rattle.rules.specs.Update.{name-alike}
 use Rattle.buffer.proofs.Cases.{by-order}
-use Rattle.formats.specs.Elements.{range}
-use Rattle.uses.specs.Meant.{use-meant, Span-held, Span-known}
+use Rattle.format_buffer.specs.Elements.{range}
+use Rattle.uses.specs.Meant.{use-meant, Good-span, Good-span-of}
 use Rattle.uses.specs.Twice.{numbers, Small-span, small, numbered-use, kept-use, met-before, Keeps-use}
 use Rattle.uses.specs.declared.Span.{Span}
 use Rattle.uses.specs.declared.Use.{Use}
@@ -122,13 +122,13 @@ pub keeps-none : (u : Use) (count : ℕ) (l : List ℕ) → ((es : List Entry) (
 keeps-none u count l e = record { same = refl; more = omega arith; ends = λ es k h. h; met = λ es f v k. rw (e es f v) }
 
 -- The numbers of a span are small.
-span-small : {es : List Entry} {s : Span} → length es ≤ most-entries → Span-held es s → Small-span s
+span-small : {es : List Entry} {s : Span} → length es ≤ most-entries → Good-span es s → Small-span s
 span-small {es} {s} l h =
     let o = ordered-within (range (s .from) (s .upto)) (h .occurrences) in
     let v = ordered-within (range (s .«value_from») (s .«value_upto»)) (h .values) in
     (omega (arith, h .ordered, h .upto), omega (arith, h .upto), omega (arith, o .1, o .2), omega (arith, o .2), omega (arith, v .1, v .2), omega (arith, v .2))
 
-pub use-small : (es : List Entry) (u : Use) → length es ≤ most-entries → Span-known es u → small u
+pub use-small : (es : List Entry) (u : Use) → length es ≤ most-entries → Good-span-of es u → small u
 use-small es (code.Blanks n) l h = tt
 use-small es (code.Text from upto) l h = tt
 use-small es (code.GroupCount i) l h = tt

@@ -1,4 +1,4 @@
--- The last index so far of each entry, behind a span.
+-- The last index so far of each entry, after a span.
 use mathlib.Core.Path.{_≡_, refl, sym, ap, _∙_}
 use mathlib.Core.Bool.{Bool, true, false}
 use mathlib.Core.List.{List, [], _∷_, map}
@@ -16,7 +16,7 @@ use Rattle.tables.specs.Entries.{blank}
 use Rattle.tables.specs.Groups.{field-at}
 use Rattle.tables.proofs.EntryFields.{name-at}
 use Rattle.tables.proofs.Bools.{clash}
-use Rattle.uses.specs.Meant.{use-meant, asked-by, Span-held, Remembers, Remembered}
+use Rattle.uses.specs.Meant.{use-meant, asked-by, Good-span, Remembers, Remembered}
 use Rattle.uses.specs.declared.Span.{Span}
 use Rattle.uses.specs.declared.Use.{Use}
 use Rattle.uses.specs.declared.Use.the-variants.{Values}
@@ -26,7 +26,7 @@ abbrev marks : ℕ → List Asked → Indexes
 marks v fs = map (λ a. (a .field .name, v)) (filter (λ a. a .field .multiple) fs)
 
 module _ (es : List Entry) (s : Span) (v : ℕ) where
-  stored-marks : Span-held es s → (b : Bool) → b ≡ s .standard → b ≡ true → marks v (asked-by es b s) ≡ []
+  stored-marks : Good-span es s → (b : Bool) → b ≡ s .standard → b ≡ true → marks v (asked-by es b s) ≡ []
   stored-marks h true e q = rw (h .single (sym e))
   stored-marks h false e q = clash (sym q)
 
@@ -63,7 +63,7 @@ module _ (es : List Entry) (s : Span) (last : List ℕ) where
   unfolding indexes-after
   same-indexes e = record { same = refl; indexes = λ f ls r. rw (e (s .«value_upto»)) r }
 
-  pub stored-remembered : Span-held es s → s .standard ≡ true → Remembered es (Values s) last last
+  pub stored-remembered : Good-span es s → s .standard ≡ true → Remembered es (Values s) last last
   stored-remembered h q = same-indexes (λ v. stored-marks es s v h (s .standard) refl q)
 
   pub single-remembered : s .standard ≡ false → field-at es (s .first) .multiple ≡ false → Remembered es (Values s) last last
@@ -78,7 +78,7 @@ module _ (es : List Entry) (s : Span) (last : List ℕ) where
     indexes = λ f ls r. rw (one-mark es s (s .«value_upto») (s .standard) q m) (remembers-set es last (s .first) (s .«value_upto») h u ls r);
   }
 
--- What is kept behind the index of the last entry is no entry's index.
+-- What is kept after the index of the last entry is no entry's index.
 pub behind-remembered : (es : List Entry) (u : Use) (last after : List ℕ) (n v : ℕ) → length es ≤ n
     → Remembered es u (set last n v) after → Remembered es u last after
 behind-remembered es u last after n v h r = record {

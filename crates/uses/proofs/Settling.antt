@@ -25,7 +25,7 @@ use Rattle.tables.specs.Places.{inside-at, found-at}
 use Rattle.tables.specs.Groups.{field-at, fields-in, group-end}
 use Rattle.tables.proofs.Bools.{clash}
 use Rattle.tables.proofs.EntryFields.{field-periodic}
-use Rattle.formats.specs.declared.Named.{Named}
+use Rattle.format_buffer.specs.declared.Named.{Named}
 use Rattle.uses.specs.Spread.{occurrences, bracket, spread-of}
 use Rattle.uses.specs.Effect.{length-given, letter-given, asked-at}
 use Rattle.uses.specs.Meant.{fields-from, Settles, field-use, group-use, series-use, field-span, stored-span}

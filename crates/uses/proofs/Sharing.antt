@@ -17,8 +17,8 @@ use Rattle.tables.specs.Entries.{blank, is-group}
 use Rattle.tables.specs.Groups.{field-at}
 use Rattle.tables.proofs.EntryFields.{name-at}
 use Rattle.tables.proofs.Bools.{clash, and-true, and-false, or-true}
-use Rattle.formats.specs.Elements.{range}
-use Rattle.uses.specs.Meant.{fields-from, asked-of, use-meant, Span-held}
+use Rattle.format_buffer.specs.Elements.{range}
+use Rattle.uses.specs.Meant.{fields-from, asked-of, use-meant, Good-span}
 use Rattle.uses.specs.Twice.{stored-fields, numbered-use, kept-use, Kept-alike}
 use Rattle.uses.specs.declared.Span.{Span}
 use Rattle.uses.specs.declared.Use.the-variants.{Values}
@@ -123,7 +123,7 @@ module _ {es : List Entry} {first low i : ℕ} (w : Apart es first low i) where
         (λ t. t)
 
 -- A span that is one field is that entry alone, and its field is compared by its name.
-module _ (es : List Entry) (s : Span) (h : Span-held es s) where
+module _ (es : List Entry) (s : Span) (h : Good-span es s) where
   only : s .standard ≡ false → fields-from es (s .first) (s .end) ≡ field-at es (s .first) ∷ []
   only e =
       let a = h .alone e in
@@ -145,7 +145,7 @@ module _ (es : List Entry) (s : Span) (h : Span-held es s) where
       (λ e. ap (share fs) (asked-one es s (s .standard) e) ∙ rw (only e))
 
 -- What a span kept and another name in common, by the entries and the two pairs of ranges.
-module _ {es : List Entry} {s : Span} (h : Span-held es s) (kept : Bytes) (at : ℕ) where
+module _ {es : List Entry} {s : Span} (h : Good-span es s) (kept : Bytes) (at : ℕ) where
   abbrev fields-met : Bool
   fields-met = share (stored-fields es (getD kept at 0) (getD kept (at + 1) 0)) (stored-fields es (s .first) (s .end))
 
@@ -170,7 +170,7 @@ module _ {es : List Entry} {s : Span} (h : Span-held es s) (kept : Bytes) (at : 
     occurrences-apart p x f = sym (spans-met f ∙ rw (sym p ∙ x, and-false fields-met))
 
 -- The numbers that are kept of a span name what it names.
-pub numbered-alike : {es : List Entry} {s : Span} → Span-held es s → (f : Bytes) (v : rules.Use)
+pub numbered-alike : {es : List Entry} {s : Span} → Good-span es s → (f : Bytes) (v : rules.Use)
     → name-alike (numbered-use es (s .first) (s .end) (s .from) (s .upto) (s .«value_from») (s .«value_upto»)) v ≡ name-alike (use-meant es f (Values s)) v
 unfolding name-alike
 numbered-alike {es} {s} h f (rules.one x) = refl

@@ -13,7 +13,7 @@ use Rattle.rules.specs.Use.{as-stored, value-items, items-of}
 use Rattle.tables.specs.Entries.{blank, is-group}
 use Rattle.tables.specs.Groups.{field-by, field-at, with-field}
 use Rattle.tables.proofs.Bools.{clash}
-use Rattle.formats.specs.Elements.{range}
+use Rattle.format_buffer.specs.Elements.{range}
 use Rattle.uses.specs.Meant.{asked-by, asked-of, fields-from, use-meant}
 use Rattle.uses.specs.declared.Span.{Span}
 use Rattle.uses.specs.declared.Use.the-variants.{Values}

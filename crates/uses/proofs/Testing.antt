@@ -17,12 +17,12 @@ use Rattle.rules.specs.Format.{elements}
 use Rattle.rules.specs.Use as rules-use
 use Rattle.rules.specs.Use.{Indexes, last-index, indexes-after, use-of, uses}
 use Rattle.rules.proofs.Steps.{from-bind, from-need, from-is-done, done-inj, not-done}
-use Rattle.formats.specs.Elements.{element-of}
-use Rattle.formats.specs.Syntax.{parsed, element-before, elements-behind, by-step}
-use Rattle.formats.specs.declared.Element.{Element}
-use Rattle.formats.specs.declared.syntax.Step.the-variants.{At, Bad}
-use Rattle.formats.proofs.StepLaws.{behind-last, behind-more}
-use Rattle.uses.specs.Meant.{use-meant, Means, indexes-kept, Remembers, Remembered, Tested, uses-of, Use-held, Span-known}
+use Rattle.format_buffer.specs.Elements.{element-of}
+use Rattle.format_buffer.specs.Syntax.{parsed, element-before, elements-behind, by-step}
+use Rattle.format_buffer.specs.declared.Element.{Element}
+use Rattle.format_buffer.specs.declared.syntax.Step.the-variants.{At, Bad}
+use Rattle.format_buffer.proofs.StepLaws.{behind-last, behind-more}
+use Rattle.uses.specs.Meant.{use-meant, Means, indexes-kept, Remembers, Remembered, Tested, uses-of, Good-use, Good-span-of}
 use Rattle.uses.specs.declared.Use.{Use}
 use Rattle.uses.specs.declared.Use.the-variants as code
 use Rattle.uses.specs.declared.Meant.the-variants as meant
@@ -86,7 +86,7 @@ module _ (es : List Entry) (f : Bytes) where
     pub testing-bad : parsed (drop at f) ≡ by-step f Bad → ⊥
     testing-bad p = not-done (sym p ∙ w .parsed)
 
-    -- The first element, and those behind it.
+    -- The first element, and those after it.
     module _ (e : Element) (stop : ℕ) (p : parsed (drop at f) ≡ by-step f (At e stop)) where
       pub testing-refused : (y : Refusal) → Means es last e (meant.Refused y) → Tested (uses-of es f) (Refused y)
       testing-refused y k =
@@ -111,7 +111,7 @@ module _ (es : List Entry) (f : Bytes) where
                   (first-done es (w .indexes) (element-of f e) ys (use-meant es f u) (sym (k .answer f (w .indexes) (w .remembers))) n t));
             }
 
-pub span-known : (es : List Entry) (f : Bytes) (u : Use) → Use-held es f u → Span-known es u
+pub span-known : (es : List Entry) (f : Bytes) (u : Use) → Good-use es f u → Good-span-of es u
 span-known es f (code.Blanks n) h = tt
 span-known es f (code.Text from upto) h = tt
 span-known es f (code.GroupCount i) h = tt

@@ -32,7 +32,7 @@ run-on l (e ∷ es) (suc k) h = by-order l (e .level)
     (λ d. let r = run-deeper l e es d in omega (arith, run-on l es k (omega arith)))
     (λ d. absurd (omega (arith, run-ends l e es d)))
 
--- Group i and the entries behind it.
+-- Group i and the entries after it.
 module _ (t : Bytes) (v : Valid t) (i : ℕ) (h : i < length (entries-of t)) (g : is-group (getD (entries-of t) i blank .what) ≡ true) where
   abbrev es : List Entry
   es = entries-of t

@@ -9,8 +9,8 @@ use Rattle.rules.specs.Table.{Entry}
 use Rattle.rules.specs.Format as rules
 use Rattle.rules.specs.Use as rules-use
 use Rattle.rules.specs.Use.{Indexes, uses}
-use Rattle.formats.specs.Syntax.{parsed}
-use Rattle.uses.specs.Meant.{use-meant, Remembers, Use-held}
+use Rattle.format_buffer.specs.Syntax.{parsed}
+use Rattle.uses.specs.Meant.{use-meant, Remembers, Good-use}
 use Rattle.uses.specs.declared.Use.{Use}
 use Rattle.uses.specs.declared.Turn.{Turn}
 use Rattle.uses.specs.declared.Turn.the-variants.{More, Last, Refused}
@@ -31,8 +31,8 @@ by-next es f after Refused us = ⊥
 
 -- A next step is at a later place, and what is known of a use holds.
 abbrev pub next-known : List Entry → Bytes → ℕ → Turn → Type 0
-next-known es f at (More u place) = (at < place) × (place ≤ length f) × Use-held es f u
-next-known es f at (Last u) = Use-held es f u
+next-known es f at (More u place) = (at < place) × (place ≤ length f) × Good-use es f u
+next-known es f at (Last u) = Good-use es f u
 next-known es f at Refused = Unit {0}
 
 -- A step was made.

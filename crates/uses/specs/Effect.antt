@@ -11,9 +11,9 @@ use Rattle.rules.specs.Limits.{formats}
 use Rattle.rules.specs.Values.{Format}
 use Rattle.rules.specs.Table.{Field}
 use Rattle.rules.specs.Use.{Asked, format-in-effect, length-in-effect, asked}
-use Rattle.kinds.specs.Formats.{format-at}
-use Rattle.formats.specs.Elements.{optional}
-use Rattle.formats.specs.declared.Named.{Named}
+use Rattle.value_formats.specs.Formats.{format-at}
+use Rattle.format_buffer.specs.Elements.{optional}
+use Rattle.format_buffer.specs.declared.Named.{Named}
 use Rattle.uses.specs.declared.effect.Effect.{Effect}
 use Rattle.uses.specs.declared.effect.Effect.the-variants as effect
 

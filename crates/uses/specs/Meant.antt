@@ -14,16 +14,16 @@ use Rattle.rules.specs.Table.{Field, Entry, group}
 use Rattle.rules.specs.Format.{elements}
 use Rattle.rules.specs.Use as rules
 use Rattle.rules.specs.Use.{Asked, plain, as-stored, in-order, Indexes, last-index, use-of}
-use Rattle.kinds.specs.Formats.{format-at}
+use Rattle.value_formats.specs.Formats.{format-at}
 use Rattle.tables.specs.Entries.{blank, is-group, is-multiple, is-periodic}
 use Rattle.tables.specs.Places.{inside-at, found-at, Home}
 use Rattle.tables.specs.Groups.{group-end, field-at, fields-in}
-use Rattle.formats.specs.Part.{part}
-use Rattle.formats.specs.Elements.{optional, range, element-of, sound}
-use Rattle.formats.specs.declared.Named.{Named}
-use Rattle.formats.specs.declared.Count.{Count}
-use Rattle.formats.specs.declared.Element.{Element}
-use Rattle.formats.specs.declared.Element.the-variants as element
+use Rattle.format_buffer.specs.Part.{part}
+use Rattle.format_buffer.specs.Elements.{optional, range, element-of, sound}
+use Rattle.format_buffer.specs.declared.Named.{Named}
+use Rattle.format_buffer.specs.declared.Count.{Count}
+use Rattle.format_buffer.specs.declared.Element.{Element}
+use Rattle.format_buffer.specs.declared.Element.the-variants as element
 use Rattle.uses.specs.Spread.{occurrences, bracket}
 use Rattle.uses.specs.Effect.{length-given, letter-given}
 use Rattle.uses.specs.declared.Span.{Span}
@@ -69,7 +69,7 @@ pub record One-field (es : List Entry) (s : Span) : Type 0 where
   pub converts : converts (field-at es (s .first) .format) (format-at (s .format)) ≡ true
 
 -- What is known of a span, beside what it means: its entries and indexes lie in their bounds, and fields at their standard are not MU.
-pub record Span-held (es : List Entry) (s : Span) : Type 0 where
+pub record Good-span (es : List Entry) (s : Span) : Type 0 where
   pub ordered : s .first < s .end
   pub upto : s .end ≤ length es
   pub occurrences : in-order (range (s .from) (s .upto)) ≡ true
@@ -89,22 +89,22 @@ pub record Span-held (es : List Entry) (s : Span) : Type 0 where
   -- Where it lies in one, they are the members of the group that the entry before the first is.
   pub grouped : s .standard ≡ true → inside-at es (s .first) ≡ true → (i : ℕ) × (s .first ≡ suc i) × (is-group (getD es i blank .what) ≡ true) × (s .end ≡ group-end es i)
 
-abbrev pub Use-held : List Entry → Bytes → Use → Type 0
-Use-held es f (code.Blanks n) = n ≤ longest-blanks
-Use-held es f (code.Text from upto) = (from < upto) × (upto ≤ length f) × (upto ≤ from + longest-text)
-Use-held es f (code.GroupCount i) = (i < length es) × (getD es i blank .what ≡ group true)
-Use-held es f (code.ValueCount i k) =
+abbrev pub Good-use : List Entry → Bytes → Use → Type 0
+Good-use es f (code.Blanks n) = n ≤ longest-blanks
+Good-use es f (code.Text from upto) = (from < upto) × (upto ≤ length f) × (upto ≤ from + longest-text)
+Good-use es f (code.GroupCount i) = (i < length es) × (getD es i blank .what ≡ group true)
+Good-use es f (code.ValueCount i k) =
     (i < length es) × (is-multiple (getD es i blank .what) ≡ true) × (1 ≤ k) × (k ≤ highest-index) × (inside-at es i ≡ false → k ≡ 1)
-Use-held es f (code.Values s) = Span-held es s
+Good-use es f (code.Values s) = Good-span es s
 
-abbrev pub Meant-held : List Entry → Bytes → Meant → Type 0
-Meant-held es f (meant.As u) = Use-held es f u
-Meant-held es f (meant.Refused x) = Unit {0}
+abbrev pub Good-meaning : List Entry → Bytes → Meant → Type 0
+Good-meaning es f (meant.As u) = Good-use es f u
+Good-meaning es f (meant.Refused x) = Unit {0}
 
 -- The answer is the rules' outcome, whatever the format's bytes are.
 pub record Settles (es : List Entry) (o : Outcome rules.Use) (r : Meant) : Type 0 where
   pub answer : (f : Bytes) → outcome-of es f r ≡ o
-  pub held : (f : Bytes) → Meant-held es f r
+  pub held : (f : Bytes) → Good-meaning es f r
 
 -- The rules for a name, a count and a series, by the entries that are named.
 abbrev pub field-use : List Entry → ℕ → ℕ → Named → Outcome rules.Use
@@ -160,7 +160,7 @@ Remembers es last ls = (i : ℕ) → i < length es → getD last i 0 ≡ last-in
 -- What an element means, after the indexes so far.
 pub record Means (es : List Entry) (last : List ℕ) (e : Element) (r : Meant) : Type 0 where
   pub answer : (f : Bytes) (ls : Indexes) → Remembers es last ls → outcome-of es f r ≡ use-of es ls (element-of f e)
-  pub held : (f : Bytes) → sound f e → Meant-held es f r
+  pub held : (f : Bytes) → sound f e → Good-meaning es f r
 
 abbrev pub Name-means : List Entry → List ℕ → Named → Meant → Type 0
 Name-means es last n r = Means es last (element.Named n) r
@@ -173,12 +173,12 @@ abbrev pub Series-means : List Entry → ℕ → ℕ → Meant → Type 0
 Series-means es n m r = (last : List ℕ) → Means es last (element.Series n m) r
 
 -- The span of a use, if it has one, is well formed.
-abbrev pub Span-known : List Entry → Use → Type 0
-Span-known es (code.Blanks n) = Unit {0}
-Span-known es (code.Text from upto) = Unit {0}
-Span-known es (code.GroupCount i) = Unit {0}
-Span-known es (code.ValueCount i k) = Unit {0}
-Span-known es (code.Values s) = Span-held es s
+abbrev pub Good-span-of : List Entry → Use → Type 0
+Good-span-of es (code.Blanks n) = Unit {0}
+Good-span-of es (code.Text from upto) = Unit {0}
+Good-span-of es (code.GroupCount i) = Unit {0}
+Good-span-of es (code.ValueCount i k) = Unit {0}
+Good-span-of es (code.Values s) = Good-span es s
 
 -- The indexes after a use.
 pub record Remembered (es : List Entry) (u : Use) (before after : List ℕ) : Type 0 where

@@ -8,8 +8,8 @@ use Rattle.rules.specs.Numbers.{refusal-number}
 use Rattle.rules.specs.declared.Refusal.the-variants.{UseRule}
 use Rattle.rules.specs.Format.{Range}
 use Rattle.rules.specs.Use.{Spread, in-order, spread}
-use Rattle.formats.specs.Elements.{optional, range}
-use Rattle.formats.specs.declared.Named.{Named}
+use Rattle.format_buffer.specs.Elements.{optional, range}
+use Rattle.format_buffer.specs.declared.Named.{Named}
 use Rattle.uses.specs.declared.spread.Spreads.{Spreads}
 use Rattle.uses.specs.declared.spread.Spreads.the-variants as spreads
 

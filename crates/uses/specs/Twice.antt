@@ -10,9 +10,9 @@ use Rattle.rules.specs.Table.{Entry}
 use Rattle.rules.specs.Use as rules-use
 use Rattle.rules.specs.Use.{Asked, as-stored}
 use Rattle.rules.specs.Update.{name-alike, named-twice}
-use Rattle.formats.specs.Elements.{range}
+use Rattle.format_buffer.specs.Elements.{range}
 use Rattle.uses.specs.Spread.{index-bound}
-use Rattle.uses.specs.Meant.{fields-from, use-meant, uses-of, Span-known}
+use Rattle.uses.specs.Meant.{fields-from, use-meant, uses-of, Good-span-of}
 use Rattle.uses.specs.declared.Span.{Span}
 use Rattle.uses.specs.declared.Use.{Use}
 use Rattle.uses.specs.declared.Use.the-variants as code
@@ -67,8 +67,8 @@ Met es kept count u r = (f : Bytes) → r ≡ met-before es kept count (use-mean
 pub record Keeps-use (u : Use) (count : ℕ) (before : List ℕ) (r : ℕ) (after : List ℕ) : Type 0 where
   pub same : length after ≡ length before
   pub more : r ≤ count + 1
-  pub ends : (es : List Entry) → Span-known es u → Kept-ends es before count → Kept-ends es after r
-  pub met : (es : List Entry) (f : Bytes) (v : rules-use.Use) → Span-known es u
+  pub ends : (es : List Entry) → Good-span-of es u → Kept-ends es before count → Kept-ends es after r
+  pub met : (es : List Entry) (f : Bytes) (v : rules-use.Use) → Good-span-of es u
       → met-before es after r v ≡ (name-alike (use-meant es f u) v || met-before es before count v)
 
 -- Whether two elements of a format that has uses name an occurrence in common.

@@ -1,6 +1,6 @@
 // The format and the length in effect.
 use crate::wide;
-use formats::Named;
+use format_buffer::Named;
 ghost use Prim.Native.Nat.{_<_};
 ghost use Rattle.rules.specs.Limits.{formats};
 ghost use Rattle.uses.specs.Effect.{Format-in-effect, Length-in-effect, Asks};
@@ -16,7 +16,7 @@ fn format_in_effect(format: usize, given: Named) -> usize
     ensures { λ r. ⌜ Format-in-effect format given r ⌝ }
 {
     if given.lettered {
-        return kinds::format_number(given.letter);
+        return value_formats::format_number(given.letter);
     }
     format
 }
@@ -38,8 +38,8 @@ pub fn asked(format: usize, size: usize, n: Named) -> Effect
     let to = format_in_effect(format, n);
     let length = length_in_effect(size, n);
     if to < rules::FORMATS {
-        if kinds::allowed(to, length) {
-            if kinds::converts(format, to) {
+        if value_formats::allowed(to, length) {
+            if value_formats::converts(format, to) {
                 return Effect::At(to, length);
             }
         }

@@ -6,7 +6,7 @@ use crate::Turn;
 use crate::Verdict;
 use crate::meaning;
 use crate::memory;
-use formats::syntax::Step;
+use format_buffer::syntax::Step;
 use rules::Refusal;
 ghost use mathlib.Core.Path.{_≡_};
 ghost use mathlib.Core.Bool.{true};
@@ -23,10 +23,10 @@ pub fn next_use(t: &[u8], f: &[u8], at: usize, last: &mut [Index; INDEXES]) -> T
     requires { ⌜ Valid (now t) × (at ≤ length (now f)) × (length (now last) ≡ indexes-kept) ⌝ }
     ensures { λ r. ⌜ Nexts (entries-of (now (t .entry))) (now (f .entry)) at (now (last .entry)) (now (last .exit)) r ⌝ }
 {
-    match formats::syntax::next(f, at) {
+    match format_buffer::syntax::next(f, at) {
         Step::At(e, stop) => match meaning::use_of(t, last, e) {
             Meant::As(u) => {
-                if formats::syntax::is_last(f, stop) {
+                if format_buffer::syntax::is_last(f, stop) {
                     return Turn::Last(u);
                 }
                 memory::remember(t, last, u);
@@ -46,12 +46,12 @@ pub fn test(t: &[u8], f: &[u8]) -> Verdict
     let mut last: [Index; INDEXES] = [0; INDEXES];
     let mut at = 0;
     loop {
-        match formats::syntax::next(f, at) {
+        match format_buffer::syntax::next(f, at) {
             Step::At(e, stop) => {
                 let m = meaning::use_of(t, &last, e);
                 match m {
                     Meant::As(u) => {
-                        if formats::syntax::is_last(f, stop) {
+                        if format_buffer::syntax::is_last(f, stop) {
                             return Verdict::Passed;
                         }
                         memory::remember(t, &mut last, u);

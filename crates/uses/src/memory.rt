@@ -7,11 +7,11 @@ use crate::Use;
 ghost use mathlib.Core.Path.{_≡_};
 ghost use lib.ListN.{length};
 ghost use Rattle.tables.specs.Entries.{Valid, entries-of};
-ghost use Rattle.uses.specs.Meant.{Span-held, Span-known, indexes-kept, Remembered};
+ghost use Rattle.uses.specs.Meant.{Good-span, Good-span-of, indexes-kept, Remembered};
 
 // Keeps the number after the entries of a span, and the last index of its MU field.
 fn remember_span(t: &[u8], last: &mut [Index; INDEXES], s: Span)
-    requires { ⌜ Valid (now t) × Span-held (entries-of (now t)) s × (length (now last) ≡ indexes-kept) ⌝ }
+    requires { ⌜ Valid (now t) × Good-span (entries-of (now t)) s × (length (now last) ≡ indexes-kept) ⌝ }
     ensures { λ _. ⌜ Remembered (entries-of (now (t .entry))) (Use.Values s) (now (last .entry)) (now (last .exit)) ⌝ }
 {
     last[NEAR] = s.end as Index;
@@ -27,7 +27,7 @@ fn remember_span(t: &[u8], last: &mut [Index; INDEXES], s: Span)
 
 // Keeps the last index so far of each MU field, and where the next name is looked for first, after what an element meant.
 pub fn remember(t: &[u8], last: &mut [Index; INDEXES], u: Use)
-    requires { ⌜ Valid (now t) × Span-known (entries-of (now t)) u × (length (now last) ≡ indexes-kept) ⌝ }
+    requires { ⌜ Valid (now t) × Good-span-of (entries-of (now t)) u × (length (now last) ≡ indexes-kept) ⌝ }
     ensures { λ _. ⌜ Remembered (entries-of (now (t .entry))) u (now (last .entry)) (now (last .exit)) ⌝ }
 {
     match u {

@@ -1,11 +1,11 @@
 // The occurrences and the values that an element means, by the indexes after its name.
 use crate::wide;
-use formats::Named;
+use format_buffer::Named;
 ghost use mathlib.Core.Path.{_≡_};
 ghost use mathlib.Core.Bool.{false};
 ghost use Prim.Native.Nat.{_<_};
 ghost use Rattle.rules.specs.Use.{in-order, spread};
-ghost use Rattle.formats.specs.Elements.{range};
+ghost use Rattle.format_buffer.specs.Elements.{range};
 ghost use Rattle.uses.specs.Spread.{index-bound, occurrences, bracket, spread-of, ranged, Spread-inside};
 
 // The occurrences and the values that an element means, and whether the bare name of an MU field means them.

@@ -12,8 +12,8 @@ ghost use lib.ListN.{length, getD};
 ghost use lib.Seq.{sets};
 ghost use Rattle.rules.specs.Update.{meet, share};
 ghost use Rattle.tables.specs.Entries.{Valid, entries-of};
-ghost use Rattle.formats.specs.Elements.{range};
-ghost use Rattle.uses.specs.Meant.{Span-held, Span-known};
+ghost use Rattle.format_buffer.specs.Elements.{range};
+ghost use Rattle.uses.specs.Meant.{Good-span, Good-span-of};
 ghost use Rattle.uses.specs.Twice.{stored-fields, numbers-kept, Kept-ends, Kept-alike, Met, numbers, Small-span, small, Keeps-use, Named-twice};
 
 // How many numbers are kept of a span.
@@ -63,7 +63,7 @@ fn share_entries(t: &[u8], first: usize, end: usize, low: usize, high: usize) ->
 
 // Whether the span kept at a place and another name an occurrence in common.
 fn kept_alike(t: &[u8], kept: &[Index], at: usize, s: Span) -> bool
-    requires { ⌜ Valid (now t) × (at + numbers-kept ≤ length (now kept)) × (getD (now kept) (at + 1) 0 ≤ length (entries-of (now t))) × Span-held (entries-of (now t)) s ⌝ }
+    requires { ⌜ Valid (now t) × (at + numbers-kept ≤ length (now kept)) × (getD (now kept) (at + 1) 0 ≤ length (entries-of (now t))) × Good-span (entries-of (now t)) s ⌝ }
     ensures { λ r. ⌜ Kept-alike (entries-of (now (t .entry))) (now (kept .entry)) at s r ⌝ }
 {
     if meet(kept[at + 2] as usize, kept[at + 3] as usize, s.from, s.upto) {
@@ -81,7 +81,7 @@ fn kept_alike(t: &[u8], kept: &[Index], at: usize, s: Span) -> bool
 
 // Whether one of the spans kept names an occurrence that another names.
 fn span_met(t: &[u8], kept: &[Index], count: usize, s: Span) -> bool
-    requires { ⌜ Valid (now t) × (numbers-kept * count ≤ length (now kept)) × Kept-ends (entries-of (now t)) (now kept) count × Span-held (entries-of (now t)) s ⌝ }
+    requires { ⌜ Valid (now t) × (numbers-kept * count ≤ length (now kept)) × Kept-ends (entries-of (now t)) (now kept) count × Good-span (entries-of (now t)) s ⌝ }
     ensures { λ r. ⌜ Met (entries-of (now (t .entry))) (now (kept .entry)) count (Use.Values s) r ⌝ }
 {
     let mut i = count;
@@ -96,7 +96,7 @@ fn span_met(t: &[u8], kept: &[Index], count: usize, s: Span) -> bool
 
 // Whether one of the spans kept names an occurrence that a use names. Counts, spaces and text name nothing.
 fn met_before(t: &[u8], kept: &[Index], count: usize, u: Use) -> bool
-    requires { ⌜ Valid (now t) × (numbers-kept * count ≤ length (now kept)) × Kept-ends (entries-of (now t)) (now kept) count × Span-known (entries-of (now t)) u ⌝ }
+    requires { ⌜ Valid (now t) × (numbers-kept * count ≤ length (now kept)) × Kept-ends (entries-of (now t)) (now kept) count × Good-span-of (entries-of (now t)) u ⌝ }
     ensures { λ r. ⌜ Met (entries-of (now (t .entry))) (now (kept .entry)) count u r ⌝ }
 {
     match u {

@@ -10,20 +10,20 @@ use borrow.Author.Tests.{le-leb}
 use Rattle.rules.specs.Outcome.{Outcome, done, refused, is-done}
 use Rattle.rules.specs.Limits.{formats, longest-alpha, longest-unpacked, lowest-word}
 use Rattle.rules.specs.Lists.{Bytes, bytes-of, spelled}
-use Rattle.rules.specs.Values.{alpha, binary, fixed, number, allowed, Kind, every, word, natural, conversion, meaning, normal, carried, in-normal-form, twos-complement, in-range}
+use Rattle.rules.specs.Values.{alpha, binary, fixed, number, allowed, Kind, every, word, natural, conversion, meaning, normal, converted-bytes, in-normal-form, twos-complement, in-range}
 use Rattle.buffer.proofs.Cases.{by-order}
-use Rattle.words.specs.Words.{signed-value, word-of, value-of}
-use Rattle.words.specs.declared.Signed.{Signed}
-use Rattle.words.specs.declared.Word.the-variants.{Number, Outside}
+use Rattle.fixed.specs.Words.{signed-value, word-of, value-of}
+use Rattle.fixed.specs.declared.Signed.{Signed}
+use Rattle.fixed.specs.declared.Word.the-variants.{Number, Outside}
 use Rattle.rules.proofs.Digits.{Below}
-use Rattle.words.proofs.Fixed.{twos-plus, twos-minus, fixed-normal}
+use Rattle.fixed.proofs.Fixed.{twos-plus, twos-minus, fixed-normal}
 use Rattle.binaries.proofs.Binary.{binary-normal}
 use Rattle.decimals.specs.Decimals.{decimal-format}
 use Rattle.values.specs.Formats.{format-at, range-kind}
-use Rattle.values.specs.Fits.{Carriable, Carrying, carried-length}
-use Rattle.kinds.proofs.Five.{five}
+use Rattle.values.specs.Fits.{Convertible, Converting, converted-length}
+use Rattle.value_formats.proofs.Five.{five}
 use Rattle.values.proofs.Numbered.{at-alpha, at-binary, at-fixed, at-decimal, some-size, longest-size, longest-decimal, two-four, every-low, every-high, ranged-from, ranged-to}
-use Rattle.values.proofs.Carried.{no-fit, done-bytes, every-carried, carried-size, carried-size-is, ranged-done, out-of-range, carried-range, carried-normal, word-number, word-outside}
+use Rattle.values.proofs.Converted.{no-fit, done-bytes, every-converted, converted-size, carried-size-is, ranged-done, out-of-range, converted-range, converted-normal, word-number, word-outside}
 
 -- A, B and F mean something whatever the bytes.
 pub low-value : (k : ℕ) (s : Bytes) → k < formats → k < 3 → is-done (meaning (format-at k) s) ≡ true
@@ -54,7 +54,7 @@ fixed-word-is s v o e =
     rw (← q, le-leb (v .magnitude) lowest-word (fixed-small (length s) (spelled 256 s 0) v o q))
 
 -- Every value converts: the formats are the same, or both decimal.
-module _ {from to n : ℕ} {s : Bytes} (a : Carriable from to n s) (c : conversion (format-at from) (format-at to) ≡ every) where
+module _ {from to n : ℕ} {s : Bytes} (a : Convertible from to n s) (c : conversion (format-at from) (format-at to) ≡ every) where
   there-low : from < 3 → to ≡ from
   there-low h = every-low from to (a .source) (a .target) h c
 
@@ -67,22 +67,22 @@ module _ {from to n : ℕ} {s : Bytes} (a : Carriable from to n s) (c : conversi
       (λ q. let e = there-low q in omega arith)
       (λ q. let e = there-high q in omega arith)
 
-  pub as-alpha : from ≡ 0 → carried alpha alpha n s ≡ carried (format-at from) (format-at to) n s
+  pub as-alpha : from ≡ 0 → converted-bytes alpha alpha n s ≡ converted-bytes (format-at from) (format-at to) n s
   as-alpha e = rw (at-alpha from e, at-alpha to (there-low (omega arith) ∙ e))
 
-  pub as-binary : from ≡ 1 → carried binary binary n s ≡ carried (format-at from) (format-at to) n s
+  pub as-binary : from ≡ 1 → converted-bytes binary binary n s ≡ converted-bytes (format-at from) (format-at to) n s
   as-binary e = rw (at-binary from e, at-binary to (there-low (omega arith) ∙ e))
 
   pub fixed-there : from ≡ 2 → (n ≡ 2) ⊎ (n ≡ 4)
   fixed-there e = two-four to n (there-low (omega arith) ∙ e) (a .length-there)
 
-  pub as-fixed : (v : Signed) → from ≡ 2 → done (signed-value v) ≡ meaning fixed s → normal fixed n (signed-value v) ≡ carried (format-at from) (format-at to) n s
+  pub as-fixed : (v : Signed) → from ≡ 2 → done (signed-value v) ≡ meaning fixed s → normal fixed n (signed-value v) ≡ converted-bytes (format-at from) (format-at to) n s
   unfolding conversion
   as-fixed v e m =
-      rw (at-fixed from e, at-fixed to (there-low (omega arith) ∙ e)) (sym (every-carried fixed fixed n s refl (sym m)))
+      rw (at-fixed from e, at-fixed to (there-low (omega arith) ∙ e)) (sym (every-converted fixed fixed n s refl (sym m)))
 
   module _ (h : 3 ≤ from) where
-    pub as-decimal : carried (decimal-format (eqb from 3)) (decimal-format (eqb to 3)) n s ≡ carried (format-at from) (format-at to) n s
+    pub as-decimal : converted-bytes (decimal-format (eqb from 3)) (decimal-format (eqb to 3)) n s ≡ converted-bytes (format-at from) (format-at to) n s
     as-decimal = rw (at-decimal from (a .source) h, at-decimal to (a .target) (there-high h))
 
     pub decimal-value : is-done (meaning (decimal-format (eqb from 3)) s) ≡ true
@@ -95,12 +95,12 @@ module _ {from to n : ℕ} {s : Bytes} (a : Carriable from to n s) (c : conversi
       longest-decimal to n (a .target) (a .length-there) (there-high h),
     )
 
--- A value that is a word, carried through it.
-module _ {from to n : ℕ} {s : Bytes} (a : Carriable from to n s) (b : Bool) (c : conversion (format-at from) (format-at to) ≡ range-kind b) where
+-- A value that is a word, converted through it.
+module _ {from to n : ℕ} {s : Bytes} (a : Convertible from to n s) (b : Bool) (c : conversion (format-at from) (format-at to) ≡ range-kind b) where
   pub word-source : (0 < from) × (from < formats) × (allowed (format-at from) (length s) ≡ true) × (is-done (meaning (format-at from) s) ≡ true)
   word-source = (ranged-from from to b c, a .source, a .size, a .value)
 
-  pub word-beyond : word-of (value-of (meaning (format-at from) s)) ≡ Outside → is-done (carried (format-at from) (format-at to) n s) ≡ false
+  pub word-beyond : word-of (value-of (meaning (format-at from) s)) ≡ Outside → is-done (converted-bytes (format-at from) (format-at to) n s) ≡ false
   word-beyond w =
       out-of-range (format-at from) (format-at to) n s (a .value) (range-kind b) c (word-outside (value-of (meaning (format-at from) s)) b w)
 
@@ -111,33 +111,33 @@ module _ {from to n : ℕ} {s : Bytes} (a : Carriable from to n s) (b : Bool) (c
     pub word-asked : (v .magnitude ≤ lowest-word) × (0 < to) × (to < formats) × (allowed (format-at to) n ≡ true)
     word-asked = (word-number (value-of (meaning (format-at from) s)) v w .1, ranged-to from to b c, a .target, a .length-there)
 
-    pub word-done : (in-range (range-kind b) (signed-value v) && is-done (normal (format-at to) n (signed-value v))) ≡ is-done (carried (format-at from) (format-at to) n s)
+    pub word-done : (in-range (range-kind b) (signed-value v) && is-done (normal (format-at to) n (signed-value v))) ≡ is-done (converted-bytes (format-at from) (format-at to) n s)
     word-done = sym (rw is-word at (ranged-done (format-at from) (format-at to) n s (a .value) (range-kind b) c))
 
-    pub word-written : is-done (carried (format-at from) (format-at to) n s) ≡ true → carried (format-at from) (format-at to) n s ≡ normal (format-at to) n (signed-value v)
+    pub word-written : is-done (converted-bytes (format-at from) (format-at to) n s) ≡ true → converted-bytes (format-at from) (format-at to) n s ≡ normal (format-at to) n (signed-value v)
     word-written d =
         rw is-word at
-        (carried-normal (format-at from) (format-at to) n s (a .value) (range-kind b) c
-        (carried-range (format-at from) (format-at to) n s (a .value) (range-kind b) c d))
+        (converted-normal (format-at from) (format-at to) n s (a .value) (range-kind b) c
+        (converted-range (format-at from) (format-at to) n s (a .value) (range-kind b) c d))
 
 -- A value that is asked for is refused with 9, or as long as its length says.
-module _ {from to n : ℕ} {s : Bytes} (a : Carriable from to n s) where
+module _ {from to n : ℕ} {s : Bytes} (a : Convertible from to n s) where
   abbrev there : Outcome Bytes
-  there = carried (format-at from) (format-at to) n s
+  there = converted-bytes (format-at from) (format-at to) n s
 
   pub asked-refused : is-done there ≡ false → there ≡ refused 9
   asked-refused d = no-fit (format-at from) (format-at to) n s (a .value) d
 
-  pub asked-bytes : is-done there ≡ true → (there ≡ done (bytes-of there)) × (carried-length n s ≡ length (bytes-of there))
+  pub asked-bytes : is-done there ≡ true → (there ≡ done (bytes-of there)) × (converted-length n s ≡ length (bytes-of there))
   asked-bytes d = (done-bytes there d, carried-size-is (format-at from) (format-at to) n s (a .length-there) d)
 
   pub asked-number : 0 < to → is-done there ≡ true → (there ≡ done (bytes-of there)) × (n ≡ length (bytes-of there))
-  asked-number p d = (done-bytes there d, sym (carried-size (format-at from) (format-at to) n s d (some-size to n (a .target) (a .length-there) p)))
+  asked-number p d = (done-bytes there d, sym (converted-size (format-at from) (format-at to) n s d (some-size to n (a .target) (a .length-there) p)))
 
 -- The room for a number.
-pub carrying-room : {from to n : ℕ} {s : Bytes} {at room : ℕ} → Carrying from to n s at room → 0 < to → at + n ≤ room
-carrying-room {from} {to} {n} {s} {at} {room} c p =
-    let q = carried-size (format-at from) (format-at to) n s (c .fits) (some-size to n (c .asked .target) (c .asked .length-there) p) in
+pub converting-room : {from to n : ℕ} {s : Bytes} {at room : ℕ} → Converting from to n s at room → 0 < to → at + n ≤ room
+converting-room {from} {to} {n} {s} {at} {room} c p =
+    let q = converted-size (format-at from) (format-at to) n s (c .fits) (some-size to n (c .asked .target) (c .asked .length-there) p) in
     rw q at (c .enough)
 
 pub which : {k : Kind} → (k ≡ word) ⊎ (k ≡ natural) → (b : Bool) × (k ≡ range-kind b)

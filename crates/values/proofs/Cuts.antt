@@ -19,8 +19,8 @@ use Rattle.rules.specs.declared.Refusal.the-variants.{BeyondBuffer, BadValue}
 use Rattle.rules.proofs.Steps.{not-done, from-done, from-need, and-right}
 use Rattle.buffer.proofs.Cases.{by-order}
 use Rattle.values.specs.Places.{Located}
-use Rattle.values.specs.declared.First.{First}
-use Rattle.values.specs.declared.First.the-variants.{Value, Refused}
+use Rattle.values.specs.declared.FirstValue.{FirstValue}
+use Rattle.values.specs.declared.FirstValue.the-variants.{Value, Refused}
 
 pub cut-enough : (k n : ℕ) (bs : Bytes) → n ≤ length bs → cut k n bs ≡ done (take n bs, drop n bs)
 unfolding cut
@@ -91,7 +91,7 @@ module _ (s : Bytes) (at n : ℕ) (h : at < length s) (e : n ≡ getD s at 0) wh
     }
 
 -- A length given as 0.
-pub at-zero : (s : Bytes) (at size : ℕ) (r : First) → size ≡ 0 → Located s at (first-value 0 (drop at s)) r → Located s at (first-value size (drop at s)) r
+pub at-zero : (s : Bytes) (at size : ℕ) (r : FirstValue) → size ≡ 0 → Located s at (first-value 0 (drop at s)) r → Located s at (first-value size (drop at s)) r
 at-zero s at size r z f = rw z f
 
 -- The content of the first value has its length, or at most as many bytes as the longest text after a length byte.

@@ -3,7 +3,7 @@ pub mod Cuts
 pub mod Numbered
 pub mod Nulls
 pub mod Normals
-pub mod Carried
+pub mod Converted
 pub mod Chosen
 pub mod Written
 pub mod Meant

@@ -1,4 +1,4 @@
--- What is written means what was written: so null, and every value that is carried, is in normal form.
+-- What is written means what was written: so null, and every value that is converted, is in normal form.
 use mathlib.Core.Path.{_≡_, refl, sym, _∙_, ap}
 use mathlib.Core.Bool.{Bool, true, false, false≢true}
 use mathlib.Core.List.{[], _∷_, _++_, append-nil, append-assoc}
@@ -13,12 +13,12 @@ use Rattle.rules.specs.Outcome.{done, is-done}
 use Rattle.rules.specs.Characters.{space}
 use Rattle.rules.specs.Limits.{longest-alpha, longest-binary, longest-packed, longest-unpacked}
 use Rattle.rules.specs.Lists.{Bytes, spelled, digits}
-use Rattle.rules.specs.Values.{Format, alpha, binary, fixed, packed, unpacked, Value, text, number, allowed, strip, meaning, normal, null, null-value, content, with-length-byte, in-normal-form, twos-complement, accepted-minus, every, conversion, converts, in-range, converted, carried}
+use Rattle.rules.specs.Values.{Format, alpha, binary, fixed, packed, unpacked, Value, text, number, allowed, strip, meaning, normal, null, null-value, content, with-length-byte, in-normal-form, twos-complement, accepted-minus, every, conversion, converts, in-range, converted, converted-bytes}
 use Rattle.rules.proofs.Steps.{from-bind, from-need, done-inj, not-done, T-true}
 use Rattle.buffer.proofs.Cases.{by-order}
 use Rattle.rules.proofs.Digits.{Below, length-digits, spelled-digits, spelled-below}
-use Rattle.words.proofs.Fixed.{twos-plus, twos-minus}
-use Rattle.words.proofs.NormalForm.{is-normal-form, normal-form-is}
+use Rattle.fixed.proofs.Fixed.{twos-plus, twos-minus}
+use Rattle.fixed.proofs.NormalForm.{is-normal-form, normal-form-is}
 use Rattle.decimals.specs.Decimals.{decimal-format, sign-half, is-minus, magnitude-of, places}
 use Rattle.decimals.proofs.Normal.{normal-fits, normal-done}
 use Rattle.decimals.proofs.Sound.{sound}
@@ -159,11 +159,11 @@ pub written-normal : (f : Format) (n : ℕ) (v : Value) {w : Bytes} → allowed 
 written-normal f n v {w} a m e =
     is-normal-form f n (content n w) (rw (normal-means f n v a m e) (e ∙ ap done (sym (length-byte-back f n v a e))))
 
--- A value that is carried is in normal form where it was carried to.
-pub carried-in-form : (f g : Format) (n : ℕ) (bs : Bytes) {w : Bytes} → allowed f (length bs) ≡ true → Below 256 bs → allowed g n ≡ true
-    → carried f g n bs ≡ done w → in-normal-form g n (content n w) ≡ true
-unfolding carried converted
-carried-in-form f g n bs a b c e =
+-- A value that is converted is in normal form where it was converted to.
+pub converted-in-form : (f g : Format) (n : ℕ) (bs : Bytes) {w : Bytes} → allowed f (length bs) ≡ true → Below 256 bs → allowed g n ≡ true
+    → converted-bytes f g n bs ≡ done w → in-normal-form g n (content n w) ≡ true
+unfolding converted-bytes converted
+converted-in-form f g n bs a b c e =
     from-bind (meaning f bs) _ e λ v p q.
     from-need (in-range (conversion f g) v) 9 _ q λ _ k.
     written-normal g n v c (meaning-meant f bs v a b p) k
@@ -216,14 +216,14 @@ null-converts unpacked fixed e = (refl, refl)
 null-converts unpacked packed e = (refl, refl)
 null-converts unpacked unpacked e = (refl, refl)
 
-pub null-carried : (f g : Format) (size n : ℕ) → converts f g ≡ true → allowed f size ≡ true → allowed g n ≡ true
-    → carried f g n (content size (null f size)) ≡ done (null g n)
-unfolding carried converted
-null-carried f g size n c a b =
+pub null-converted : (f g : Format) (size n : ℕ) → converts f g ≡ true → allowed f size ≡ true → allowed g n ≡ true
+    → converted-bytes f g n (content size (null f size)) ≡ done (null g n)
+unfolding converted-bytes converted
+null-converted f g size n c a b =
     let r = null-converts f g c in
     rw (null-means f size a, r .0, r .1) (null-done g n b)
 
--- ---- a value in normal form carried to its own format and length is itself
+-- ---- a value in normal form converted to its own format and length is itself
 
 own-conversion : (f : Format) → conversion f f ≡ every
 unfolding conversion
@@ -237,9 +237,9 @@ own-range : (f : Format) (v : Value) → in-range (conversion f f) v ≡ true
 unfolding in-range
 own-range f v = rw (own-conversion f)
 
-pub carried-itself : (f : Format) (n : ℕ) (bs : Bytes) → in-normal-form f n bs ≡ true → carried f f n bs ≡ done (with-length-byte n bs)
-unfolding carried converted
-carried-itself f n bs h =
+pub converted-itself : (f : Format) (n : ℕ) (bs : Bytes) → in-normal-form f n bs ≡ true → converted-bytes f f n bs ≡ done (with-length-byte n bs)
+unfolding converted-bytes converted
+converted-itself f n bs h =
     let e = normal-form-is f n bs h in
     from-bind (meaning f bs) (normal f n) e λ v p q.
     rw (p, own-range f v) q

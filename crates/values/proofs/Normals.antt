@@ -8,7 +8,7 @@ use lib.Dec.{ltb}
 use Rattle.rules.specs.Limits.{formats}
 use Rattle.rules.specs.Values.{allowed}
 use Rattle.buffer.proofs.Cases.{by-order}
-use Rattle.kinds.proofs.Five.{five}
+use Rattle.value_formats.proofs.Five.{five}
 use Rattle.values.specs.Formats.{format-at}
 use Rattle.values.specs.Normals.{Any-normal, any-normal}
 use Rattle.values.proofs.Numbered.{at-alpha}

@@ -19,7 +19,7 @@ use Rattle.buffer.proofs.Laws.{splice-nil, length-splice, splice-rest}
 use Rattle.rules.proofs.Done.{done-need}
 use Rattle.rules.proofs.Digits.{digits-zero}
 use Rattle.values.specs.Formats.{format-at}
-use Rattle.kinds.proofs.Five.{five}
+use Rattle.value_formats.proofs.Five.{five}
 use Rattle.values.proofs.Numbered.{from-one}
 use Rattle.values.proofs.Strip.{normal-text-0, normal-text}
 

@@ -11,10 +11,10 @@ use Rattle.rules.specs.Limits.{formats, longest-alpha, longest-unpacked}
 use Rattle.rules.specs.Values.{Format, alpha, binary, fixed, packed, unpacked, allowed, Kind, never, every, word, natural, conversion, converts}
 use Rattle.rules.proofs.Steps.{by-test}
 use Rattle.decimals.specs.Decimals.{decimal-format}
-use Rattle.kinds.specs.Formats.{is-every, is-natural}
+use Rattle.value_formats.specs.Formats.{is-every, is-natural}
 use Rattle.values.specs.Formats.{format-at, range-kind}
-use Rattle.kinds.proofs.Five.{five}
-use Rattle.kinds.proofs.Constants.{least, greatest, allowed-is}
+use Rattle.value_formats.proofs.Five.{five}
+use Rattle.value_formats.proofs.Constants.{least, greatest, allowed-is}
 
 pub at-alpha : (k : ℕ) → k ≡ 0 → format-at k ≡ alpha
 unfolding format-at

@@ -13,12 +13,12 @@ use Rattle.rules.specs.Outcome.{done, refused, is-done}
 use Rattle.rules.specs.Characters.{space}
 use Rattle.rules.specs.Limits.{longest-alpha}
 use Rattle.rules.specs.Lists.{Bytes, bytes-of, same}
-use Rattle.rules.specs.Values.{text, alpha, strip, meaning, normal, carried, converted, conversion, in-range, in-normal-form, with-length-byte}
+use Rattle.rules.specs.Values.{text, alpha, strip, meaning, normal, converted-bytes, converted, conversion, in-range, in-normal-form, with-length-byte}
 use Rattle.rules.proofs.Lists.{text-before, text-before-other, text-before-blank, strip-cons, strip-nil, strip-space, strip-other}
 use Rattle.rules.proofs.Steps.{by-test, same-same}
 use Rattle.rules.proofs.Done.{is-done-need, done-need, no-length-byte}
-use Rattle.words.proofs.NormalForm.{is-normal-form, compares}
-use Rattle.values.proofs.Carried.{no-fit, normal-length, done-bytes}
+use Rattle.fixed.proofs.NormalForm.{is-normal-form, compares}
+use Rattle.values.proofs.Converted.{no-fit, normal-length, done-bytes}
 
 -- The turns of the scan from the right.
 module _ (s : Bytes) (j : ℕ) (p : 0 < j) (h : j ≤ length s) where
@@ -58,12 +58,12 @@ strip-short s =
     let e = ap length (strip-pad s) in
     omega (arith, simp length-append at e)
 
--- A text carried to a length, and its refusal.
-carried-is : (n : ℕ) (s : Bytes) → carried alpha alpha n s ≡ normal alpha n (text (strip s))
-unfolding carried converted meaning conversion in-range
-carried-is n s = refl
+-- A text converted to a length, and its refusal.
+converted-is : (n : ℕ) (s : Bytes) → converted-bytes alpha alpha n s ≡ normal alpha n (text (strip s))
+unfolding converted-bytes converted meaning conversion in-range
+converted-is n s = refl
 
-pub text-refused : (n : ℕ) (s : Bytes) → is-done (carried alpha alpha n s) ≡ false → carried alpha alpha n s ≡ refused 9
+pub text-refused : (n : ℕ) (s : Bytes) → is-done (converted-bytes alpha alpha n s) ≡ false → converted-bytes alpha alpha n s ≡ refused 9
 unfolding meaning
 text-refused n s d = no-fit alpha alpha n s refl d
 
@@ -124,8 +124,8 @@ module _ (s : Bytes) (r : ℕ) (k : r ≤ length s) (e : strip s ≡ take r s) w
   pub cut-size : length (take r s) ≡ r
   cut-size = length-take-le r s k
 
-  pub carried-text : (n : ℕ) → carried alpha alpha n s ≡ normal alpha n (text (take r s))
-  carried-text n = carried-is n s ∙ rw e
+  pub converted-text : (n : ℕ) → converted-bytes alpha alpha n s ≡ normal alpha n (text (take r s))
+  converted-text n = converted-is n s ∙ rw e
 
   -- In normal form at length 0 where nothing was stripped.
   pub text-normal-0 : (n : ℕ) → n ≡ 0 → length s ≤ longest-alpha → eqb r (length s) ≡ in-normal-form alpha n s

@@ -6,7 +6,7 @@ use lib.ListN.{length}
 use Rattle.rules.specs.Outcome.{Outcome, done, refused, is-done}
 use Rattle.rules.specs.Limits.{formats}
 use Rattle.rules.specs.Lists.{Bytes, bytes-of}
-use Rattle.rules.specs.Values.{allowed, strip, meaning, carried}
+use Rattle.rules.specs.Values.{allowed, strip, meaning, converted-bytes}
 use Rattle.rules.specs.Numbers.{refusal-number}
 use Rattle.values.specs.Formats.{format-at}
 use Rattle.values.specs.declared.Fit.{Fit}
@@ -21,21 +21,21 @@ abbrev pub fitted : Fit → Outcome ℕ
 fitted (Length n) = done n
 fitted (Refused x) = refused (refusal-number x)
 
--- The length of a value that is carried to length n.
-unfoldable pub carried-length : ℕ → Bytes → ℕ
-carried-length zero s = suc (length (strip s))
-carried-length (suc n) s = suc n
+-- The length of a value that is converted to length n.
+unfoldable pub converted-length : ℕ → Bytes → ℕ
+converted-length zero s = suc (length (strip s))
+converted-length (suc n) s = suc n
 
--- s is a value of a format, to be carried to another at length n.
-pub record Carriable (from to n : ℕ) (s : Bytes) : Type 0 where
+-- s is a value of a format, to be converted to another at length n.
+pub record Convertible (from to n : ℕ) (s : Bytes) : Type 0 where
   pub source : from < formats
   pub target : to < formats
   pub size : allowed (format-at from) (length s) ≡ true
   pub length-there : allowed (format-at to) n ≡ true
   pub value : is-done (meaning (format-at from) s) ≡ true
 
--- It is carried, and there is room for it at a place.
-pub record Carrying (from to n : ℕ) (s : Bytes) (at room : ℕ) : Type 0 where
-  pub asked : Carriable from to n s
-  pub fits : is-done (carried (format-at from) (format-at to) n s) ≡ true
-  pub enough : at + length (bytes-of (carried (format-at from) (format-at to) n s)) ≤ room
+-- It is converted, and there is room for it at a place.
+pub record Converting (from to n : ℕ) (s : Bytes) (at room : ℕ) : Type 0 where
+  pub asked : Convertible from to n s
+  pub fits : is-done (converted-bytes (format-at from) (format-at to) n s) ≡ true
+  pub enough : at + length (bytes-of (converted-bytes (format-at from) (format-at to) n s)) ≤ room

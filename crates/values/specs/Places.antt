@@ -5,18 +5,18 @@ use lib.ListN.{length, take, drop}
 use Rattle.rules.specs.Outcome.{Outcome, done, refused}
 use Rattle.rules.specs.Lists.{Bytes}
 use Rattle.rules.specs.Numbers.{refusal-number}
-use Rattle.values.specs.declared.First.{First}
-use Rattle.values.specs.declared.First.the-variants.{Value, Refused}
+use Rattle.values.specs.declared.FirstValue.{FirstValue}
+use Rattle.values.specs.declared.FirstValue.the-variants.{Value, Refused}
 
 -- The content and what stands after the value, or a refusal.
-abbrev pub found : Bytes → First → Outcome (Bytes × Bytes)
+abbrev pub found : Bytes → FirstValue → Outcome (Bytes × Bytes)
 found s (Value from next) = done (take (next - from) (drop from s), drop next s)
 found s (Refused x) = refused (refusal-number x)
 
-abbrev pub inside : Bytes → ℕ → First → Type 0
+abbrev pub inside : Bytes → ℕ → FirstValue → Type 0
 inside s at (Value from next) = (at ≤ from) × (from ≤ next) × (next ≤ length s)
 inside s at (Refused x) = Unit {0}
 
-pub record Located (s : Bytes) (at : ℕ) (o : Outcome (Bytes × Bytes)) (r : First) : Type 0 where
+pub record Located (s : Bytes) (at : ℕ) (o : Outcome (Bytes × Bytes)) (r : FirstValue) : Type 0 where
   pub answer : found s r ≡ o
   pub place : inside s at r

@@ -1,4 +1,4 @@
-// The five formats: where a value ends, null, normal form, and a value carried from one to another.
+// The five formats: where a value ends, null, normal form, and a value converted from one to another.
 // A format is a number: 0 A, 1 B, 2 F, 3 P, 4 U.
 ghost use mathlib.Core.Path.{_≡_};
 ghost use mathlib.Core.Bool.{true};
@@ -7,26 +7,26 @@ ghost use Prim.Native.Nat.{_+_, _<_, _≤_};
 ghost use lib.ListN.{length, drop, replicate};
 ghost use Rattle.rules.specs.Limits.{formats, longest-alpha};
 ghost use Rattle.rules.specs.Lists.{bytes-of, join};
-ghost use Rattle.rules.specs.Values.{packed, first-value, null, in-normal-form, carried};
+ghost use Rattle.rules.specs.Values.{packed, first-value, null, in-normal-form, converted-bytes};
 ghost use Rattle.buffer.specs.Splice.{splice};
 ghost use Rattle.rules.specs.Values as Rules;
 ghost use Rattle.values.specs.Formats.{format-at};
 ghost use Rattle.values.specs.Places.{Located};
 ghost use Rattle.values.specs.Normals.{any-normal};
-ghost use Rattle.values.specs.Fits.{Carrying, fitted, bytes-size};
+ghost use Rattle.values.specs.Fits.{Converting, fitted, bytes-size};
 
-pub mod carrying;
+pub mod conversion;
 pub mod numbers;
 pub mod texts;
 
-use kinds::ALPHA;
-use kinds::Kind;
-use kinds::PACKED;
-use kinds::UNPACKED;
 use rules::Refusal;
+use value_formats::ALPHA;
+use value_formats::Kind;
+use value_formats::PACKED;
+use value_formats::UNPACKED;
 
 // Where the first value of a run of bytes lies: its content, without its length byte, and the place after it.
-pub enum First {
+pub enum FirstValue {
     Value(usize, usize),
     Refused(Refusal),
 }
@@ -38,28 +38,28 @@ fn wide(x: u8) -> usize
 }
 
 // The first value of length 0 at a place.
-fn first_variable(s: &[u8], at: usize) -> First
+fn first_variable(s: &[u8], at: usize) -> FirstValue
     requires { ⌜ at ≤ length (now s) ⌝ }
     ensures { λ r. ⌜ Located (now (s .entry)) at (first-value 0 (drop at (now (s .entry)))) r ⌝ }
 {
     if at == s.len() {
-        return First::Refused(Refusal::BeyondBuffer);
+        return FirstValue::Refused(Refusal::BeyondBuffer);
     }
     let count = wide(s[at]);
     if count == 0 {
-        return First::Refused(Refusal::BadValue);
+        return FirstValue::Refused(Refusal::BadValue);
     }
     if rules::LONGEST_ALPHA + 1 < count {
-        return First::Refused(Refusal::BadValue);
+        return FirstValue::Refused(Refusal::BadValue);
     }
     if s.len() - at < count {
-        return First::Refused(Refusal::BeyondBuffer);
+        return FirstValue::Refused(Refusal::BeyondBuffer);
     }
-    First::Value(at + 1, at + count)
+    FirstValue::Value(at + 1, at + count)
 }
 
 // The first value of a length at a place.
-pub fn first_value(s: &[u8], at: usize, size: usize) -> First
+pub fn first_value(s: &[u8], at: usize, size: usize) -> FirstValue
     requires { ⌜ at ≤ length (now s) ⌝ }
     ensures { λ r. ⌜ Located (now (s .entry)) at (first-value size (drop at (now (s .entry)))) r ⌝ }
 {
@@ -67,9 +67,9 @@ pub fn first_value(s: &[u8], at: usize, size: usize) -> First
         return first_variable(s, at);
     }
     if s.len() - at < size {
-        return First::Refused(Refusal::BeyondBuffer);
+        return FirstValue::Refused(Refusal::BeyondBuffer);
     }
-    First::Value(at, at + size)
+    FirstValue::Value(at, at + size)
 }
 
 // The length of null, its length byte included.
@@ -180,33 +180,33 @@ pub enum Fit {
 // What the content s of a value gives at another format and length n.
 pub fn fits(s: &[u8], from: usize, to: usize, n: usize) -> Fit
     requires { ⌜ (from < formats) × (to < formats) × (Rules.allowed (format-at from) (length (now s)) ≡ true) × (Rules.allowed (format-at to) n ≡ true) ⌝ }
-    ensures { λ r. ⌜ fitted r ≡ bytes-size (carried (format-at from) (format-at to) n (now (s .entry))) ⌝ }
+    ensures { λ r. ⌜ fitted r ≡ bytes-size (converted-bytes (format-at from) (format-at to) n (now (s .entry))) ⌝ }
 {
     if numbers::is_value(s, from) {
-        if carrying::carries(s, from, to, n) {
-            return Fit::Length(carrying::carried_size(s, n));
+        if conversion::converts_value(s, from, to, n) {
+            return Fit::Length(conversion::converted_size(s, n));
         }
         return Fit::Refused(Refusal::OutOfRange);
     }
     Fit::Refused(Refusal::BadValue)
 }
 
-// Writes the content s of a value, which is carried to another format and length n, at a place.
-pub fn carry(s: &[u8], from: usize, to: usize, n: usize, out: &mut [u8], at: usize)
-    requires { ⌜ Carrying from to n (now s) at (length (now out)) ⌝ }
-    ensures { λ _. ⌜ now (out .exit) ≡ splice at (bytes-of (carried (format-at from) (format-at to) n (now (s .entry)))) (now (out .entry)) ⌝ }
+// Writes the content s of a value, which is converted to another format and length n, at a place.
+pub fn convert(s: &[u8], from: usize, to: usize, n: usize, out: &mut [u8], at: usize)
+    requires { ⌜ Converting from to n (now s) at (length (now out)) ⌝ }
+    ensures { λ _. ⌜ now (out .exit) ≡ splice at (bytes-of (converted-bytes (format-at from) (format-at to) n (now (s .entry)))) (now (out .entry)) ⌝ }
 {
-    let kind = kinds::conversion(from, to);
+    let kind = value_formats::conversion(from, to);
     match kind {
         Kind::Never => {}
         Kind::Every => {
-            carrying::carry_every(s, from, to, n, out, at);
+            conversion::convert_every(s, from, to, n, out, at);
         }
         Kind::Word => {
-            carrying::carry_word(s, from, to, n, out, at);
+            conversion::convert_word(s, from, to, n, out, at);
         }
         Kind::Natural => {
-            carrying::carry_word(s, from, to, n, out, at);
+            conversion::convert_word(s, from, to, n, out, at);
         }
     }
 }

@@ -7,14 +7,14 @@ ghost use Rattle.rules.specs.Outcome.{is-done};
 ghost use Rattle.rules.specs.Limits.{formats};
 ghost use Rattle.rules.specs.Lists.{bytes-of};
 ghost use Rattle.rules.specs.Values.{allowed, meaning, normal};
-ghost use Rattle.words.specs.Words.{signed-value, word-of, value-of};
+ghost use Rattle.fixed.specs.Words.{signed-value, word-of, value-of};
 ghost use Rattle.buffer.specs.Splice.{splice};
 ghost use Rattle.values.specs.Formats.{format-at};
-use kinds::BINARY;
-use kinds::FIXED;
-use kinds::PACKED;
-use words::Signed;
-use words::Word;
+use fixed::Signed;
+use fixed::Word;
+use value_formats::BINARY;
+use value_formats::FIXED;
+use value_formats::PACKED;
 
 // Whether s means something.
 pub fn is_value(s: &[u8], format: usize) -> bool
@@ -36,7 +36,7 @@ pub fn to_word(s: &[u8], format: usize) -> Word
         return binaries::binary_word(s);
     }
     if format == FIXED {
-        return Word::Number(words::fixed_word(s));
+        return Word::Number(fixed::fixed_word(s));
     }
     decimals::to_word(s, format == PACKED)
 }
@@ -50,7 +50,7 @@ pub fn fits_word(v: Signed, format: usize, n: usize) -> bool
         return binaries::binary_fits_word(v, n);
     }
     if format == FIXED {
-        return words::fixed_fits(v, n);
+        return fixed::fixed_fits(v, n);
     }
     decimals::fits_word(v, format == PACKED, n)
 }
@@ -64,7 +64,7 @@ pub fn write_word(v: Signed, format: usize, n: usize, out: &mut [u8], at: usize)
         binaries::write_binary_word(v, n, out, at);
     } else {
         if format == FIXED {
-            words::write_fixed(v, n, out, at);
+            fixed::write_fixed(v, n, out, at);
         } else {
             decimals::write_word(v, format == PACKED, n, out, at);
         }

@@ -9,7 +9,7 @@ ghost use Rattle.rules.specs.Characters.{space};
 ghost use Rattle.rules.specs.Outcome.{is-done};
 ghost use Rattle.rules.specs.Limits.{longest-alpha};
 ghost use Rattle.rules.specs.Lists.{Bytes, bytes-of};
-ghost use Rattle.rules.specs.Values.{text, alpha, strip, normal, carried, in-normal-form};
+ghost use Rattle.rules.specs.Values.{text, alpha, strip, normal, converted-bytes, in-normal-form};
 ghost use Rattle.buffer.specs.Splice.{splice};
 use characters::SPACE;
 
@@ -48,7 +48,7 @@ pub fn length_at(len: usize, n: usize) -> usize
 
 // Whether the text of s fits length n.
 pub fn text_fits(s: &[u8], n: usize) -> bool
-    ensures { λ r. ⌜ r ≡ is-done (carried alpha alpha n (now (s .entry))) ⌝ }
+    ensures { λ r. ⌜ r ≡ is-done (converted-bytes alpha alpha n (now (s .entry))) ⌝ }
 {
     length_fits(text_length(s), n)
 }
@@ -85,9 +85,9 @@ pub fn put_at(t: &[u8], n: usize, out: &mut [u8], at: usize)
 }
 
 // Writes the text of s, which fits length n, at that length.
-pub fn carry_text(s: &[u8], n: usize, out: &mut [u8], at: usize)
-    requires { ⌜ (is-done (carried alpha alpha n (now s)) ≡ true) × (at + length (bytes-of (carried alpha alpha n (now s))) ≤ length (now out)) ⌝ }
-    ensures { λ _. ⌜ now (out .exit) ≡ splice at (bytes-of (carried alpha alpha n (now (s .entry)))) (now (out .entry)) ⌝ }
+pub fn convert_text(s: &[u8], n: usize, out: &mut [u8], at: usize)
+    requires { ⌜ (is-done (converted-bytes alpha alpha n (now s)) ≡ true) × (at + length (bytes-of (converted-bytes alpha alpha n (now s))) ≤ length (now out)) ⌝ }
+    ensures { λ _. ⌜ now (out .exit) ≡ splice at (bytes-of (converted-bytes alpha alpha n (now (s .entry)))) (now (out .entry)) ⌝ }
 {
     let len = text_length(s);
     put_at(&s[..len], n, out, at);

@@ -1,6 +1,6 @@
 -- `conversions::answer_content` is safe: a content of an allowed length is itself of an allowed length.
 use mathlib.Core.Path.{sym, _∙_}
-use Rattle.values.proofs.Carried.{content-allowed}
+use Rattle.values.proofs.Converted.{content-allowed}
 use Rattle.conversions.proofs.Asking.{has-format}
 use borrow.Author.Needs.{needs}
 use Rattle.conversions.proofs.answer_content.Statement.{statement}

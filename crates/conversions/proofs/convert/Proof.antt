@@ -2,9 +2,9 @@
 use mathlib.Core.Path.{sym, ap, _∙_}
 use native.Mathlib.Omega.{arith}
 use Rattle.values.specs.Fits.{fitted}
-use Rattle.rules.specs.Values.{carried}
-use Rattle.kinds.specs.Formats.{format-at}
-use Rattle.values.proofs.Carried.{carried-means}
+use Rattle.rules.specs.Values.{converted-bytes}
+use Rattle.value_formats.specs.Formats.{format-at}
+use Rattle.values.proofs.Converted.{converted-means}
 use Rattle.conversions.proofs.Asking.{has-format, fit-bytes}
 use borrow.Author.Needs.{needs}
 use Rattle.conversions.proofs.convert.Statement.{statement}
@@ -31,17 +31,17 @@ enum-known-fit-2 c = search needs
 returns-2 : tie.Need-returns-2
 returns-2 c = search needs
 
-carry-requires : tie.Need-carry-requires
-carry-requires c κs =
+convert-requires : tie.Need-convert-requires
+convert-requires c κs =
     let f = c .before .before .before .before .before in
     let t = f .before in
     let s = t .before .before .before .before in
     let a = s .args in
     let h = has-format _ _ (sym (t .before .has-length .ensures) ∙ t .if1 .taken) in
-    let o = carried (format-at (a .from)) (format-at (a .to)) (a .n) (a .s .now) in
+    let o = converted-bytes (format-at (a .from)) (format-at (a .to)) (a .n) (a .s .now) in
     let q = fit-bytes o _ (ap fitted (sym (c .before .before .before .fit2 .given .1)) ∙ f .fits2 .ensures) in
     record {
-      asked = record { source = s .pre .0; target = h .0; size = s .pre .1; length-there = h .1; value = carried-means _ _ (a .n) (a .s .now) (q .0) };
+      asked = record { source = s .pre .0; target = h .0; size = s .pre .1; length-there = h .1; value = converted-means _ _ (a .n) (a .s .now) (q .0) };
       fits = q .0;
       enough = omega (arith, q .1, c .before .if2 .left);
     }
@@ -65,7 +65,7 @@ convert-spec =
     returns
     enum-known-fit-2
     returns-2
-    carry-requires
+    convert-requires
     same-length
     returns-3
     returns-4)

@@ -2,7 +2,7 @@
 use mathlib.Core.Path.{sym, _∙_}
 use Rattle.decimals.proofs.Sound.{sound}
 use Rattle.decimals.proofs.Normal.{form-sign}
-use Rattle.words.proofs.NormalForm.{no-form}
+use Rattle.fixed.proofs.NormalForm.{no-form}
 use borrow.Author.Needs.{needs}
 use Rattle.decimals.proofs.is_normal.Statement.{statement}
 use Rattle.decimals.proofs.is_normal.Tie as tie

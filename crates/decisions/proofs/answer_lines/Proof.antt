@@ -1,4 +1,4 @@
--- `decisions::answer_lines` is safe and ends: there are ever fewer lines to ask for, and the areas keep their lengths. Assumes nothing.
+-- `decisions::answer_lines` is safe and ends: there are ever fewer lines to ask for, and the areas keep their lengths.
 use mathlib.Core.Path.{_≡_}
 use lib.ListN.{length}
 use borrow.Author.Needs.{needs}

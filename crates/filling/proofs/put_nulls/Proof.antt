@@ -5,7 +5,7 @@ use native.Mathlib.Omega.{arith}
 use lib.ListN.{replicate}
 use Rattle.rules.specs.Lists.{join}
 use Rattle.rules.specs.Values.{null}
-use Rattle.kinds.specs.Formats.{format-at}
+use Rattle.value_formats.specs.Formats.{format-at}
 use Rattle.values.proofs.Nulls.{length-copies}
 use Rattle.filling.proofs.Nulls.{nulls-few, no-nulls}
 use Rattle.filling.proofs.Singles.{nothing-put, item-beyond, item-tested, item-written}

@@ -14,7 +14,7 @@ use borrow.Author.Needs.{needs}
 use Rattle.lyrecanyon.proofs.empty.Statement.{statement}
 use Rattle.lyrecanyon.proofs.empty.Tie as tie
 
--- What is known behind the test of the table, and once the record's length is computed.
+-- What is known after the test of the table, and once the record's length is computed.
 is-table : (c : tie.Else1) → Valid (c .before .before .before .before .args .table .now)
 is-table c = sym (c .before .valid .ensures) ∙ not-false (c .before .valid .result) (c .if1 .left)
 

@@ -5,7 +5,7 @@ use Rattle.uses.specs.Meant.{Means}
 use Rattle.uses.specs.declared.Meant.the-variants.{As}
 use Rattle.uses.proofs.Testing.{span-known}
 use Rattle.uses.proofs.Ahead.{means-as}
-use Rattle.reading.proofs.Putting.{at-fits, not-unused, puts-as, puts-unused, puts-refused, puts-behind, puts-items}
+use Rattle.reading.proofs.Putting.{at-fits, not-refused, puts-as, puts-nothing, puts-refused, puts-behind, puts-items}
 use borrow.Author.Needs.{needs}
 use Rattle.reading.proofs.put_element.Statement.{statement}
 use Rattle.reading.proofs.put_element.Tie as tie
@@ -17,11 +17,11 @@ start c = c .before .before .before .before .before .before .before .before .bef
 means : (c : tie.After-u) → Means (entries-of (start c .args .t .now)) (start c .args .last .now) (start c .args .e) (As (c .u .given .0 .0))
 means c = means-as (c .u .given .1) (c .before .before .use-of .ensures)
 
-is-unused-requires : tie.Need-is-unused-requires
-is-unused-requires c κs = search needs
+is-element-refused-requires : tie.Need-is-element-refused-requires
+is-element-refused-requires c κs = search needs
 
 returns : tie.Need-returns
-returns c = puts-unused _ (sym (c .before .is-unused .ensures) ∙ c .if1 .taken)
+returns c = puts-nothing _ (sym (c .before .is-element-refused .ensures) ∙ c .if1 .taken)
 
 use-of-requires : tie.Need-use-of-requires
 use-of-requires c κs = search needs
@@ -47,8 +47,8 @@ put-use-requires c κs =
     let s = start u in
     (s .pre .0, means u .held (s .args .f .now) (s .pre .1), s .pre .3, (at-fits (c .before .before .state .given .1) (s .pre .4 .0), s .pre .4 .1))
 
-stands-requires : tie.Need-stands-requires
-stands-requires c κs = search needs
+after-items-requires : tie.Need-after-items-requires
+after-items-requires c κs = search needs
 
 enum-known-state-2 : tie.Need-enum-known-state-2
 enum-known-state-2 c = search needs
@@ -59,7 +59,7 @@ enum-known-state-3 c = search needs
 returns-2 : tie.Need-returns-2
 returns-2 c =
     let e = c .before .before .before .before .before in
-    puts-refused _ _ (means-as (c .before .n .given .1) (c .before .before .before .use-of .ensures)) (sym (e .before .is-unused .ensures) ∙ e .if1 .left)
+    puts-refused _ _ (means-as (c .before .n .given .1) (c .before .before .before .use-of .ensures)) (sym (e .before .is-element-refused .ensures) ∙ e .if1 .left)
 
 same-length : tie.Need-same-length
 same-length c = search needs
@@ -69,7 +69,7 @@ returns-3 c =
     let at = c .before .before .before .before .before .before in
     let u = at .before .before .before .before .before in
     let s = start u in
-    puts-as (at .state .given .1) (c .stands .ensures) (puts-items (means u) (at .before .before .remember .ensures) _ _ (c .before .before .before .put-use .ensures) (s .pre .3) (at-fits (at .state .given .1) (s .pre .4 .0)) (s .pre .4 .1))
+    puts-as (at .state .given .1) (c .after-items .ensures) (puts-items (means u) (at .before .before .remember .ensures) _ _ (c .before .before .before .put-use .ensures) (s .pre .3) (at-fits (at .state .given .1) (s .pre .4 .0)) (s .pre .4 .1))
 
 returns-4 : tie.Need-returns-4
 returns-4 c = puts-as (c .before .state2 .given .1) refl (puts-behind (means (c .before .before .before .before .before .before)) (c .before .before .before .remember .ensures) _)
@@ -77,13 +77,13 @@ returns-4 c = puts-as (c .before .state2 .given .1) refl (puts-behind (means (c 
 returns-5 : tie.Need-returns-5
 returns-5 c =
     let e = c .before .before .before .before .before .before .before .before .before .before in
-    absurd (not-unused _ (sym (e .before .is-unused .ensures) ∙ e .if1 .left) _ (c .before .state3 .given .1))
+    absurd (not-refused _ (sym (e .before .is-element-refused .ensures) ∙ e .if1 .left) _ (c .before .state3 .given .1))
 
 pub put-element-spec : {M : Type 1} → statement M
 put-element-spec =
     tie.close
     (tie.spec
-    is-unused-requires
+    is-element-refused-requires
     returns
     use-of-requires
     enum-known-n
@@ -91,7 +91,7 @@ put-element-spec =
     remember-requires
     enum-known-state
     put-use-requires
-    stands-requires
+    after-items-requires
     enum-known-state-2
     enum-known-state-3
     returns-2

@@ -2,7 +2,7 @@
 use mathlib.Core.Path.{_≡_, subst}
 use native.Mathlib.Omega.{arith}
 use Rattle.tables.specs.Entries.{entries-of}
-use Rattle.uses.specs.Meant.{Use-held}
+use Rattle.uses.specs.Meant.{Good-use}
 use Rattle.uses.specs.declared.Use.{Use}
 use Rattle.uses.specs.declared.Use.the-variants.{Text}
 use Rattle.reading.proofs.Elements.{use-blanks, use-text, use-group-count, use-value-count, use-span}
@@ -11,8 +11,8 @@ use Rattle.reading.proofs.put_use.Statement.{statement}
 use Rattle.reading.proofs.put_use.Tie as tie
 
 -- What is known of the use, by the kind that it is.
-held : (s : tie.Start) {v : Use} → s .args .u ≡ v → Use-held (entries-of (s .args .t .now)) (s .args .f .now) v
-held s e = subst (Use-held (entries-of (s .args .t .now)) (s .args .f .now)) e (s .pre .1)
+held : (s : tie.Start) {v : Use} → s .args .u ≡ v → Good-use (entries-of (s .args .t .now)) (s .args .f .now) v
+held s e = subst (Good-use (entries-of (s .args .t .now)) (s .args .f .now)) e (s .pre .1)
 
 enum-known-u : tie.Need-enum-known-u
 enum-known-u c = search needs
@@ -24,7 +24,7 @@ enum-known-u-2 : tie.Need-enum-known-u-2
 enum-known-u-2 c = search needs
 
 -- The bounds of a text lie in the format.
-text-held : (c : tie.After-u2) → Use-held (entries-of (c .before .before .before .before .before .before .args .t .now)) (c .before .before .before .before .before .before .args .f .now) (Text (c .u2 .given .0 .0) (c .u2 .given .0 .1 .0))
+text-held : (c : tie.After-u2) → Good-use (entries-of (c .before .before .before .before .before .before .args .t .now)) (c .before .before .before .before .before .before .args .f .now) (Text (c .u2 .given .0 .0) (c .u2 .given .0 .1 .0))
 text-held c = held (c .before .before .before .before .before .before) (c .u2 .given .1)
 
 sub-put-bytes : tie.Need-sub-put-bytes

@@ -3,8 +3,8 @@ use mathlib.Core.Path.{_≡_, refl, sym, _∙_}
 use Prim.Native.Nat.{_≤_, _-_}
 use native.Mathlib.Omega.{arith}
 use lib.ListN.{length, drop}
-use Rattle.formats.specs.Syntax.{parsed, Stepped}
-use Rattle.formats.specs.declared.syntax.Step.the-variants.{At}
+use Rattle.format_buffer.specs.Syntax.{parsed, Stepped}
+use Rattle.format_buffer.specs.declared.syntax.Step.the-variants.{At}
 use Rattle.tables.specs.Entries.{entries-of}
 use Rattle.uses.specs.Meant.{indexes-kept}
 use Rattle.uses.proofs.Ahead.{step-as}

@@ -1,9 +1,9 @@
--- `records::inside_next` meets its contract: each branch is one case of `is-inside`. Assumes nothing.
+-- `records::inside_next` meets its contract: each branch is one case of `is-inside`.
 use mathlib.Core.Path.{sym, ap, _∙_}
 use lib.ListN.{getD}
 use lib.Dec.{ltb}
 use Rattle.tables.specs.Entries.{entries-of, blank}
-use Rattle.records.proofs.EmptyRows.{inside-periodic, inside-deeper, inside-not}
+use Rattle.records.proofs.EmptyEntries.{inside-periodic, inside-deeper, inside-not}
 use borrow.Author.Needs.{needs}
 use Rattle.records.proofs.inside_next.Statement.{statement}
 use Rattle.records.proofs.inside_next.Tie as tie

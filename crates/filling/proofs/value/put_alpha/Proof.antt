@@ -1,4 +1,4 @@
--- `filling::value::put_alpha` meets its contract: from the length of its text a value is refused with 9, or is carried in its room.
+-- `filling::value::put_alpha` meets its contract: from the length of its text a value is refused with 9, or is converted in its room.
 use mathlib.Core.Path.{_≡_, sym, ap, _∙_}
 use mathlib.Core.Bool.{true}
 use Prim.Native.Nat.{_-_}
@@ -7,11 +7,11 @@ use lib.ListN.{length, take}
 use borrow.Author.Tests.{not-true, not-false}
 use Rattle.rules.specs.Outcome.{Outcome, is-done}
 use Rattle.rules.specs.Lists.{Bytes, bytes-of}
-use Rattle.rules.specs.Values.{text, alpha, normal, carried}
+use Rattle.rules.specs.Values.{text, alpha, normal, converted-bytes}
 use Rattle.rules.specs.declared.Refusal.the-variants.{OutOfRange}
 use Rattle.buffer.specs.Splice.{splice}
-use Rattle.values.proofs.Strip.{cut-size, carried-text, text-refused}
-use Rattle.values.proofs.Carried.{done-bytes}
+use Rattle.values.proofs.Strip.{cut-size, converted-text, text-refused}
+use Rattle.values.proofs.Converted.{done-bytes}
 use Rattle.filling.proofs.Singles.{Long, value-refused, value-beyond, value-tested, value-written}
 use borrow.Author.Needs.{needs}
 use Rattle.filling.proofs.value.put_alpha.Statement.{statement}
@@ -19,7 +19,7 @@ use Rattle.filling.proofs.value.put_alpha.Tie as tie
 
 -- What the value gives.
 abbrev given : tie.Start → Outcome Bytes
-given s = carried alpha alpha (s .args .size) (s .args .s .now)
+given s = converted-bytes alpha alpha (s .args .size) (s .args .s .now)
 
 -- Its text, by the length that was found.
 abbrev start : tie.After-text-length → tie.Start
@@ -35,7 +35,7 @@ is-text : (c : tie.After-text-length) → given (start c) ≡ normal alpha (star
 is-text c =
     let a = start c .args in
     let t = c .text-length in
-    carried-text (a .s .now) (t .result) (t .ensures .0) (t .ensures .1) (a .size)
+    converted-text (a .s .now) (t .result) (t .ensures .0) (t .ensures .1) (a .size)
 
 -- Whether it fits.
 answer : (c : tie.After-length-fits) → c .length-fits .result ≡ is-done (given (start (c .before)))

@@ -1,4 +1,4 @@
--- `filling::value::put_every` meets its contract: a value that does not fit is refused with 9, another is carried in its room.
+-- `filling::value::put_every` meets its contract: a value that does not fit is refused with 9, another is converted in its room.
 use mathlib.Core.Path.{_≡_, sym, _∙_}
 use mathlib.Core.Bool.{true}
 use Prim.Native.Nat.{_-_}
@@ -6,9 +6,9 @@ use native.Mathlib.Omega.{arith}
 use borrow.Author.Tests.{not-true, not-false}
 use Rattle.rules.specs.Outcome.{Outcome, is-done}
 use Rattle.rules.specs.Lists.{Bytes}
-use Rattle.rules.specs.Values.{carried}
+use Rattle.rules.specs.Values.{converted-bytes}
 use Rattle.rules.specs.declared.Refusal.the-variants.{OutOfRange}
-use Rattle.kinds.specs.Formats.{format-at}
+use Rattle.value_formats.specs.Formats.{format-at}
 use Rattle.values.proofs.Numbered.{longest-size}
 use Rattle.values.proofs.Chosen.{asked-refused, asked-bytes}
 use Rattle.filling.proofs.Singles.{Long, value-refused, value-beyond, value-tested, value-written}
@@ -18,7 +18,7 @@ use Rattle.filling.proofs.value.put_every.Tie as tie
 
 -- What the value gives.
 abbrev given : tie.Start → Outcome Bytes
-given s = carried (format-at (s .args .own)) (format-at (s .args .format)) (s .args .size) (s .args .s .now)
+given s = converted-bytes (format-at (s .args .own)) (format-at (s .args .format)) (s .args .size) (s .args .s .now)
 
 abbrev start : tie.Else1 → tie.Start
 start c = c .before .before .before .before
@@ -27,8 +27,8 @@ fits : (c : tie.Else1) → is-done (given (start c)) ≡ true
 fits c = sym (c .before .every-fits .ensures) ∙ not-false (c .before .every-fits .result) (c .if1 .left)
 
 -- How long its bytes are.
-sized : (c : tie.After-carried-size) → Long (given (start (c .before))) (c .carried-size .result)
-sized c = let b = asked-bytes (start (c .before) .pre .0) (fits (c .before)) in (b .0, c .carried-size .ensures ∙ b .1)
+sized : (c : tie.After-converted-size) → Long (given (start (c .before))) (c .converted-size .result)
+sized c = let b = asked-bytes (start (c .before) .pre .0) (fits (c .before)) in (b .0, c .converted-size .ensures ∙ b .1)
 
 every-fits-requires : tie.Need-every-fits-requires
 every-fits-requires c κs = search needs
@@ -39,8 +39,8 @@ returns c =
     let a = s .args in
     value-refused (given s) (a .end - a .at) (a .at) (a .out .now) (a .write) OutOfRange (asked-refused (s .pre .0) (sym (c .before .every-fits .ensures) ∙ not-true (c .before .every-fits .result) (c .if1 .taken)))
 
-carried-size-requires : tie.Need-carried-size-requires
-carried-size-requires c κs =
+converted-size-requires : tie.Need-converted-size-requires
+converted-size-requires c κs =
     let s = c .before .before .before .before in
     longest-size (s .args .own) _ (s .pre .0 .source) (s .pre .0 .size)
 
@@ -53,8 +53,8 @@ returns-2 c =
     let a = s .args in
     value-beyond (given s) (a .end - a .at) (a .at) (a .out .now) (a .write) _ (sized (c .before)) (c .if2 .taken)
 
-carry-every-requires : tie.Need-carry-every-requires
-carry-every-requires c κs =
+convert-every-requires : tie.Need-convert-every-requires
+convert-every-requires c κs =
     let e = c .before .before .before .before in
     let s = start e in
     let b = sized (c .before .before .before) in
@@ -72,7 +72,7 @@ returns-3 c =
     let s = start (n .before) in
     let a = s .args in
     let l = c .before .before .before .before .before .if2 .left in
-    value-written (given s) (a .end - a .at) (a .at) (a .out .now) (a .write) _ (sized n) (c .before .before .before .before .if3 .taken) (omega (arith, l)) (omega (arith, l)) (c .before .before .carry-every .ensures)
+    value-written (given s) (a .end - a .at) (a .at) (a .out .now) (a .write) _ (sized n) (c .before .before .before .before .if3 .taken) (omega (arith, l)) (omega (arith, l)) (c .before .before .convert-every .ensures)
 
 add-t13 : tie.Need-add-t13
 add-t13 c = search needs
@@ -89,10 +89,10 @@ put-every-spec =
     (tie.spec
     every-fits-requires
     returns
-    carried-size-requires
+    converted-size-requires
     sub-if2
     returns-2
-    carry-every-requires
+    convert-every-requires
     add-t18
     same-length
     returns-3

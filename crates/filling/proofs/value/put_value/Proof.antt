@@ -1,6 +1,6 @@
 -- `filling::value::put_value` meets its contract: A converts with A alone, another format by the kind of the conversion.
 use mathlib.Core.Path.{sym, _∙_, ap}
-use Rattle.kinds.specs.Formats.{format-at, is-every, is-natural}
+use Rattle.value_formats.specs.Formats.{format-at, is-every, is-natural}
 use Rattle.values.specs.Formats.{range-kind}
 use Rattle.values.proofs.Numbered.{at-alpha, alpha-alone, longest-size, every-kind, ranged-kind}
 use borrow.Author.Needs.{needs}

@@ -6,12 +6,12 @@ use native.Mathlib.Omega.{arith}
 use borrow.Author.Tests.{not-true, not-false}
 use Rattle.rules.specs.Outcome.{Outcome, is-done}
 use Rattle.rules.specs.Lists.{Bytes, bytes-of}
-use Rattle.rules.specs.Values.{meaning, normal, carried}
+use Rattle.rules.specs.Values.{meaning, normal, converted-bytes}
 use Rattle.rules.specs.declared.Refusal.the-variants.{OutOfRange}
-use Rattle.words.specs.Words.{signed-value, word-of, value-of}
-use Rattle.words.specs.declared.Word.the-variants.{Number}
+use Rattle.fixed.specs.Words.{signed-value, word-of, value-of}
+use Rattle.fixed.specs.declared.Word.the-variants.{Number}
 use Rattle.buffer.specs.Splice.{splice}
-use Rattle.kinds.specs.Formats.{format-at}
+use Rattle.value_formats.specs.Formats.{format-at}
 use Rattle.values.proofs.Chosen.{word-source, word-asked, word-done, word-written, word-beyond, asked-refused, asked-number}
 use Rattle.filling.proofs.Singles.{Long, value-refused, value-beyond, value-tested, value-written}
 use borrow.Author.Needs.{needs}
@@ -20,7 +20,7 @@ use Rattle.filling.proofs.value.put_word.Tie as tie
 
 -- What the value gives.
 abbrev given : tie.Start → Outcome Bytes
-given s = carried (format-at (s .args .own)) (format-at (s .args .format)) (s .args .size) (s .args .s .now)
+given s = converted-bytes (format-at (s .args .own)) (format-at (s .args .format)) (s .args .size) (s .args .s .now)
 
 -- Where the function starts, before the value is a word.
 abbrev start : tie.After-word → tie.Start

@@ -3,22 +3,22 @@ use mathlib.Core.Path.{sym, _∙_, ap}
 use Prim.Native.Nat.{_-_}
 use native.Mathlib.Omega.{arith}
 use Rattle.rules.proofs.Steps.{done-inj}
-use Rattle.kinds.specs.Formats.{format-at}
+use Rattle.value_formats.specs.Formats.{format-at}
 use Rattle.records.specs.Walk.{rest-of}
 use Rattle.reading.proofs.CellRuns.{stored-bytes, copied}
 use borrow.Author.Needs.{needs}
 use Rattle.reading.proofs.cells.put_run.Statement.{statement}
 use Rattle.reading.proofs.cells.put_run.Tie as tie
 
-skip-requires : tie.Need-skip-requires
-skip-requires c κs = let s = c .before .before .before .before .before .before in let t = s .pre .2 .1 in (s .pre .1, (format-at (s .args .w .own), (t .0, ap rest-of (t .1))))
+values-end-requires : tie.Need-values-end-requires
+values-end-requires c κs = let s = c .before .before .before .before .before .before in let t = s .pre .2 .1 in (s .pre .1, (format-at (s .args .w .own), (t .0, ap rest-of (t .1))))
 
 sub-put-bytes : tie.Need-sub-put-bytes
 sub-put-bytes c =
     let s = c .before .before .before .before .before .before .before in
     let a = s .args in
     let t = (s .pre .2 .1) in
-    let y = c .skip .ensures (format-at (a .w .own)) (t .0, ap rest-of (t .1)) in
+    let y = c .values-end .ensures (format-at (a .w .own)) (t .0, ap rest-of (t .1)) in
     let e = done-inj (sym (ap rest-of (t .1)) ∙ sym (y .answer)) in
     stored-bytes (a .w) (a .b .now) (a .run .at) (a .run .count) (s .pre .2 .0) t _ (s .pre .1) (y .place) e .0
 
@@ -27,7 +27,7 @@ part-put-bytes-start c =
     let s = c .before .before .before .before .before .before .before in
     let a = s .args in
     let t = (s .pre .2 .1) in
-    let y = c .skip .ensures (format-at (a .w .own)) (t .0, ap rest-of (t .1)) in
+    let y = c .values-end .ensures (format-at (a .w .own)) (t .0, ap rest-of (t .1)) in
     let e = done-inj (sym (ap rest-of (t .1)) ∙ sym (y .answer)) in
     omega (arith, stored-bytes (a .w) (a .b .now) (a .run .at) (a .run .count) (s .pre .2 .0) t _ (s .pre .1) (y .place) e .0, y .place)
 
@@ -36,7 +36,7 @@ part-put-bytes-end c =
     let s = c .before .before .before .before .before .before .before in
     let a = s .args in
     let t = (s .pre .2 .1) in
-    let y = c .skip .ensures (format-at (a .w .own)) (t .0, ap rest-of (t .1)) in
+    let y = c .values-end .ensures (format-at (a .w .own)) (t .0, ap rest-of (t .1)) in
     let e = done-inj (sym (ap rest-of (t .1)) ∙ sym (y .answer)) in
     omega (arith, stored-bytes (a .w) (a .b .now) (a .run .at) (a .run .count) (s .pre .2 .0) t _ (s .pre .1) (y .place) e .0, y .place)
 
@@ -51,12 +51,12 @@ returns c us stand =
     let s = c .before .before .before .before .before .before .before .before .before .before .before .before in
     let a = s .args in
     let t = stand in
-    let y = c .before .before .before .before .before .skip .ensures (format-at (a .w .own)) (t .0, ap rest-of (t .1)) in
+    let y = c .before .before .before .before .before .values-end .ensures (format-at (a .w .own)) (t .0, ap rest-of (t .1)) in
     let e = done-inj (sym (ap rest-of (t .1)) ∙ sym (y .answer)) in
     copied (a .w) (a .b .now) (a .run .at) (a .run .count) us t (c .before .before .before .before .before .before .before .before .if1 .taken) (c .before .before .before .before .before .before .if2 .taken) _ (a .end - a .at) (a .at) (a .write) (s .pre .1) (y .place) e (c .before .before .put-bytes .ensures)
 
-put-carried-requires : tie.Need-put-carried-requires
-put-carried-requires c κs = search needs
+put-converted-requires : tie.Need-put-converted-requires
+put-converted-requires c κs = search needs
 
 same-length-2 : tie.Need-same-length-2
 same-length-2 c = search needs
@@ -68,13 +68,13 @@ pub put-run-spec : {M : Type 1} → statement M
 put-run-spec =
     tie.close
     (tie.spec
-    skip-requires
+    values-end-requires
     sub-put-bytes
     part-put-bytes-start
     part-put-bytes-end
     put-bytes-requires
     same-length
     returns
-    put-carried-requires
+    put-converted-requires
     same-length-2
     returns-2)

@@ -8,7 +8,7 @@ use lib.ListN.{length, drop, getD}
 use Rattle.rules.specs.Limits.{count-size}
 use Rattle.rules.specs.Lists.{Bytes}
 use Rattle.rules.specs.Record.{times, stored-value}
-use Rattle.kinds.specs.Formats.{format-at}
+use Rattle.value_formats.specs.Formats.{format-at}
 use Rattle.records.specs.Walk.{rest-of, Walked}
 use Rattle.records.specs.declared.Reach.the-variants.{At}
 use Rattle.records.specs.declared.places.Cell.the-variants.{At as Stands}
@@ -30,15 +30,15 @@ returns c vs x =
 after-count-requires : tie.Need-after-count-requires
 after-count-requires c κs = let s = c .before .before .before .before in let a = s .args in cell-many (a .w) (a .b .now) (s .pre .1 .0) (a .cell) (s .pre .1 .1) .0
 
-sub-skip : tie.Need-sub-skip
-sub-skip c = search needs
+sub-values-end : tie.Need-sub-values-end
+sub-values-end c = search needs
 
 -- The first of the values that are wanted is there.
 there : (c : tie.Else1) {n : ℕ} → getD (c .before .before .before .before .args .b .now) (c .before .before .before .before .args .cell) 0 ≡ n → c .before .before .before .before .args .w .first ≤ n
 there c m = omega (arith, m, c .before .before .count-at .ensures .0, c .if1 .left)
 
-skip-requires : tie.Need-skip-requires
-skip-requires c κs =
+values-end-requires : tie.Need-values-end-requires
+values-end-requires c κs =
     let s = c .before .before .before .before .before .before in
     let a = s .args in
     let vs = s .pre .1 .0 in
@@ -48,13 +48,13 @@ skip-requires c κs =
     (omega (arith, m .0, from), (format-at (a .w .own), rw from (before-first (a .w) (a .b .now) vs (a .cell) x (s .pre .0) (there (c .before .before) (m .1)))))
 
 -- Where the first of them stands.
-first-at : (c : tie.After-skip) {vs : List Bytes} → Cell-holds (c .before .before .before .before .before .before .before .args .b .now) (format-at (c .before .before .before .before .before .before .before .args .w .own)) (c .before .before .before .before .before .before .before .args .w .standard) true vs (Stands (c .before .before .before .before .before .before .before .args .cell))
-    → Walked (c .before .before .before .before .before .before .before .args .b .now) (rest-of (times (c .before .before .before .before .before .before .before .args .w .first - 1) (stored-value (format-at (c .before .before .before .before .before .before .before .args .w .own)) (c .before .before .before .before .before .before .before .args .w .standard)) (drop (c .before .before .before .before .before .before .before .args .cell + count-size) (c .before .before .before .before .before .before .before .args .b .now)))) (At (c .skip .result))
+first-at : (c : tie.After-values-end) {vs : List Bytes} → Cell-holds (c .before .before .before .before .before .before .before .args .b .now) (format-at (c .before .before .before .before .before .before .before .args .w .own)) (c .before .before .before .before .before .before .before .args .w .standard) true vs (Stands (c .before .before .before .before .before .before .before .args .cell))
+    → Walked (c .before .before .before .before .before .before .before .args .b .now) (rest-of (times (c .before .before .before .before .before .before .before .args .w .first - 1) (stored-value (format-at (c .before .before .before .before .before .before .before .args .w .own)) (c .before .before .before .before .before .before .before .args .w .standard)) (drop (c .before .before .before .before .before .before .before .args .cell + count-size) (c .before .before .before .before .before .before .before .args .b .now)))) (At (c .values-end .result))
 first-at c {vs} x =
     let s = c .before .before .before .before .before .before .before in
     let a = s .args in
     let m = cell-many (a .w) (a .b .now) vs (a .cell) x in
-    rw (c .before .before .after-count .ensures) at (c .skip .ensures) (format-at (a .w .own)) (before-first (a .w) (a .b .now) vs (a .cell) x (s .pre .0) (there (c .before .before .before) (m .1)))
+    rw (c .before .before .after-count .ensures) at (c .values-end .ensures) (format-at (a .w .own)) (before-first (a .w) (a .b .now) vs (a .cell) x (s .pre .0) (there (c .before .before .before) (m .1)))
 
 add-t9 : tie.Need-add-t9
 add-t9 c = search needs
@@ -68,7 +68,7 @@ returns-2 c vs x =
     let a = s .args in
     let m = cell-many (a .w) (a .b .now) vs (a .cell) x in
     let n = c .before .before .before .before .before .before .before .before .count-at .ensures .0 in
-    exist-all (a .w) (a .b .now) vs (a .cell) x (s .pre .0) (there (c .before .before .before .before .before .before) (m .1)) (c .before .before .before .skip .result) _ (first-at (c .before .before .before) x)
+    exist-all (a .w) (a .b .now) vs (a .cell) x (s .pre .0) (there (c .before .before .before .before .before .before) (m .1)) (c .before .before .before .values-end .result) _ (first-at (c .before .before .before) x)
     (omega (arith, m .1, n, c .before .if2 .taken)) (ap (λ (k : ℕ). k + 1 - a .w .first) (n ∙ m .1))
 
 add-t8 : tie.Need-add-t8
@@ -82,7 +82,7 @@ returns-3 c vs x =
     let s = c .before .before .before .before .before .before .before .before .before .before .before in
     let a = s .args in
     let m = cell-many (a .w) (a .b .now) vs (a .cell) x in
-    exist-some (a .w) (a .b .now) vs (a .cell) x (s .pre .0) (there (c .before .before .before .before .before .before .before) (m .1)) (c .before .before .before .before .skip .result) _ (first-at (c .before .before .before .before) x)
+    exist-some (a .w) (a .b .now) vs (a .cell) x (s .pre .0) (there (c .before .before .before .before .before .before .before) (m .1)) (c .before .before .before .before .values-end .result) _ (first-at (c .before .before .before .before) x)
     (omega (arith, m .1, c .before .before .before .before .before .before .before .before .before .count-at .ensures .0, c .before .before .if2 .left, s .pre .0 .first)) refl
 
 pub run-among-spec : {M : Type 1} → statement M
@@ -92,8 +92,8 @@ run-among-spec =
     count-at-requires
     returns
     after-count-requires
-    sub-skip
-    skip-requires
+    sub-values-end
+    values-end-requires
     add-t9
     sub-t10
     returns-2

@@ -2,7 +2,7 @@
 use mathlib.Core.Path.{subst}
 use mathlib.Core.Bool.{Bool}
 use native.Mathlib.Omega.{arith}
-use Rattle.kinds.specs.Formats.{format-at}
+use Rattle.value_formats.specs.Formats.{format-at}
 use Rattle.records.specs.declared.places.Cell.the-variants.{At}
 use Rattle.reading.specs.Cells.{Cell-holds}
 use Rattle.reading.proofs.Existing.{exist-none, exist-one, one-long}

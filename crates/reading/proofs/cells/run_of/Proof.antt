@@ -2,7 +2,7 @@
 use mathlib.Core.Path.{subst, ap}
 use native.Mathlib.Omega.{arith}
 use lib.ListN.{length}
-use Rattle.kinds.specs.Formats.{format-at}
+use Rattle.value_formats.specs.Formats.{format-at}
 use Rattle.reading.specs.Cells.{Cell-holds}
 use Rattle.reading.proofs.Existing.{exist-none}
 use borrow.Author.Needs.{needs}

@@ -8,9 +8,9 @@ use lib.ListN.{length, getD}
 use Rattle.rules.proofs.Ranges.{first-occurrence, no-occurrence}
 use Rattle.tables.specs.Entries.{entries-of, blank, is-group}
 use Rattle.tables.specs.Places.{inside-at}
-use Rattle.formats.specs.Elements.{range}
+use Rattle.format_buffer.specs.Elements.{range}
 use Rattle.uses.specs.Meant.{asked-of}
-use Rattle.reading.specs.Spans.{row-items, span-items}
+use Rattle.reading.specs.Spans.{occurrence-items, span-items}
 use Rattle.reading.proofs.Running.{Running, run-start, run-on, run-off, run-end, run-same}
 use Rattle.reading.proofs.Columns.{column-wants, column-holds, column-fills}
 use Rattle.reading.proofs.SpanItems.{bounds}
@@ -34,7 +34,7 @@ abbrev turn : tie.After-put-cell Inv-loop μ-loop → tie.At-loop Inv-loop μ-lo
 turn c = c .before .before .before .before .before
 
 -- The items of the occurrence come first.
-parted : (c : tie.After-put-cell Inv-loop μ-loop) → span-items (entries-of (start c .args .t .now)) (start c .args .s) (turn c .loop .o) ≡ row-items (entries-of (start c .args .t .now)) (start c .args .s) (turn c .loop .o) ++ span-items (entries-of (start c .args .t .now)) (start c .args .s) (turn c .loop .o + 1)
+parted : (c : tie.After-put-cell Inv-loop μ-loop) → span-items (entries-of (start c .args .t .now)) (start c .args .s) (turn c .loop .o) ≡ occurrence-items (entries-of (start c .args .t .now)) (start c .args .s) (turn c .loop .o) ++ span-items (entries-of (start c .args .t .now)) (start c .args .s) (turn c .loop .o + 1)
 parted c =
     let a = start c .args in
     first-occurrence (asked-of (entries-of (a .t .now)) (a .s)) (range (a .s .«value_from») (a .s .«value_upto»)) false (turn c .loop .o) (a .s .upto) (c .before .before .before .if1 .taken)
@@ -104,7 +104,7 @@ returns c =
     let p = turn k .before .path-to in
     let y = k .before .before .cell-by in
     let f = column-fills (a .t .now) (a .b .now) (a .places .now) (s .pre .0) (a .s) (s .pre .1) (s .pre .2) (l .o) (w .result) (w .ensures) (p .result .entry) (p .ensures .0) (y .result) (y .ensures) (l .p) (a .end) (a .write) (k .put-cell .ensures) in
-    run-off (l .inv .0) (row-items (entries-of (a .t .now)) (a .s) (l .o)) (span-items (entries-of (a .t .now)) (a .s) (l .o + 1)) (parted k) f _ (c .before .next .given .1)
+    run-off (l .inv .0) (occurrence-items (entries-of (a .t .now)) (a .s) (l .o)) (span-items (entries-of (a .t .now)) (a .s) (l .o + 1)) (parted k) f _ (c .before .next .given .1)
 
 enum-known-next-2 : tie.Need-enum-known-next-2 Inv-loop μ-loop
 enum-known-next-2 c = search needs
@@ -129,7 +129,7 @@ loop-again c =
     let p = turn k .before .path-to in
     let y = k .before .before .cell-by in
     let f = column-fills (a .t .now) (a .b .now) (a .places .now) (s .pre .0) (a .s) (s .pre .1) (s .pre .2) (l .o) (w .result) (w .ensures) (p .result .entry) (p .ensures .0) (y .result) (y .ensures) (l .p) (a .end) (a .write) (k .put-cell .ensures) in (
-      run-on (l .inv .0) (row-items (entries-of (a .t .now)) (a .s) (l .o)) (span-items (entries-of (a .t .now)) (a .s) (l .o + 1)) (parted k) f _ (c .before .next2 .given .1),
+      run-on (l .inv .0) (occurrence-items (entries-of (a .t .now)) (a .s) (l .o)) (span-items (entries-of (a .t .now)) (a .s) (l .o + 1)) (parted k) f _ (c .before .next2 .given .1),
       omega arith,
     )
 

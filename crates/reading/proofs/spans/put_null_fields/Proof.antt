@@ -72,7 +72,7 @@ enum-known-next : tie.Need-enum-known-next Inv-loop μ-loop
 enum-known-next c = search needs
 
 same-length : tie.Need-same-length Inv-loop μ-loop
-same-length c = let g = turn (c .before .before .before .before .before) .loop .inv .going .same in omega arith
+same-length c = let g = turn (c .before .before .before .before .before) .loop .inv .continues .same in omega arith
 
 returns : tie.Need-returns Inv-loop μ-loop
 returns c =
@@ -98,7 +98,7 @@ loop-again c =
     null-on (s .args .t .now) (s .pre .0) (turn p .loop .inv) (less p) (enough p) (s .pre .3 (turn p .loop .k) (less p)) (e .result) (e .ensures) (p .put-nulls .ensures) _ (c .before .next2 .given .1)
 
 same-length-2 : tie.Need-same-length-2 Inv-loop μ-loop
-same-length-2 c = c .before .loop .inv .going .same
+same-length-2 c = c .before .loop .inv .continues .same
 
 returns-2 : tie.Need-returns-2 Inv-loop μ-loop
 returns-2 c = let s = c .before .before .before .before in null-end (s .args .t .now) (s .pre .0) (c .before .loop .inv) (c .loop-test .left)

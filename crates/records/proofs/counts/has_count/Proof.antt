@@ -1,4 +1,4 @@
--- `records::counts::has_count` meets its contract: no byte there, or the byte is compared. Assumes nothing.
+-- `records::counts::has_count` meets its contract: no byte there, or the byte is compared.
 use native.Mathlib.Omega.{arith}
 use borrow.Author.Tests.{le-ltb, lt-ltb}
 use Rattle.records.specs.Counts.{has-count}

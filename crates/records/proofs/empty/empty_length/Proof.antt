@@ -1,4 +1,4 @@
--- `records::empty::empty_length` meets its contract: the total so far and what the entries to come add are the whole. Assumes nothing.
+-- `records::empty::empty_length` meets its contract: the total so far and what the entries to come add are the whole.
 use mathlib.Core.Path.{_≡_, refl, sym, ap, _∙_}
 use mathlib.Core.Bool.{false}
 use Prim.Native.Nat.{_+_, _-_, _*_, _≤_}
@@ -9,7 +9,7 @@ use Rattle.rules.specs.Limits.{record-head-size, longest-alpha}
 use Rattle.tables.specs.Entries.{entries-of, blank}
 use Rattle.tables.proofs.Tables.{valid-most}
 use Rattle.records.specs.Empty.{empty-from}
-use Rattle.records.proofs.EmptyRows.{empty-turn, empty-over}
+use Rattle.records.proofs.EmptyEntries.{empty-turn, empty-over}
 use Rattle.records.proofs.empty.empty_length.Statement.{statement}
 use Rattle.records.proofs.empty.empty_length.Tie as tie
 

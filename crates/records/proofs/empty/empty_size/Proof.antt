@@ -1,4 +1,4 @@
--- `records::empty::empty_size` meets its contract: each branch is one kind of entry. Assumes nothing.
+-- `records::empty::empty_size` meets its contract: each branch is one kind of entry.
 use mathlib.Core.Path.{_≡_, sym, ap, _∙_}
 use native.Mathlib.Omega.{arith}
 use lib.ListN.{length, getD}
@@ -6,7 +6,7 @@ use Rattle.rules.specs.Record.{count-bytes}
 use Rattle.rules.specs.Values.{null}
 use Rattle.tables.specs.Entries.{entries-of, blank, format-at, format-number}
 use Rattle.tables.proofs.Tables.{valid-sound}
-use Rattle.records.proofs.EmptyRows.{row-small, row-allowed, null-short, adds-count, adds-nothing, adds-no-more, adds-no-values, adds-null}
+use Rattle.records.proofs.EmptyEntries.{entry-small, entry-allowed, null-short, adds-count, adds-nothing, adds-no-more, adds-no-values, adds-null}
 use borrow.Author.Needs.{needs}
 use Rattle.records.proofs.empty.empty_size.Statement.{statement}
 use Rattle.records.proofs.empty.empty_size.Tie as tie
@@ -56,7 +56,7 @@ null-length-requires c κs =
     let w = getD (entries-of (a .t .now)) (a .i) blank .what in
     let e = c .before .before .before .before .before .before .entry-at .ensures in
     let h : format-number w ≡ 5 → ⊥ = (λ z. c .before .before .before .before .if1 .left (ap (λ r. r .format) e ∙ z)) in
-    rw e (row-small w h, row-allowed _ w (valid-sound (a .t .now) (c .before .before .before .before .before .before .before .before .pre .0) (a .i) (c .before .before .before .before .before .before .before .before .pre .1)) h)
+    rw e (entry-small w h, entry-allowed _ w (valid-sound (a .t .now) (c .before .before .before .before .before .before .before .before .pre .0) (a .i) (c .before .before .before .before .before .before .before .before .pre .1)) h)
 
 returns-5 : tie.Need-returns-5
 returns-5 c =
@@ -65,7 +65,7 @@ returns-5 c =
     let e = c .before .before .before .before .before .before .before .entry-at .ensures in
     let h : format-number w ≡ 5 → ⊥ = (λ z. c .before .before .before .before .before .if1 .left (ap (λ r. r .format) e ∙ z)) in
     let m = c .null-length .ensures ∙ ap (λ r. length (null (format-at (r .format)) (r .size))) e in
-    let l = null-short _ _ (row-small w h) (row-allowed _ w (valid-sound (a .t .now) (c .before .before .before .before .before .before .before .before .before .pre .0) (a .i) (c .before .before .before .before .before .before .before .before .before .pre .1)) h) in
+    let l = null-short _ _ (entry-small w h) (entry-allowed _ w (valid-sound (a .t .now) (c .before .before .before .before .before .before .before .before .before .pre .0) (a .i) (c .before .before .before .before .before .before .before .before .before .pre .1)) h) in
     (m ∙ sym (ap length (adds-null (a .inside) w h (c .before .before .before .before .if3 .left) (ap (λ r. r .multiple) (sym e) ∙ c .before .before .before .if4 .left))), omega (arith, m))
 
 pub empty-size-spec : {M : Type 1} → statement M

@@ -1,4 +1,4 @@
--- `records::empty::write_empty` meets its contract: what the entries to come add, behind what is written, makes up the whole.
+-- `records::empty::write_empty` meets its contract: what the entries to come add, after what is written, makes up the whole.
 use mathlib.Core.Path.{_≡_, refl, sym, ap, _∙_}
 use mathlib.Core.Bool.{false}
 use Prim.Native.Nat.{_-_, _<_}
@@ -9,7 +9,7 @@ use Rattle.rules.specs.Record.{record-head}
 use Rattle.buffer.proofs.Laws.{length-splice, splice-chain}
 use Rattle.tables.specs.Entries.{entries-of}
 use Rattle.records.specs.Empty.{empty-from}
-use Rattle.records.proofs.EmptyRows.{Writing, writing-room, writing-turn, writing-end}
+use Rattle.records.proofs.EmptyEntries.{Writing, writing-room, writing-turn, writing-end}
 use Rattle.records.proofs.empty.write_empty.Statement.{statement}
 use Rattle.records.proofs.empty.write_empty.Tie as tie
 

@@ -10,8 +10,8 @@ use Rattle.buffer.specs.Splice.{splice}
 use Rattle.buffer.proofs.Laws.{splice-nil}
 use Rattle.tables.specs.Entries.{entries-of, blank, decoded, format-at}
 use Rattle.tables.proofs.Tables.{valid-sound}
-use Rattle.records.specs.Empty.{empty-entry, null-row}
-use Rattle.records.proofs.EmptyRows.{row-small, row-allowed, null-adds, nothing-added, count-added}
+use Rattle.records.specs.Empty.{empty-entry, null-entry}
+use Rattle.records.proofs.EmptyEntries.{entry-small, entry-allowed, null-adds, nothing-added, count-added}
 use borrow.Author.Needs.{needs}
 use Rattle.records.proofs.empty.write_entry.Statement.{statement}
 use Rattle.records.proofs.empty.write_entry.Tie as tie
@@ -36,10 +36,10 @@ write-null-requires c κs =
     let s = c .before .before .before .before .before .before .before .before .before in
     let x = getD (entries-of (s .args .t .now)) (s .args .i) blank in
     let e = c .before .before .before .before .before .entry-at .ensures in
-    let t : null-row (s .args .inside) (decoded x) ≡ true = ap (null-row (s .args .inside)) (sym e) ∙ sym (c .before .before .before .before .adds-null .ensures) ∙ c .before .before .before .if1 .taken in
+    let t : null-entry (s .args .inside) (decoded x) ≡ true = ap (null-entry (s .args .inside)) (sym e) ∙ sym (c .before .before .before .before .adds-null .ensures) ∙ c .before .before .before .if1 .taken in
     let y = null-adds (s .args .inside) x t in
     let l = ap length (y .1) in
-    rw e (row-small (x .what) (y .0), row-allowed _ (x .what) (valid-sound (s .args .t .now) (s .pre .0) (s .args .i) (s .pre .1)) (y .0), omega (arith, s .pre .2))
+    rw e (entry-small (x .what) (y .0), entry-allowed _ (x .what) (valid-sound (s .args .t .now) (s .pre .0) (s .args .i) (s .pre .1)) (y .0), omega (arith, s .pre .2))
 
 add-result : tie.Need-add-result
 add-result c = search needs
@@ -52,14 +52,14 @@ returns c =
     let s = c .before .before .before .before .before .before .before .before .before .before .before .before in
     let x = getD (entries-of (s .args .t .now)) (s .args .i) blank in
     let e = c .before .before .before .before .before .before .before .before .entry-at .ensures in
-    let t : null-row (s .args .inside) (decoded x) ≡ true = ap (null-row (s .args .inside)) (sym e) ∙ sym (c .before .before .before .before .before .before .before .adds-null .ensures) ∙ c .before .before .before .before .before .before .if1 .taken in
+    let t : null-entry (s .args .inside) (decoded x) ≡ true = ap (null-entry (s .args .inside)) (sym e) ∙ sym (c .before .before .before .before .before .before .before .adds-null .ensures) ∙ c .before .before .before .before .before .before .if1 .taken in
     let y = null-adds (s .args .inside) x t in
     let z = c .before .before .before .before .before .before .before .before .before .empty-size .ensures .0 in
     (ap (λ n. s .args .at + n) z, c .before .before .write-null .ensures ∙ ap (λ bs. splice (s .args .at) bs (s .args .out .now)) (ap (λ r. null (format-at (r .format)) (r .size)) e ∙ sym (y .1)))
 
 -- The entry adds no null.
-no-null : (c : tie.Else1) → null-row (c .before .before .before .before .before .before .args .inside) (decoded (getD (entries-of (c .before .before .before .before .before .before .args .t .now)) (c .before .before .before .before .before .before .args .i) blank)) ≡ false
-no-null c = ap (null-row (c .before .before .before .before .before .before .args .inside)) (sym (c .before .before .entry-at .ensures)) ∙ sym (c .before .adds-null .ensures) ∙ c .if1 .left
+no-null : (c : tie.Else1) → null-entry (c .before .before .before .before .before .before .args .inside) (decoded (getD (entries-of (c .before .before .before .before .before .before .args .t .now)) (c .before .before .before .before .before .before .args .i) blank)) ≡ false
+no-null c = ap (null-entry (c .before .before .before .before .before .before .args .inside)) (sym (c .before .before .entry-at .ensures)) ∙ sym (c .before .adds-null .ensures) ∙ c .if1 .left
 
 returns-2 : tie.Need-returns-2
 returns-2 c =

@@ -1,4 +1,4 @@
--- `records::heads::has_head` meets its contract: too long, too short, or the head compared. Assumes nothing.
+-- `records::heads::has_head` meets its contract: too long, too short, or the head compared.
 use mathlib.Core.Path.{sym, _∙_}
 use native.Mathlib.Omega.{arith}
 use Rattle.rules.specs.Record.{record-head}

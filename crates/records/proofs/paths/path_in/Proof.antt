@@ -1,4 +1,4 @@
--- `records::paths::path_in` meets its contract: the fields before the entry have a width, or not. Assumes nothing.
+-- `records::paths::path_in` meets its contract: the fields before the entry have a width, or not.
 use mathlib.Core.Path.{refl, subst}
 use Prim.Native.Nat.{_+_, _*_}
 use native.Mathlib.Omega.{arith}

@@ -1,4 +1,4 @@
--- `records::paths::path_to` meets its contract: an entry lies in a periodic group, or outside of all. Assumes nothing.
+-- `records::paths::path_to` meets its contract: an entry lies in a periodic group, or outside of all.
 use mathlib.Core.Path.{refl, subst}
 use Rattle.tables.specs.Entries.{entries-of}
 use Rattle.tables.specs.Places.{Homes}

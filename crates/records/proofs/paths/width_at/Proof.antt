@@ -1,4 +1,4 @@
--- `records::paths::width_at` meets its contract: a group, an MU field, a field of variable length, or a plain one. Assumes nothing.
+-- `records::paths::width_at` meets its contract: a group, an MU field, a field of variable length, or a plain one.
 use mathlib.Core.Path.{_≡_, sym, ap, _∙_}
 use Prim.Native.Nat.{_≤_}
 use native.Mathlib.Omega.{arith}

@@ -1,4 +1,4 @@
--- `records::paths::width_of` meets its contract: the widths are added up, with those still to come. Assumes nothing.
+-- `records::paths::width_of` meets its contract: the widths are added up, with those still to come.
 use Prim.Native.Nat.{_-_}
 use native.Mathlib.Omega.{arith}
 use Rattle.tables.specs.Entries.{entries-of, blank}

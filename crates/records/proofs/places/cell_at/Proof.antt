@@ -1,4 +1,4 @@
--- `records::places::cell_at` meets its contract: the way to an entry leads to it. Assumes nothing.
+-- `records::places::cell_at` meets its contract: the way to an entry leads to it.
 use mathlib.Core.Path.{_≡_, sym, subst}
 use mathlib.Core.Bool.{false}
 use Prim.Native.Nat.{_<_}

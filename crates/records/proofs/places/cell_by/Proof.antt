@@ -1,4 +1,4 @@
--- `records::places::cell_by` meets its contract: a field lies in a periodic group, or its cell stands at its own place. Assumes nothing.
+-- `records::places::cell_by` meets its contract: a field lies in a periodic group, or its cell stands at its own place.
 use native.Mathlib.Omega.{arith}
 use lib.ListN.{getD}
 use Rattle.tables.specs.Entries.{entries-of, blank}

@@ -1,4 +1,4 @@
--- `records::places::entry_in` meets its contract: the entry stands behind the fields before it, from the place of the occurrence on. Assumes nothing.
+-- `records::places::entry_in` meets its contract: the entry stands after the fields before it, from the place of the occurrence on.
 use native.Mathlib.Omega.{arith}
 use Prim.Native.Nat.{_≤_, _<_}
 use lib.ListN.{length, getD}
@@ -6,7 +6,7 @@ use Rattle.rules.specs.Table.{parts}
 use Rattle.rules.specs.Record.{Record, group-count-at}
 use Rattle.tables.specs.Entries.{entries-of, blank}
 use Rattle.tables.proofs.Tables.{valid-names}
-use Rattle.records.specs.Places.{Held}
+use Rattle.records.specs.Places.{Is-record}
 use Rattle.records.proofs.Placed.{home-end, count-there, members-end}
 use borrow.Author.Needs.{needs}
 use Rattle.records.proofs.places.entry_in.Statement.{statement}
@@ -20,8 +20,8 @@ group-count-requires c κs =
 returns : tie.Need-returns
 returns c r held = omega (arith, c .before .group-count .ensures .1 r held, c .if1 .taken)
 
-row-at-requires : tie.Need-row-at-requires
-row-at-requires c κs =
+occurrence-at-requires : tie.Need-occurrence-at-requires
+occurrence-at-requires c κs =
     let s = c .before .before .before .before in
     let a = s .args in
     let home = s .pre .4 .home (s .pre .5) in
@@ -35,7 +35,7 @@ row-at-requires c κs =
       h,
     )
 
-many : (c : tie.After-row-at) (r : Record) → Held (entries-of (c .before .before .before .before .before .args .t .now)) (c .before .before .before .before .before .args .b .now) (c .before .before .before .before .before .args .places .now) r
+many : (c : tie.After-occurrence-at) (r : Record) → Is-record (entries-of (c .before .before .before .before .before .args .t .now)) (c .before .before .before .before .before .args .b .now) (c .before .before .before .before .before .args .places .now) r
     → c .before .before .before .before .before .args .o ≤ group-count-at (parts (entries-of (c .before .before .before .before .before .args .t .now))) r (getD (entries-of (c .before .before .before .before .before .args .t .now)) (c .before .before .before .before .before .args .path .group) blank .name)
 many c r held = omega (arith, c .before .before .group-count .ensures .1 r held, c .before .if1 .left)
 
@@ -46,19 +46,19 @@ place-in-requires c κs =
     let es = entries-of (a .t .now) in
     let h = s .pre .6 in
     let home = s .pre .4 .home (s .pre .5) in
-    let row = c .row-at .ensures in
+    let row = c .occurrence-at .ensures in
     let less : a .path .group < length es = omega (arith, s .pre .1, s .pre .2) in (
       s .pre .0,
       s .pre .1,
       omega (arith, s .pre .2),
       s .pre .4,
       row .place,
-      members-end (h .1) (valid-names (a .t .now) (s .pre .0)) (a .path .group) less (home .periodic) (home .level) (a .o) (s .pre .3) (many c (h .0) (h .1)) (c .row-at .result) row (a .path .entry) (s .pre .1)
+      members-end (h .1) (valid-names (a .t .now) (s .pre .0)) (a .path .group) less (home .periodic) (home .level) (a .o) (s .pre .3) (many c (h .0) (h .1)) (c .occurrence-at .result) row (a .path .entry) (s .pre .1)
           (home-end es (a .path .entry) (a .path .group) home),
     )
 
 returns-2 : tie.Need-returns-2
-returns-2 c r held = (c .before .row-at .result, record { many = many (c .before) r held; row = c .before .row-at .ensures; before = c .place-in .ensures })
+returns-2 c r held = (c .before .occurrence-at .result, record { many = many (c .before) r held; row = c .before .occurrence-at .ensures; before = c .place-in .ensures })
 
 pub entry-in-spec : {M : Type 1} → statement M
-entry-in-spec = tie.close (tie.spec group-count-requires returns row-at-requires place-in-requires returns-2)
+entry-in-spec = tie.close (tie.spec group-count-requires returns occurrence-at-requires place-in-requires returns-2)

@@ -1,11 +1,11 @@
--- `records::places::piece_inside` meets its contract: plain fields stand one behind the other, from the place of the first on. Assumes nothing.
+-- `records::places::piece_inside` meets its contract: plain fields stand one after the other, from the place of the first on.
 use mathlib.Core.Path.{sym, subst}
 use Prim.Native.Nat.{_+_, _-_}
 use native.Mathlib.Omega.{arith}
 use Rattle.tables.specs.Entries.{entries-of}
 use Rattle.rules.specs.Record.{Record}
-use Rattle.records.specs.Places.{Held, Entered, Piece-of}
-use Rattle.records.specs.declared.places.Content.the-variants.{At}
+use Rattle.records.specs.Places.{Is-record, Entered, Piece-of}
+use Rattle.records.specs.declared.places.Extent.the-variants.{At}
 use Rattle.records.proofs.Strips.{none-in, piece-in}
 use borrow.Author.Needs.{needs}
 use Rattle.records.proofs.places.piece_inside.Statement.{statement}
@@ -24,7 +24,7 @@ enum-known-first : tie.Need-enum-known-first
 enum-known-first c = search needs
 
 found : (c : tie.After-known-told) (r : Record)
-    → Held (entries-of (c .before .before .before .before .before .before .args .t .now)) (c .before .before .before .before .before .before .args .b .now) (c .before .before .before .before .before .before .args .places .now) r
+    → Is-record (entries-of (c .before .before .before .before .before .before .args .t .now)) (c .before .before .before .before .before .before .args .b .now) (c .before .before .before .before .before .before .args .places .now) r
     → Piece-of (entries-of (c .before .before .before .before .before .before .args .t .now)) (c .before .before .before .before .before .before .args .b .now) (c .before .before .before .before .before .before .args .path .entry) (c .before .before .before .before .before .before .args .end) (c .before .before .before .before .before .before .args .o) r
     (At (c .before .first .given .0 .0) (c .before .first .given .0 .0 + c .before .before .before .before .before .before .args .width))
 found c r held =

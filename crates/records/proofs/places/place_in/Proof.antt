@@ -1,4 +1,4 @@
--- `records::places::place_in` meets its contract: the width of the fields before the entry is known, or they are walked over. Assumes nothing.
+-- `records::places::place_in` meets its contract: the width of the fields before the entry is known, or they are walked over.
 use mathlib.Core.Path.{sym, subst}
 use Prim.Native.Nat.{_+_}
 use native.Mathlib.Omega.{arith}
@@ -31,14 +31,14 @@ returns c =
     subst (λ w. Walked (a .b .now) (rest-of (each stored-cell fs (drop (a .row) (a .b .now)))) (At (a .row + w))) (sym (wide .width))
     (fields-skipped fs (wide .plains) (a .b .now) (a .row) (s .pre .4) (s .pre .5))
 
-add-behind-members : tie.Need-add-behind-members
-add-behind-members c = search needs
+add-members-end : tie.Need-add-members-end
+add-members-end c = search needs
 
-behind-members-requires : tie.Need-behind-members-requires
-behind-members-requires c κs = search needs
+members-end-requires : tie.Need-members-end-requires
+members-end-requires c κs = search needs
 
 returns-2 : tie.Need-returns-2
-returns-2 c = c .behind-members .ensures (c .before .before .before .before .before .pre .5)
+returns-2 c = c .members-end .ensures (c .before .before .before .before .before .pre .5)
 
 pub place-in-spec : {M : Type 1} → statement M
-place-in-spec = tie.close (tie.spec add-result returns add-behind-members behind-members-requires returns-2)
+place-in-spec = tie.close (tie.spec add-result returns add-members-end members-end-requires returns-2)

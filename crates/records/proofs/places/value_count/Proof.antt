@@ -4,7 +4,7 @@ use native.Mathlib.Omega.{arith}
 use lib.ListN.{getD}
 use Rattle.rules.specs.Record.{Record}
 use Rattle.tables.specs.Entries.{entries-of, blank}
-use Rattle.records.specs.Places.{Held, Cell-of}
+use Rattle.records.specs.Places.{Is-record, Cell-of}
 use Rattle.records.specs.declared.places.Cell.the-variants.{At}
 use Rattle.records.proofs.Placed.{multiple-field, values-counted, values-none}
 use borrow.Author.Needs.{needs}
@@ -20,7 +20,7 @@ enum-known-cell : tie.Need-enum-known-cell
 enum-known-cell c = search needs
 
 -- The cell of the field in a record.
-cell : (c : tie.After-known-told) (r : Record) → Held (entries-of (c .before .before .before .before .before .before .args .t .now)) (c .before .before .before .before .before .before .args .b .now) (c .before .before .before .before .before .before .args .places .now) r
+cell : (c : tie.After-known-told) (r : Record) → Is-record (entries-of (c .before .before .before .before .before .before .args .t .now)) (c .before .before .before .before .before .before .args .b .now) (c .before .before .before .before .before .before .args .places .now) r
     → Cell-of (entries-of (c .before .before .before .before .before .before .args .t .now)) (c .before .before .before .before .before .before .args .b .now) (c .before .before .before .before .before .before .args .i) (c .before .before .before .before .before .before .args .o) r (At (c .before .cell .given .0 .0))
 cell c r held =
     let a = c .before .before .before .before .before .before .args in

@@ -1,4 +1,4 @@
--- `records::walk::bytes_end` meets its contract: so many bytes can be cut off, or there are too few. Assumes nothing.
+-- `records::walk::bytes_end` meets its contract: n bytes can be cut off, or there are too few.
 use mathlib.Core.Path.{sym, _∙_, ap}
 use native.Mathlib.Omega.{arith}
 use lib.ListN.{drop, length-drop}

@@ -1,4 +1,4 @@
--- `records::walk::cell_end` meets its contract: a count and so many values, no count, or one value.
+-- `records::walk::cell_end` meets its contract: a count and that many values, no count, or one value.
 use mathlib.Core.Path.{sym, _∙_}
 use Prim.Native.Nat.{_≤_, _<_}
 use native.Mathlib.Omega.{arith}

@@ -1,4 +1,4 @@
--- `records::walk::check` meets its contract: the walk over what is left answers as the whole, and keeps each place. Assumes nothing.
+-- `records::walk::check` meets its contract: the walk over what is left answers as the whole, and keeps each place.
 use mathlib.Core.Path.{_≡_, refl, sym, _∙_}
 use Prim.Native.Nat.{_+_, _-_, _<_}
 use native.Mathlib.Omega.{arith}
@@ -63,8 +63,8 @@ entry-end-requires c κs =
       omega (arith, l .2 .most, valid-most (s .args .t .now) (s .pre .0), l .0, c .before .before .before .before .before .before .loop-test .taken),
     )
 
-kept-behind-requires : tie.Need-kept-behind-requires Inv-loop μ-loop
-kept-behind-requires c κs =
+kept-after-requires : tie.Need-kept-after-requires Inv-loop μ-loop
+kept-after-requires c κs =
     let s = c .before .before .before .before .before .before .before .before .before .before .before .before .before .before in
     let l = c .before .before .before .before .before .before .before .before .loop .inv in
     (s .pre .0, omega (arith, l .0, c .before .before .before .before .before .before .before .loop-test .taken), omega (arith, l .2 .most, valid-most (s .args .t .now) (s .pre .0), l .0, c .before .before .before .before .before .before .before .loop-test .taken))
@@ -98,7 +98,7 @@ loop-again c =
     let p = c .before .before .before .before .before .before .before .before .before .before .before .before .loop .p in (
       l .0,
       passed (l .1) (omega (arith, l .0, less)) blank (c .before .before .before .before .before .before .inside-next .ensures) (c .before .before .before .before .entry-end .ensures .0) step _ (new (l .2) small p kept) (old (l .2) small p kept),
-      rowed (l .2) small p kept (c .before .before .before .kept-behind .ensures .0) (c .before .before .before .kept-behind .ensures .1),
+      rowed (l .2) small p kept (c .before .before .before .kept-after .ensures .0) (c .before .before .before .kept-after .ensures .1),
     )
 
 returns-2 : tie.Need-returns-2 Inv-loop μ-loop
@@ -123,7 +123,7 @@ check-spec =
     keep-requires-2
     inside-next-requires
     entry-end-requires
-    kept-behind-requires
+    kept-after-requires
     enum-told
     returns
     enum-known-step

@@ -1,4 +1,4 @@
--- `records::walk::keep` meets its contract: a place is stored, or the directory has no such number. Assumes nothing.
+-- `records::walk::keep` meets its contract: a place is stored, or the directory has no such number.
 use mathlib.Core.Path.{sym}
 use native.Mathlib.Omega.{arith}
 use Rattle.records.proofs.Turns.{set-beyond}

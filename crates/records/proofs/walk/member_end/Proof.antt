@@ -1,9 +1,9 @@
--- `records::walk::member_end` meets its contract: a group has no bytes, and a field has its cell. Assumes nothing.
+-- `records::walk::member_end` meets its contract: a group has no bytes, and a field has its cell.
 use mathlib.Core.Path.{_≡_, sym, ap, _∙_}
 use lib.ListN.{getD, drop}
 use Rattle.tables.specs.Entries.{entries-of, blank, format-number}
 use Rattle.tables.proofs.Tables.{valid-sound}
-use Rattle.records.proofs.EmptyRows.{row-small, row-allowed}
+use Rattle.records.proofs.EmptyEntries.{entry-small, entry-allowed}
 use Rattle.records.proofs.Walks.{walked-as}
 use Rattle.records.proofs.Ends.{cell-of-field, cell-of-group}
 use borrow.Author.Needs.{needs}
@@ -34,7 +34,7 @@ cell-end-requires c κs =
     let e = getD (entries-of (a .t .now)) (a .i) blank in
     let q = c .before .before .before .before .entry-at .ensures in
     let h : format-number (e .what) ≡ 5 → ⊥ = λ z. c .before .before .if1 .left (ap (λ r. r .format) q ∙ z) in
-    (s .pre .2, rw q (row-small (e .what) h), rw q (row-allowed (e .level) (e .what) (valid-sound (a .t .now) (s .pre .0) (a .i) (s .pre .1)) h))
+    (s .pre .2, rw q (entry-small (e .what) h), rw q (entry-allowed (e .level) (e .what) (valid-sound (a .t .now) (s .pre .0) (a .i) (s .pre .1)) h))
 
 returns-2 : tie.Need-returns-2
 returns-2 c =

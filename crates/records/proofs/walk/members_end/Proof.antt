@@ -1,4 +1,4 @@
--- `records::walk::members_end` meets its contract: the fields still to come end where all of them do. Assumes nothing.
+-- `records::walk::members_end` meets its contract: the fields still to come end where all of them do.
 use Prim.Native.Nat.{_-_}
 use native.Mathlib.Omega.{arith}
 use lib.ListN.{drop}

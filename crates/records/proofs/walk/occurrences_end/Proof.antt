@@ -1,4 +1,4 @@
--- `records::walk::occurrences_end` meets its contract: the occurrences still to come end where all of them do, and those behind are kept. Assumes nothing.
+-- `records::walk::occurrences_end` meets its contract: the occurrences still to come end where all of them do, and those after are kept.
 use Prim.Native.Nat.{_-_}
 use native.Mathlib.Omega.{arith}
 use mathlib.Core.Path.{_∙_}

@@ -1,4 +1,4 @@
--- `records::walk::value_end` meets its contract: a value is stored where its content, as first found, is in normal form. Assumes nothing.
+-- `records::walk::value_end` meets its contract: a value is stored where its content, as first found, is in normal form.
 use mathlib.Core.Path.{sym, _∙_}
 use native.Mathlib.Omega.{arith}
 use Rattle.tables.specs.Entries.{format-at}

@@ -1,4 +1,4 @@
--- `records::walk::values_end` meets its contract: values that any bytes are end behind their bytes; of others, those still to come end where all of them do. Assumes nothing.
+-- `records::walk::values_end` meets its contract: values that any bytes are end after their bytes; of others, those still to come end where all of them do.
 use mathlib.Core.Path.{sym, _∙_}
 use Prim.Native.Nat.{_+_, _-_, _≤_}
 use native.Mathlib.Nat.{mul-le-mul-right}

@@ -1,4 +1,4 @@
--- `tables::groups::expand` meets its contract: the walk from the entry behind the group writes its fields from the front on.
+-- `tables::groups::expand` meets its contract: the walk from the entry after the group writes its fields from the front on.
 use mathlib.Core.Path.{ap}
 use native.Mathlib.Omega.{arith}
 use Rattle.tables.specs.declared.Entry.{Entry}

@@ -1,7 +1,7 @@
 -- `tables::validity::group_right` meets its contract: the tests that led to each return settle the definition's.
 use mathlib.Core.Path.{sym, _∙_}
 use borrow.Author.Tests.{ne-eqb}
-use Rattle.kinds.proofs.Letters.{letter-group}
+use Rattle.value_formats.proofs.Letters.{letter-group}
 use Rattle.tables.proofs.EntryBytes.{what-group, option-zero}
 use Rattle.tables.proofs.validity.group_right.Statement.{statement}
 use Rattle.tables.proofs.validity.group_right.Tie as tie

@@ -1,6 +1,6 @@
 -- `tables::validity::what_right` meets its contract: a group by `group_right`, a field by its length and its option.
 use mathlib.Core.Path.{sym, _∙_}
-use Rattle.kinds.proofs.Letters.{letter-format}
+use Rattle.value_formats.proofs.Letters.{letter-format}
 use Rattle.tables.proofs.EntryBytes.{what-field}
 use borrow.Author.Needs.{needs}
 use Rattle.tables.proofs.validity.what_right.Statement.{statement}

@@ -1,7 +1,7 @@
 -- `uses::effect::asked` meets its contract: the tests that led to each return settle the definition's.
 use mathlib.Core.Path.{sym, ap, _∙_}
 use Rattle.rules.specs.Values.{converts}
-use Rattle.kinds.specs.Formats.{format-at}
+use Rattle.value_formats.specs.Formats.{format-at}
 use Rattle.uses.proofs.Effects.{asked-none, asked-fits, asked-long, asked-apart}
 use borrow.Author.Needs.{needs}
 use Rattle.uses.proofs.effect.asked.Statement.{statement}

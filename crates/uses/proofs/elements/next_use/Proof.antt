@@ -3,8 +3,8 @@ use mathlib.Core.Path.{sym, _∙_}
 use native.Mathlib.Omega.{arith}
 use lib.ListN.{drop}
 use Rattle.tables.specs.Entries.{entries-of}
-use Rattle.formats.specs.Syntax.{parsed, Stepped}
-use Rattle.formats.specs.declared.syntax.Step.the-variants.{At}
+use Rattle.format_buffer.specs.Syntax.{parsed, Stepped}
+use Rattle.format_buffer.specs.declared.syntax.Step.the-variants.{At}
 use Rattle.uses.specs.Meant.{Means}
 use Rattle.uses.specs.declared.Meant.the-variants.{As}
 use Rattle.uses.proofs.Testing.{span-known}

@@ -4,8 +4,8 @@ use Prim.Native.Nat.{_≤_, _-_}
 use native.Mathlib.Omega.{arith}
 use lib.ListN.{length, drop}
 use Rattle.tables.specs.Entries.{entries-of}
-use Rattle.formats.specs.Syntax.{parsed, Stepped}
-use Rattle.formats.specs.declared.syntax.Step.the-variants.{At}
+use Rattle.format_buffer.specs.Syntax.{parsed, Stepped}
+use Rattle.format_buffer.specs.declared.syntax.Step.the-variants.{At}
 use Rattle.uses.specs.Meant.{Means, indexes-kept}
 use Rattle.uses.specs.declared.Meant.the-variants.{As}
 use Rattle.uses.proofs.Testing.{Testing, testing-start, testing-bad, testing-last, testing-refused, testing-more, span-known}

@@ -7,7 +7,7 @@ use Rattle.tables.specs.Places.{inside-at}
 use Rattle.tables.specs.Groups.{field-at}
 use Rattle.tables.specs.declared.Entry.{Entry}
 use Rattle.tables.proofs.Tables.{valid-most}
-use Rattle.kinds.specs.Formats.{format-at}
+use Rattle.value_formats.specs.Formats.{format-at}
 use Rattle.uses.specs.Spread.{spread-of, occurrences, bracket}
 use Rattle.uses.specs.Effect.{asked-at, known-format, length-given, letter-given}
 use Rattle.uses.proofs.Fields.{multiple-at, size-at, format-of-field}

@@ -1,7 +1,7 @@
 -- `uses::meaning::use_of_value_count` meets its contract: the tests that led to each return settle the rule.
 use mathlib.Core.Path.{refl, sym, _∙_}
 use native.Mathlib.Omega.{arith}
-use Rattle.formats.specs.Elements.{range}
+use Rattle.format_buffer.specs.Elements.{range}
 use Rattle.rules.specs.Use.{in-order}
 use Rattle.tables.proofs.Bools.{clash}
 use Rattle.uses.proofs.Spreading.{ordered-within}

@@ -2,7 +2,7 @@
 use mathlib.Core.Path.{refl, subst}
 use Rattle.rules.specs.Use.{indexes-after}
 use Rattle.tables.specs.Entries.{entries-of}
-use Rattle.uses.specs.Meant.{Span-known}
+use Rattle.uses.specs.Meant.{Good-span-of}
 use Rattle.uses.proofs.Remembering.{others-remembered}
 use borrow.Author.Needs.{needs}
 use Rattle.uses.proofs.memory.remember.Statement.{statement}
@@ -12,7 +12,7 @@ enum-known-u : tie.Need-enum-known-u
 enum-known-u c = search needs
 
 remember-span-requires : tie.Need-remember-span-requires
-remember-span-requires c κs = let s = c .before .before .before .before .before in (s .pre .0, subst (Span-known (entries-of (s .args .t .now))) (c .before .before .u .given .1) (s .pre .1), s .pre .2)
+remember-span-requires c κs = let s = c .before .before .before .before .before in (s .pre .0, subst (Good-span-of (entries-of (s .args .t .now))) (c .before .before .u .given .1) (s .pre .1), s .pre .2)
 
 enum-told : tie.Need-enum-told
 enum-told c = search needs

@@ -1,4 +1,4 @@
--- `uses::memory::remember_span` meets its contract: the index of a span of one MU field is set, by the entry's number; no entry has the place behind them.
+-- `uses::memory::remember_span` meets its contract: the index of a span of one MU field is set, by the entry's number; no entry has the place after them.
 use mathlib.Core.Path.{sym, _∙_}
 use Prim.Native.Nat.{_<_}
 use native.Mathlib.Omega.{arith}
@@ -7,7 +7,7 @@ use Rattle.rules.specs.Limits.{most-entries}
 use Rattle.tables.specs.Entries.{entries-of}
 use Rattle.tables.proofs.Known.{one-entry}
 use Rattle.tables.proofs.Tables.{valid-most}
-use Rattle.formats.specs.Elements.{range}
+use Rattle.format_buffer.specs.Elements.{range}
 use Rattle.uses.proofs.Spreading.{ordered-within}
 use Rattle.uses.proofs.Fields.{multiple-at}
 use Rattle.uses.proofs.Remembering.{stored-remembered, single-remembered, multiple-remembered, behind-remembered}

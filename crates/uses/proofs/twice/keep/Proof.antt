@@ -1,4 +1,4 @@
--- `uses::twice::keep` meets its contract: a span is kept behind the others, and one item names nothing.
+-- `uses::twice::keep` meets its contract: a span is kept after the others, and one item names nothing.
 use mathlib.Core.Path.{subst}
 use Rattle.uses.specs.Twice.{small}
 use Rattle.uses.proofs.Sharing.{one-left}

@@ -1,7 +1,7 @@
 -- `uses::twice::met_before` meets its contract: a span is compared, and one item names nothing.
 use mathlib.Core.Path.{sym, subst}
 use Rattle.tables.specs.Entries.{entries-of}
-use Rattle.uses.specs.Meant.{Span-known}
+use Rattle.uses.specs.Meant.{Good-span-of}
 use Rattle.uses.proofs.Keeping.{met-one}
 use borrow.Author.Needs.{needs}
 use Rattle.uses.proofs.twice.met_before.Statement.{statement}
@@ -13,7 +13,7 @@ enum-known-u c = search needs
 span-met-requires : tie.Need-span-met-requires
 span-met-requires c κs =
     let s = c .before .before .before .before .before in
-    (s .pre .0, s .pre .1, s .pre .2, subst (Span-known (entries-of (s .args .t .now))) (c .before .u .given .1) (s .pre .3))
+    (s .pre .0, s .pre .1, s .pre .2, subst (Good-span-of (entries-of (s .args .t .now))) (c .before .u .given .1) (s .pre .3))
 
 enum-told : tie.Need-enum-told
 enum-told c = search needs

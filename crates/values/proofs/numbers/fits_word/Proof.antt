@@ -3,7 +3,7 @@ use native.Mathlib.Omega.{arith}
 use mathlib.Core.Path.{sym, ap, _∙_}
 use Rattle.rules.specs.Outcome.{is-done}
 use Rattle.rules.specs.Values.{normal}
-use Rattle.words.specs.Words.{signed-value}
+use Rattle.fixed.specs.Words.{signed-value}
 use Rattle.values.proofs.Numbered.{at-binary, at-fixed, at-decimal, two-four, some-size, longest-decimal}
 use Rattle.values.proofs.numbers.fits_word.Statement.{statement}
 use Rattle.values.proofs.numbers.fits_word.Tie as tie

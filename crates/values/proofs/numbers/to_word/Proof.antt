@@ -2,7 +2,7 @@
 use native.Mathlib.Omega.{arith}
 use mathlib.Core.Path.{sym, ap, _∙_}
 use Rattle.rules.specs.Values.{meaning}
-use Rattle.words.specs.Words.{word-of, value-of}
+use Rattle.fixed.specs.Words.{word-of, value-of}
 use Rattle.values.proofs.Numbered.{at-binary, at-fixed, at-decimal, two-four, longest-size}
 use Rattle.values.proofs.Chosen.{fixed-word-is}
 use borrow.Author.Needs.{needs}

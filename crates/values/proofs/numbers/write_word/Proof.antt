@@ -4,7 +4,7 @@ use native.Mathlib.Omega.{arith}
 use mathlib.Core.Path.{sym, ap, _∙_}
 use Rattle.rules.specs.Lists.{bytes-of}
 use Rattle.rules.specs.Values.{normal}
-use Rattle.words.specs.Words.{signed-value}
+use Rattle.fixed.specs.Words.{signed-value}
 use Rattle.buffer.specs.Splice.{splice}
 use Rattle.values.proofs.Numbered.{at-binary, at-fixed, at-decimal, two-four, some-size, longest-decimal}
 use borrow.Author.Needs.{needs}
