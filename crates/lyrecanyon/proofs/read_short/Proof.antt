@@ -8,9 +8,13 @@ use borrow.Author.Needs.{needs}
 use Rattle.lyrecanyon.proofs.read_short.Statement.{statement}
 use Rattle.lyrecanyon.proofs.read_short.Tie as tie
 
+-- Where the function begins, seen from after its pass over the format.
+abbrev start : tie.After-scan → tie.Start
+start c = c .before .before .before .before .before .before .before .before .before
+
 ready : (c : tie.After-scan)
-    → Ready (c .before .before .before .before .before .before .before .before .before .args .table .now) (c .before .before .before .before .before .before .before .before .before .args .stored .now) (c .before .before .before .before .before .before .before .before .before .args .places .now) (c .before .before .before .before .before .before .before .before .before .args .format .now) (c .before .before .before .before .before .before .before .before .before .args .buffer .now) (c .before .before .before .least .result)
-ready c = let p = c .before .before .before .before .before .before .before .before .before .pre in record { valid = p .0; holds = p .1; room = c .before .before .before .least .ensures }
+    → Ready (start c .args .table .now) (start c .args .stored .now) (start c .args .places .now) (start c .args .format .now) (start c .args .buffer .now) (c .before .before .before .least .result)
+ready c = record { valid = start c .pre .0; holds = start c .pre .1; room = c .before .before .before .least .ensures }
 
 less : (c : tie.After-scan) → c .before .before .least2 .result ≤ c .before .before .before .least .result
 less c = omega (arith, c .before .before .least2 .ensures)
