@@ -40,7 +40,7 @@ use Rattle.filling.specs.declared.Next.{Next}
 use Rattle.reading.proofs.Items.{filled-together}
 use Rattle.filling.proofs.Together.{together-done}
 use Rattle.reading.proofs.SpanItems.{stored-items, row-once, each-field}
-use Rattle.reading.proofs.Values.{name-at}
+use Rattle.tables.proofs.EntryFields.{name-at}
 
 -- The field that an entry is, if it is one.
 own-field : (n : ℕ) (w : What) → is-group w ≡ false → field-of n w ≡ field-by n w ∷ []

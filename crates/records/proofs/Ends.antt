@@ -1,13 +1,13 @@
 -- Where the pieces of a body end, in the code's words: what a count leaves, what an entry adds, and the fields of a group by their entries.
 use mathlib.Core.Path.{_≡_, refl, sym, _∙_, ap}
-use mathlib.Core.Bool.{Bool, true, false, _&&_}
+use mathlib.Core.Bool.{Bool, true, false}
 use mathlib.Core.List.{List, [], _∷_, _++_}
 use Prim.Native.Nat.{ℕ, zero, suc, _+_, _≤_, _<_}
 use native.Mathlib.Nat.{suc-add, zero-add, not-suc-le-zero}
 use native.Mathlib.Numerals.{add-one}
 use native.Mathlib.Omega.{arith}
-use borrow.Author.Tests.{lt-ltb, ltb-true, le-leb, leb-true}
-use lib.Dec.{leb, ltb}
+use borrow.Author.Tests.{lt-ltb, le-leb}
+use lib.Dec.{leb, ltb, leb→le, ltb→lt}
 use lib.ListN.{length, take, drop, getD, length-drop}
 use lib.Seq.{slice, take-nil}
 use Rattle.rules.specs.Outcome.{done, refused}
@@ -15,9 +15,9 @@ use Rattle.rules.specs.Limits.{greatest-count}
 use Rattle.rules.specs.Lists.{Bytes}
 use Rattle.rules.specs.Table.{What, field, group, Entry, Field, fields-below, alone, part-of}
 use Rattle.rules.specs.Record.{Reader, times, counted, each, stored-value, stored-cell, stored-part}
-use Rattle.rules.proofs.Steps.{by-test, by-outcome}
+use Rattle.rules.proofs.Steps.{by-test, by-outcome, and-left, and-right, true-T}
 use Rattle.buffer.proofs.Cases.{by-order}
-use Rattle.tables.specs.Entries.{blank, format-at, format-number, size-of, is-multiple, is-periodic}
+use Rattle.tables.specs.Entries.{blank, group-number, format-at, format-number, size-of, is-multiple, is-periodic}
 use Rattle.tables.specs.Groups.{run-below, group-end}
 use Rattle.tables.proofs.Nesting.{run-short}
 use Rattle.records.specs.Counts.{has-count}
@@ -35,11 +35,10 @@ has-count-is b at h k = rw (lt-ltb at (length b) h, le-leb (getD b at 0) greates
 
 pub count-some : (b : Bytes) (at : ℕ) → has-count b at ≡ true → (at < length b) × (getD b at 0 ≤ greatest-count)
 unfolding has-count
-count-some b at h = both-are (ltb at (length b)) (leb (getD b at 0) greatest-count) h (λ l k. (ltb-true at (length b) l, leb-true (getD b at 0) greatest-count k))
-  where
-    both-are : {C : Type 0} (x y : Bool) → (x && y) ≡ true → (x ≡ true → y ≡ true → C) → C
-    both-are true y e k = k refl e
-    both-are false y e k = absurd (never refl e)
+count-some b at h = (
+  ltb→lt at (length b) (and-left (ltb at (length b)) (leb (getD b at 0) greatest-count) (true-T h)),
+  leb→le (getD b at 0) greatest-count (and-right (ltb at (length b)) (leb (getD b at 0) greatest-count) (true-T h)),
+)
 
 module _ {X : Type 0} (one : Reader X) (b : Bytes) (at : ℕ) where
   pub count-there : has-count b at ≡ true → rest-of (counted true one (drop at b)) ≡ rest-of (times (getD b at 0) one (drop (at + 1) b))
@@ -57,14 +56,14 @@ each-single one y bs = by-outcome (rest-of (one y bs)) (λ cs h. each-turn one y
 
 -- The cell of an entry by the numbers that the code has of it.
 module _ (n : ℕ) (w : What) (bs : Bytes) where
-  pub cell-of-field : (format-number w ≡ 5 → ⊥)
+  pub cell-of-field : (format-number w ≡ group-number → ⊥)
       → rest-of (each stored-cell (field-of n w) bs) ≡ rest-of (counted (is-multiple w) (stored-value (format-at (format-number w)) (size-of w)) bs)
   unfolding field-of stored-cell
   cell-of-field h =
       ap (λ (v : What). rest-of (each stored-cell (field-of n v) bs)) (entry-field w h)
       ∙ each-single stored-cell (record { name = n; format = format-at (format-number w); size = size-of w; multiple = is-multiple w }) bs
 
-  pub cell-of-group : format-number w ≡ 5 → rest-of (each stored-cell (field-of n w) bs) ≡ done bs
+  pub cell-of-group : format-number w ≡ group-number → rest-of (each stored-cell (field-of n w) bs) ≡ done bs
   unfolding field-of each
   cell-of-group h = ap (λ (v : What). rest-of (each stored-cell (field-of n v) bs)) (entry-group w h)
 

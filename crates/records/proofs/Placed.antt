@@ -20,6 +20,7 @@ use Rattle.tables.specs.Entries.{blank, is-group, is-multiple, is-periodic, siz
 use Rattle.tables.specs.Places.{inside-at, inside-before, Home}
 use Rattle.tables.specs.Groups.{group-end, field-by, field-at}
 use Rattle.value_formats.proofs.Letters.{number-back}
+use Rattle.tables.proofs.EntryFields.{field-periodic}
 use Rattle.tables.proofs.Nesting.{run-levels}
 use Rattle.records.specs.Walk.{rest-of, Walked, Ends, firsts, directory, occurrence, Checked}
 use Rattle.records.specs.Where.{inside-from, First, Deeper, fields-of}
@@ -86,10 +87,6 @@ home-deeper es i g home k p q =
 -- What lies in a periodic group stands after it.
 pub home-before : (es : List Entry) (i g : ℕ) → is-periodic (getD es i blank .what) ≡ false → Home es i g → g < i
 home-before es i g what home = by-order g i (λ l. l) (λ l. let z : g ≡ i = omega (arith, home .upto) in absurd (never (rw (← z) at what) (ap is-periodic (home .periodic))))
-
-pub field-periodic : (w : What) → is-group w ≡ false → is-periodic w ≡ false
-field-periodic (field f s mu) h = refl
-field-periodic (group p) h = absurd (never h refl)
 
 pub home-end : (es : List Entry) (i g : ℕ) → Home es i g → i ≤ group-end es g
 unfolding group-end

@@ -1,6 +1,6 @@
 -- Plain fields in an occurrence of a periodic group stand one after the other: from each on stand its bytes, and then, its length further, the next.
 use mathlib.Core.Path.{_≡_, refl, sym, _∙_, ap}
-use mathlib.Core.Bool.{Bool, true, false, _&&_}
+use mathlib.Core.Bool.{true}
 use mathlib.Core.List.{List, [], _∷_, _++_, append-assoc, append-nil}
 use Prim.Native.Nat.{ℕ, zero, suc, _+_, _-_, _≤_, _<_}
 use native.Mathlib.Nat.{add-zero}
@@ -12,7 +12,7 @@ use Rattle.rules.specs.Lists.{Bytes, all, join}
 use Rattle.rules.specs.Table.{What, field, group, Entry, Field, parts}
 use Rattle.rules.specs.Use.{plain}
 use Rattle.rules.specs.Record.{Record, times, each, stored-cell, group-count-at, values-at}
-use Rattle.rules.proofs.Steps.{done-inj}
+use Rattle.rules.proofs.Steps.{done-inj, and-left, and-right, true-T, T-true}
 use Rattle.tables.specs.Entries.{Valid, entries-of, blank, is-group}
 use Rattle.tables.specs.Groups.{group-end}
 use Rattle.tables.specs.Places.{Home}
@@ -24,7 +24,6 @@ use Rattle.records.specs.Paths.{lengths}
 use Rattle.records.specs.Places.{Is-record, values-of, Celled, Valueless, Piece-of}
 use Rattle.records.specs.declared.Reach.the-variants as S
 use Rattle.records.specs.declared.places.Extent.the-variants.{At}
-use Rattle.records.proofs.Entries.{never}
 use Rattle.records.proofs.Walks.{walked-as}
 use Rattle.records.proofs.Checking.{each-on}
 use Rattle.records.proofs.Ends.{each-single, group-within}
@@ -33,10 +32,6 @@ use Rattle.records.proofs.Skips.{plain-both, fields-skipped}
 use Rattle.records.proofs.Widths.{plains-append, lengths-append}
 use Rattle.records.proofs.Placed.{field-is, cell-missing, cell-there, cell-stands}
 use Rattle.records.proofs.Pieces.{once-bytes, values-append, inside-group}
-
-both-true : {C : Type 0} (x y : Bool) → (x && y) ≡ true → (x ≡ true → y ≡ true → C) → C
-both-true true y h k = k refl h
-both-true false y h k = absurd (never refl h)
 
 -- The fields among entries are the first one's and the others.
 abbrev pub own : List Entry → ℕ → List Field
@@ -112,7 +107,9 @@ module _ (t : Bytes) (valid : Valid t) {b : Bytes} {places : List ℕ} {r : Reco
         let fs = own es first in
         let gs = fields-of (slice (suc first) end es) in
         let f = first-own es first end (omega arith) (omega (arith, most)) in
-        both-true (all plain fs) (all plain gs) (sym (plains-append fs gs) ∙ sym (ap (all plain) f) ∙ c) λ here there-on.
+        let both = true-T (sym (plains-append fs gs) ∙ sym (ap (all plain) f) ∙ c) in
+        let here = T-true (all plain fs) (and-left (all plain fs) (all plain gs) both) in
+        let there-on = T-true (all plain gs) (and-right (all plain fs) (all plain gs) both) in
         let x = step-in first q k (omega arith) (getD es first blank .what) refl here before in
         let y = chain-in n (suc first) end (q + lengths fs) (omega arith) (omega arith) h there-on (walked-next es first g b (drop p b) q (q + lengths fs) k (omega (arith, most)) before (x .place)) in
         let z : q + lengths (fields-of (slice first end es)) ≡ q + lengths fs + lengths gs = omega (arith, ap lengths f, lengths-append fs gs) in

@@ -12,7 +12,7 @@ use lib.Seq.{slice, slice-cons, slice-empty}
 use Rattle.rules.specs.Lists.{all}
 use Rattle.rules.specs.Table.{What, field, group, Entry, Field}
 use Rattle.rules.specs.Use.{plain}
-use Rattle.tables.specs.Entries.{format-number, size-of, is-multiple}
+use Rattle.tables.specs.Entries.{group-number, format-number, size-of, is-multiple}
 use Rattle.tables.specs.declared.Found.{Found}
 use Rattle.tables.specs.declared.Found.the-variants.{At, Nothing}
 use Rattle.records.specs.Where.{field-of, fields-of}
@@ -23,7 +23,7 @@ use Rattle.records.specs.Counts.{greatest-byte}
 use Rattle.records.proofs.EmptyEntries.{entry-group}
 
 -- One entry, by the numbers that the code has of it.
-pub width-group : (n : ℕ) (w : What) → format-number w ≡ 5 → Width (field-of n w) greatest-byte (At 0)
+pub width-group : (n : ℕ) (w : What) → format-number w ≡ group-number → Width (field-of n w) greatest-byte (At 0)
 unfolding field-of all lengths
 width-group n w h = rw (entry-group w h) (record { plains = refl; width = refl }, omega arith)
 
@@ -32,12 +32,12 @@ unfolding field-of all plain
 width-multiple n (field f s mu) h = rw h refl
 width-multiple n (group p) h = absurd (never refl h)
 
-pub width-none : (n : ℕ) (w : What) → (format-number w ≡ 5 → ⊥) → is-multiple w ≡ false → size-of w ≡ 0 → all plain (field-of n w) ≡ false
+pub width-none : (n : ℕ) (w : What) → (format-number w ≡ group-number → ⊥) → is-multiple w ≡ false → size-of w ≡ 0 → all plain (field-of n w) ≡ false
 unfolding field-of all plain
 width-none n (field f s mu) g h z = rw (h, z) refl
 width-none n (group p) g h z = absurd (g refl)
 
-pub width-plain : (n : ℕ) (w : What) → (format-number w ≡ 5 → ⊥) → is-multiple w ≡ false → 0 < size-of w → size-of w ≤ greatest-byte → Width (field-of n w) greatest-byte (At (size-of w))
+pub width-plain : (n : ℕ) (w : What) → (format-number w ≡ group-number → ⊥) → is-multiple w ≡ false → 0 < size-of w → size-of w ≤ greatest-byte → Width (field-of n w) greatest-byte (At (size-of w))
 unfolding field-of all plain lengths
 width-plain n (field f s mu) g h z m = (record { plains = rw (h, le-leb 1 s z) refl; width = omega arith }, m)
 width-plain n (group p) g h z m = absurd (g refl)
