@@ -33,7 +33,7 @@ use Rattle.records.specs.Places.{Is-record, values-of, Celled, Piece-of}
 use Rattle.records.specs.declared.paths.Path.{Path}
 use Rattle.records.specs.declared.places.Extent.the-variants.{At as Lies}
 use Rattle.records.proofs.Cells.{counted-once, value-first}
-use Rattle.records.proofs.Strips.{first-own}
+use Rattle.records.proofs.Groups.{fields-first}
 use Rattle.filling.specs.Filling.{in-room, Filling, together}
 use Rattle.reading.specs.Spans.{Fills, Way, occurrence-items}
 use Rattle.filling.specs.declared.Next.{Next}
@@ -66,7 +66,7 @@ module _ (es : List Entry) where
       let less : j < end = omega arith in
       let fs = fields-of (slice (suc j) end es) in
       let more : fields-from es (j + 1) end ≡ fs = rw (add-one j) (same-fields n (suc j) end (omega arith) l) in
-      let here = first-own es j end less l in
+      let here = fields-first es blank j end less l in
       by-test (is-group (getD es j blank .what))
       (λ g. group-entry es j end less l g ∙ more ∙ sym (here ∙ ap (λ (gs : List Field). gs ++ fs) (own-group (getD es j blank .name) (getD es j blank .what) g)))
       (λ g. field-entry es j end less l g ∙ ap (λ (gs : List Field). field-at es j ∷ gs) more

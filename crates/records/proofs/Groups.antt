@@ -13,7 +13,7 @@ use lib.Seq.{slice, slice-cons, slice-empty}
 use Rattle.rules.specs.Outcome.{done}
 use Rattle.rules.specs.Lists.{Bytes}
 use Rattle.rules.specs.Values.{Format}
-use Rattle.rules.specs.Table.{field, group, Entry, Field, fields-below, member}
+use Rattle.rules.specs.Table.{field, Entry, Field, fields-below, member}
 use Rattle.rules.specs.Record.{Occurrence, each, stored-cell, cell-of}
 use Rattle.rules.proofs.Steps.{by-test, not-some}
 use Rattle.records.specs.Where.{First, Deeper, field-of, fields-of}
@@ -38,11 +38,16 @@ split-below (e ∷ es) d g zero o l h = absurd (not-suc-le-zero o)
 split-below (e ∷ es) d zero (suc j) o l h = split-first es d j (le-of-suc-le-suc l) (λ k q. h (suc k) (omega arith) (omega arith))
 split-below (e ∷ es) d (suc g) (suc j) o l h = split-below es d g j (le-of-suc-le-suc o) (le-of-suc-le-suc l) (λ k p q. h (suc k) (omega arith) (omega arith))
 
--- The fields among entries, in two runs.
+-- The fields among entries: the first one's and the others; and in two runs.
+pub fields-first : (es : List Entry) (d : Entry) (i j : ℕ) → i < j → j ≤ length es
+    → fields-of (slice i j es) ≡ field-of (getD es i d .name) (getD es i d .what) ++ fields-of (slice (suc i) j es)
+unfolding fields-of
+fields-first es d i j less most = rw (slice-cons i j es d less most) refl
+
 pub fields-split : (es : List Entry) (d : Entry) (n i k j : ℕ) → i + n ≡ k → k ≤ j → j ≤ length es → fields-of (slice i j es) ≡ fields-of (slice i k es) ++ fields-of (slice k j es)
 unfolding fields-of
 fields-split es d zero i k j e h l = let z : i ≡ k = omega arith in rw (z, slice-empty k es) refl
-fields-split es d (suc n) i k j e h l = rw (slice-cons i j es d (omega arith) l, slice-cons i k es d (omega arith) (omega arith))
+fields-split es d (suc n) i k j e h l = rw (fields-first es d i j (omega arith) l, fields-first es d i k (omega arith) (omega arith))
     (ap (λ (fs : List Field). field-of (getD es i d .name) (getD es i d .what) ++ fs) (fields-split es d n (suc i) k j (omega arith) h l)
     ∙ sym (append-assoc (field-of (getD es i d .name) (getD es i d .what)) (fields-of (slice (suc i) k es)) (fields-of (slice k j es))))
 

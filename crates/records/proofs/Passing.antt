@@ -16,7 +16,7 @@ use Rattle.tables.specs.Entries.{is-periodic}
 use Rattle.records.specs.Walk.{rest-of, behind, start-of}
 use Rattle.records.specs.Where.{inside-from, First, field-of}
 use Rattle.records.proofs.Cells.{each-first}
-use Rattle.records.proofs.EmptyEntries.{inside-periodic}
+use Rattle.records.proofs.EmptyEntries.{inside-periodic, inside-deeper}
 
 -- No entry before entry j has the name n.
 abbrev pub Unnamed : ℕ → List Entry → ℕ → Type 0
@@ -36,10 +36,7 @@ Clear before es d j = ltb 1 (getD es j d .level) ≡ true → inside-from before
 
 -- Only level 1 leaves a periodic group.
 stays : (level : ℕ) (w : What) → ltb 1 level ≡ true → inside-of true level w ≡ true
-unfolding inside-of
-stays level (field f s mu) t = t
-stays level (group true) t = refl
-stays level (group false) t = t
+stays level w t = by-test (is-periodic w) (inside-periodic true level w) (λ p. inside-deeper true level w p refl ∙ t)
 
 -- An entry of a level above 1 adds its field, if it is one, to those after it; an entry of level 1 ends them.
 module _ (e : Entry) (es : List Entry) where

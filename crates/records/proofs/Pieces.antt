@@ -6,7 +6,7 @@ use Prim.Native.Nat.{ℕ, zero, suc, _+_, _-_, _≤_, _<_}
 use native.Mathlib.Nat.{not-suc-le-zero, le-of-suc-le-suc}
 use native.Mathlib.Omega.{arith}
 use lib.ListN.{length, take, drop, getD, length-append, length-drop, drop-of-length-le}
-use lib.Seq.{slice, slice-cons, slice-empty, take-at}
+use lib.Seq.{slice, slice-empty, take-at}
 use Rattle.rules.specs.Limits.{record-head-size}
 use Rattle.rules.specs.Outcome.{Outcome, done}
 use Rattle.rules.specs.Lists.{Bytes, join}
@@ -26,6 +26,7 @@ use Rattle.records.specs.declared.places.Extent.the-variants.{At}
 use Rattle.records.proofs.Entries.{never}
 use Rattle.records.proofs.Cells.{counted-once}
 use Rattle.records.proofs.Ends.{each-single, behind-outside}
+use Rattle.records.proofs.Groups.{fields-first}
 use Rattle.records.proofs.Passing.{reach}
 use Rattle.records.proofs.Placed.{whole-body, field-is, inside-same, cell-outside}
 
@@ -105,7 +106,7 @@ module _ {es : List Entry} {b : Bytes} {places : List ℕ} {r : Record} (held : 
       step-by first (omega arith) (o .0) (getD es first blank .what) refl (o .1)
       ∙ ap (λ (bs : Bytes). values-of es r 1 own ++ bs) (chain n (suc first) end (omega arith) h (λ j k l. out j (omega arith) l))
       ∙ sym (append-assoc (values-of es r 1 own) (values-of es r 1 (fields-of (slice (suc first) end es))) (from end))
-      ∙ rw (slice-cons first end es blank less h, values-append es r 1 own (fields-of (slice (suc first) end es))) refl
+      ∙ rw (fields-first es blank first end less h, values-append es r 1 own (fields-of (slice (suc first) end es))) refl
 
   pub piece-stands : (first end : ℕ) → first ≤ end → end ≤ length es → Outside es first end → (p q : ℕ) → p ≤ length b → drop p b ≡ from first → q ≤ length b → drop q b ≡ from end
       → Piece-of es b first end 1 r (At p q)

@@ -6,7 +6,7 @@ use Prim.Native.Nat.{ℕ, zero, suc, _+_, _-_, _≤_, _<_}
 use native.Mathlib.Nat.{add-zero}
 use native.Mathlib.Omega.{arith}
 use lib.ListN.{length, take, drop, getD, length-append, length-drop}
-use lib.Seq.{slice, slice-cons, slice-empty, take-at}
+use lib.Seq.{slice, slice-empty, take-at}
 use Rattle.rules.specs.Outcome.{done}
 use Rattle.rules.specs.Lists.{Bytes, all, join}
 use Rattle.rules.specs.Table.{What, field, group, Entry, Field, parts}
@@ -27,26 +27,22 @@ use Rattle.records.specs.declared.places.Extent.the-variants.{At}
 use Rattle.records.proofs.Walks.{walked-as}
 use Rattle.records.proofs.Checking.{each-on}
 use Rattle.records.proofs.Ends.{each-single, group-within}
-use Rattle.records.proofs.Groups.{fields-split}
+use Rattle.records.proofs.Groups.{fields-first, fields-split}
 use Rattle.records.proofs.Skips.{plain-both, fields-skipped}
 use Rattle.records.proofs.Widths.{plains-append, lengths-append}
 use Rattle.records.proofs.Placed.{field-is, cell-missing, cell-there, cell-stands}
 use Rattle.records.proofs.Pieces.{once-bytes, values-append, inside-group}
 
--- The fields among entries are the first one's and the others.
-abbrev pub own : List Entry → ℕ → List Field
+-- The field that an entry is, if it is one.
+abbrev own : List Entry → ℕ → List Field
 own es i = field-of (getD es i blank .name) (getD es i blank .what)
-
-pub first-own : (es : List Entry) (i j : ℕ) → i < j → j ≤ length es → fields-of (slice i j es) ≡ own es i ++ fields-of (slice (suc i) j es)
-unfolding fields-of
-first-own es i j less most = rw (slice-cons i j es blank less most) refl
 
 -- A walk that stands after the fields before an entry stands next after its own.
 walked-next : (es : List Entry) (i g : ℕ) (b bs : Bytes) (q w : ℕ) → g < i → i < length es → Walked b (rest-of (each stored-cell (fields-of (slice (g + 1) i es)) bs)) (S.At q)
     → Walked b (rest-of (each stored-cell (own es i) (drop q b))) (S.At w) → Walked b (rest-of (each stored-cell (fields-of (slice (g + 1) (suc i) es)) bs)) (S.At w)
 unfolding fields-of
 walked-next es i g b bs q w k less p n =
-    let single : fields-of (slice i (suc i) es) ≡ own es i = first-own es i (suc i) (omega arith) less ∙ rw (slice-empty (suc i) es) (append-nil (own es i)) in
+    let single : fields-of (slice i (suc i) es) ≡ own es i = fields-first es blank i (suc i) (omega arith) less ∙ rw (slice-empty (suc i) es) (append-nil (own es i)) in
     let e = fields-split es blank (i - (g + 1)) (g + 1) i (suc i) (omega arith) (omega arith) less ∙ ap (λ (fs : List Field). fields-of (slice (g + 1) i es) ++ fs) single in
     walked-as (rw e (each-on stored-cell (own es i) (fields-of (slice (g + 1) i es)) bs (drop q b) (sym (p .answer)))) n
 
@@ -106,7 +102,7 @@ module _ (t : Bytes) (valid : Valid t) {b : Bytes} {places : List ℕ} {r : Reco
         let most = group-within es g there .1 in
         let fs = own es first in
         let gs = fields-of (slice (suc first) end es) in
-        let f = first-own es first end (omega arith) (omega (arith, most)) in
+        let f = fields-first es blank first end (omega arith) (omega (arith, most)) in
         let both = true-T (sym (plains-append fs gs) ∙ sym (ap (all plain) f) ∙ c) in
         let here = T-true (all plain fs) (and-left (all plain fs) (all plain gs) both) in
         let there-on = T-true (all plain gs) (and-right (all plain fs) (all plain gs) both) in

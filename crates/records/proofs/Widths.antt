@@ -8,7 +8,7 @@ use native.Mathlib.Numerals.{add-one}
 use native.Mathlib.Omega.{arith}
 use borrow.Author.Tests.{le-leb}
 use lib.ListN.{length, getD}
-use lib.Seq.{slice, slice-cons, slice-empty}
+use lib.Seq.{slice, slice-empty}
 use Rattle.rules.specs.Lists.{all}
 use Rattle.rules.specs.Table.{What, field, group, Entry, Field}
 use Rattle.rules.specs.Use.{plain}
@@ -21,6 +21,7 @@ use Rattle.records.proofs.Entries.{never}
 use Rattle.rules.specs.Limits.{most-entries}
 use Rattle.records.specs.Counts.{greatest-byte}
 use Rattle.records.proofs.EmptyEntries.{entry-group}
+use Rattle.records.proofs.Groups.{fields-first}
 
 -- One entry, by the numbers that the code has of it.
 pub width-group : (n : ℕ) (w : What) → format-number w ≡ group-number → Width (field-of n w) greatest-byte (At 0)
@@ -70,8 +71,7 @@ adding es first end h = record { upto = h; plains = refl; width = zero-add _; mo
 module _ {es : List Entry} {first end i w : ℕ} (l : Adding es first end i w) where
   module _ (d : Entry) (less : i < end) (most : end ≤ length es) where
     here : fields-of (slice i end es) ≡ field-of (getD es i d .name) (getD es i d .what) ++ fields-of (slice (i + 1) end es)
-    unfolding fields-of
-    here = rw (add-one i, slice-cons i end es d less most) refl
+    here = rw (add-one i) (fields-first es d i end less most)
 
     pub add-on : (r : Found) → Width (field-of (getD es i d .name) (getD es i d .what)) greatest-byte r → {n : ℕ} → r ≡ At n → Adding es first end (i + 1) (w + n)
     add-on r one {n} q =
