@@ -13,7 +13,8 @@ use Rattle.rules.specs.Values.{Format}
 use Rattle.rules.specs.Table.{field, Entry, Field, fields-below, parts-from}
 use Rattle.rules.specs.Record.{Occurrence, Record, times, each, stored-cell, stored-part, cell-of, values-at}
 use Rattle.records.specs.Walk.{rest-of, start-of}
-use Rattle.records.specs.Where.{First, Deeper, fields-of}
+use Rattle.records.specs.Where.{First, Deeper}
+use Rattle.tables.specs.Groups.{fields-in}
 use Rattle.records.proofs.Cells.{counted-many, times-at}
 use Rattle.records.proofs.Groups.{cell-below}
 use Rattle.records.proofs.Lookups.{Grouped}
@@ -37,7 +38,7 @@ module _ {before : Bool} {es : List Entry} {bs : Bytes} {r : Record} {d : Entry}
 
     pub values-there : {C : Type 0} (tail : Bytes) → times (length os) (each stored-cell (fields-below 1 (drop (suc g) es))) tail ≡ done (os, mid) → (i : ℕ) → i < length os
         → ((one cell next : Bytes) → rest-of (times i (each stored-cell (fields-below 1 (drop (suc g) es))) tail) ≡ done one
-        → rest-of (each stored-cell (fields-of (slice (suc g) j es)) one) ≡ done cell
+        → rest-of (each stored-cell (fields-in (slice (suc g) j es)) one) ≡ done cell
         → stored-cell (record { name = n; format = f; size = s; multiple = mu }) cell ≡ done (values-at (parts-from before es) r n (suc i), next) → C) → C
     values-there tail t i l k =
         times-at (each stored-cell (fields-below 1 (drop (suc g) es))) [] (length os) i tail l t λ one after h₁ h₂.
@@ -45,6 +46,6 @@ module _ {before : Bool} {es : List Entry} {bs : Bytes} {r : Record} {d : Entry}
         k one cell next (ap rest-of h₁) (ap rest-of h₃) (h₄ ∙ rw (q .values level n j behind deep first f s mu what (suc i)) refl)
 
 -- A walk over no field is over.
-pub between-over : (es : List Entry) (j : ℕ) (bs : Bytes) → rest-of (each stored-cell (fields-of (slice j j es)) bs) ≡ done bs
-unfolding fields-of each
+pub between-over : (es : List Entry) (j : ℕ) (bs : Bytes) → rest-of (each stored-cell (fields-in (slice j j es)) bs) ≡ done bs
+unfolding fields-in each
 between-over es j bs = rw (slice-empty j es) refl

@@ -15,7 +15,8 @@ use Rattle.rules.specs.Use.{plain}
 use Rattle.tables.specs.Entries.{group-number, format-number, size-of, is-multiple}
 use Rattle.tables.specs.declared.Found.{Found}
 use Rattle.tables.specs.declared.Found.the-variants.{At, Nothing}
-use Rattle.records.specs.Where.{field-of, fields-of}
+use Rattle.records.specs.Where.{field-of}
+use Rattle.tables.specs.Groups.{fields-in}
 use Rattle.records.specs.Paths.{lengths, Width}
 use Rattle.records.proofs.Entries.{never}
 use Rattle.rules.specs.Limits.{most-entries}
@@ -61,8 +62,8 @@ lengths-append (x ∷ xs) ys = rw (lengths-append xs ys) (omega arith)
 -- The widths of the entries from first to i are added up, with those to end still to come.
 pub record Adding (es : List Entry) (first end i w : ℕ) : Type 0 where
   pub upto : i ≤ end
-  pub plains : all plain (fields-of (slice i end es)) ≡ all plain (fields-of (slice first end es))
-  pub width : w + lengths (fields-of (slice i end es)) ≡ lengths (fields-of (slice first end es))
+  pub plains : all plain (fields-in (slice i end es)) ≡ all plain (fields-in (slice first end es))
+  pub width : w + lengths (fields-in (slice i end es)) ≡ lengths (fields-in (slice first end es))
   pub most : w ≤ i * greatest-byte
 
 pub adding : (es : List Entry) (first end : ℕ) → first ≤ end → Adding es first end first 0
@@ -70,14 +71,14 @@ adding es first end h = record { upto = h; plains = refl; width = zero-add _; mo
 
 module _ {es : List Entry} {first end i w : ℕ} (l : Adding es first end i w) where
   module _ (d : Entry) (less : i < end) (most : end ≤ length es) where
-    here : fields-of (slice i end es) ≡ field-of (getD es i d .name) (getD es i d .what) ++ fields-of (slice (i + 1) end es)
+    here : fields-in (slice i end es) ≡ field-of (getD es i d .name) (getD es i d .what) ++ fields-in (slice (i + 1) end es)
     here = rw (add-one i) (fields-first es d i end less most)
 
     pub add-on : (r : Found) → Width (field-of (getD es i d .name) (getD es i d .what)) greatest-byte r → {n : ℕ} → r ≡ At n → Adding es first end (i + 1) (w + n)
     add-on r one {n} q =
         let x = rw q at one in
         let own = field-of (getD es i d .name) (getD es i d .what) in
-        let rest = fields-of (slice (i + 1) end es) in
+        let rest = fields-in (slice (i + 1) end es) in
         record {
           upto = omega arith;
           plains = sym (ap (all plain) here ∙ plains-append own rest ∙ ap (λ (t : Bool). t && all plain rest) (x .0 .plains)) ∙ l .plains;
@@ -85,15 +86,15 @@ module _ {es : List Entry} {first end i w : ℕ} (l : Adding es first end i w) w
           most = omega (arith, l .most, x .1);
         }
 
-    pub add-off : (r : Found) → Width (field-of (getD es i d .name) (getD es i d .what)) greatest-byte r → r ≡ Nothing → all plain (fields-of (slice first end es)) ≡ false
+    pub add-off : (r : Found) → Width (field-of (getD es i d .name) (getD es i d .what)) greatest-byte r → r ≡ Nothing → all plain (fields-in (slice first end es)) ≡ false
     add-off r one q =
         let own = field-of (getD es i d .name) (getD es i d .what) in
-        let rest = fields-of (slice (i + 1) end es) in
+        let rest = fields-in (slice (i + 1) end es) in
         sym (l .plains) ∙ ap (all plain) here ∙ plains-append own rest ∙ ap (λ (t : Bool). t && all plain rest) (rw q at one)
 
-  pub added : end ≤ i → end ≤ most-entries → Width (fields-of (slice first end es)) (most-entries * greatest-byte) (At w)
-  unfolding fields-of all lengths
+  pub added : end ≤ i → end ≤ most-entries → Width (fields-in (slice first end es)) (most-entries * greatest-byte) (At w)
+  unfolding fields-in all lengths
   added h k =
       let z : i ≡ end = omega (arith, l .upto) in
-      let e : fields-of (slice i end es) ≡ [] = rw (z, slice-empty end es) refl in
+      let e : fields-in (slice i end es) ≡ [] = rw (z, slice-empty end es) refl in
       (record { plains = sym (l .plains) ∙ ap (all plain) e; width = omega (arith, l .width, ap lengths e) }, omega (arith, l .most))
