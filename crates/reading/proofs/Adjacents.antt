@@ -21,8 +21,7 @@ use Rattle.format_buffer.specs.Elements.{range}
 use Rattle.uses.specs.Meant.{asked-of, Good-span}
 use Rattle.uses.specs.declared.Span.{Span}
 use Rattle.tables.specs.Entries.{blank}
-use Rattle.tables.specs.Groups.{group-end}
-use Rattle.records.specs.Where.{fields-of}
+use Rattle.tables.specs.Groups.{group-end, fields-in}
 use Rattle.records.specs.Paths.{Wide, Leads}
 use Rattle.records.specs.Places.{Is-record, Has-record, values-of, Celled, Occurrences-of}
 use Rattle.records.specs.declared.paths.Path.{Path}
@@ -55,12 +54,12 @@ module _ (es : List Entry) (s : Span) where
       ∙ rw (z, rows-first o (o + suc n - 1) (omega arith)) refl
 
 whole-fields : {es : List Entry} {b : Bytes} {places : List ℕ} {s : Span} {path : Path} {n : ℕ} → Whole es b places s path n
-    → fields-of (slice (path .group + 1) (group-end es (path .group)) es) ≡ fields-of (slice (s .first) (s .end) es)
+    → fields-in (slice (path .group + 1) (group-end es (path .group)) es) ≡ fields-in (slice (s .first) (s .end) es)
 whole-fields whole = rw (whole .first, whole .end) refl
 
 module _ (es : List Entry) (b : Bytes) (places : List ℕ) (s : Span) (held : Good-span es s) (standard : s .standard ≡ true) where
   abbrev row-bytes : Record → ℕ → Bytes
-  row-bytes r k = values-of es r k (fields-of (slice (s .first) (s .end) es))
+  row-bytes r k = values-of es r k (fields-in (slice (s .first) (s .end) es))
 
   one-filled : (r : Record) (o : ℕ) → Celled es (s .first) (s .end) o r → (room : ℕ) → filled (parts es) r room (occurrence-items es s o) ≡ in-room room (done (row-bytes r o))
   one-filled r o cells room =
@@ -102,8 +101,8 @@ pub group-of : {es : List Entry} {s : Span} → Good-span es s → {path : Path}
 group-of held e leads inside = let home = leads .home inside in (omega (arith, home .upto, e, held .ordered, held .upto), home .periodic)
 
 -- The width of the whole group is the span's.
-pub whole-width : {es : List Entry} {b : Bytes} {places : List ℕ} {s : Span} {path : Path} {n w : ℕ} → Whole es b places s path n → Wide (fields-of (slice (s .first) (s .end) es)) w
-    → Wide (fields-of (slice (path .group + 1) (group-end es (path .group)) es)) w
+pub whole-width : {es : List Entry} {b : Bytes} {places : List ℕ} {s : Span} {path : Path} {n w : ℕ} → Whole es b places s path n → Wide (fields-in (slice (s .first) (s .end) es)) w
+    → Wide (fields-in (slice (path .group + 1) (group-end es (path .group)) es)) w
 whole-width {es} {b} {places} {s} {path} {n} {w} whole wide = subst (λ (fs : List Field). Wide fs w) (sym (whole-fields whole)) wide
 
 -- None of the occurrences stand together, or those that exist do.

@@ -32,7 +32,8 @@ use Rattle.filling.specs.declared.Next.{Next}
 use Rattle.reading.specs.declared.cells.Wanted.{Wanted}
 use Rattle.reading.proofs.Items.{filled-together}
 use Rattle.reading.proofs.SpanItems.{bounds}
-use Rattle.reading.proofs.Values.{name-at, own-small, own-allowed, own-format, own-size}
+use Rattle.tables.proofs.EntryFields.{name-at}
+use Rattle.reading.proofs.Values.{own-small, own-allowed, own-format, own-size}
 
 map-run : {X Y : Type 0} (h : X → Y) (f : ℕ → X) (g : ℕ → Y) → ((k : ℕ) → h (f k) ≡ g k) → (i n : ℕ) → map h (run f i n) ≡ run g i n
 unfolding run

@@ -40,7 +40,8 @@ use Rattle.filling.proofs.Continues.{continues-start, continues-end, turn, turn
 use Rattle.reading.proofs.Items.{filled-together}
 use Rattle.filling.proofs.Together.{together-copies}
 use Rattle.reading.proofs.SpanItems.{stored-items, row-once, each-field}
-use Rattle.reading.proofs.Values.{name-at, converts-itself, own-allowed, own-format, own-size}
+use Rattle.tables.proofs.EntryFields.{name-at}
+use Rattle.reading.proofs.Values.{converts-itself, own-allowed, own-format, own-size}
 
 -- A loop over the numbers of fields: what is left of their nulls ends and writes as all of them do from the start.
 pub record Nulling (es : List Entry) (fields : List ℕ) (n end k start at : ℕ) (write : Bool) (out₀ out : Bytes) : Type 0 where

@@ -3,10 +3,9 @@ use mathlib.Core.Path.{_≡_, refl, sym, _∙_, ap, subst}
 use mathlib.Core.Bool.{Bool, true, false}
 use mathlib.Core.List.{List, [], _∷_, _++_, map, map-map, append-nil}
 use Prim.Native.Nat.{ℕ, zero, suc, _+_, _-_, _≤_, _<_}
-use native.Mathlib.Numerals.{add-one}
 use native.Mathlib.Omega.{arith}
 use lib.ListN.{length, take, drop, getD}
-use lib.Seq.{slice, slice-empty}
+use lib.Seq.{slice}
 use Rattle.rules.specs.Outcome.{Outcome, done}
 use Rattle.rules.specs.Lists.{Bytes, all, join, filter, run}
 use Rattle.rules.specs.Values.{converted-bytes, content}
@@ -19,58 +18,37 @@ use Rattle.rules.proofs.Steps.{by-test}
 use Rattle.buffer.proofs.Cases.{by-order}
 use Rattle.values.proofs.Meant.{converted-itself}
 use Rattle.tables.specs.Entries.{blank, is-group, is-multiple}
-use Rattle.tables.specs.Groups.{field-by, field-at}
+use Rattle.tables.specs.Groups.{field-at, fields-in}
 use Rattle.tables.specs.Places.{Home}
 use Rattle.tables.proofs.Bools.{clash}
 use Rattle.format_buffer.specs.Elements.{range}
 use Rattle.uses.specs.Meant.{fields-from, Good-span}
 use Rattle.uses.specs.declared.Span.{Span}
 use Rattle.uses.proofs.Fields.{multiple-at}
-use Rattle.uses.proofs.SpanFields.{no-entry, field-entry, group-entry}
-use Rattle.records.specs.Where.{field-of, fields-of}
+use Rattle.uses.proofs.SpanFields.{field-entry, group-entry}
 use Rattle.records.specs.Paths.{Wide, Leads}
 use Rattle.records.specs.Places.{Is-record, values-of, Celled, Piece-of}
 use Rattle.records.specs.declared.paths.Path.{Path}
 use Rattle.records.specs.declared.places.Extent.the-variants.{At as Lies}
 use Rattle.records.proofs.Cells.{counted-once, value-first}
-use Rattle.records.proofs.Strips.{first-own}
+use Rattle.records.proofs.Ends.{slice-run}
 use Rattle.filling.specs.Filling.{in-room, Filling, together}
 use Rattle.reading.specs.Spans.{Fills, Way, occurrence-items}
 use Rattle.filling.specs.declared.Next.{Next}
 use Rattle.reading.proofs.Items.{filled-together}
 use Rattle.filling.proofs.Together.{together-done}
 use Rattle.reading.proofs.SpanItems.{stored-items, row-once, each-field}
-use Rattle.reading.proofs.Values.{name-at}
-
--- The field that an entry is, if it is one.
-own-field : (n : ℕ) (w : What) → is-group w ≡ false → field-of n w ≡ field-by n w ∷ []
-unfolding field-of field-by
-own-field n (field f s m) e = refl
-own-field n (group p) e = clash e
-
-own-group : (n : ℕ) (w : What) → is-group w ≡ true → field-of n w ≡ []
-unfolding field-of
-own-group n (field f s m) e = clash (sym e)
-own-group n (group p) e = refl
+use Rattle.tables.proofs.EntryFields.{name-at}
 
 multiple-group : (w : What) → is-group w ≡ true → is-multiple w ≡ false
 multiple-group (field f s m) e = clash (sym e)
 multiple-group (group p) e = refl
 
 module _ (es : List Entry) where
-  -- Both ways to say which fields are among entries.
-  pub same-fields : (n j end : ℕ) → j + n ≡ end → end ≤ length es → fields-from es j end ≡ fields-of (slice j end es)
-  unfolding fields-of field-at
-  same-fields zero j end e l = let z : j ≡ end = omega arith in no-entry es j end (omega arith) ∙ rw (z, slice-empty end es) refl
-  same-fields (suc n) j end e l =
-      let less : j < end = omega arith in
-      let fs = fields-of (slice (suc j) end es) in
-      let more : fields-from es (j + 1) end ≡ fs = rw (add-one j) (same-fields n (suc j) end (omega arith) l) in
-      let here = first-own es j end less l in
-      by-test (is-group (getD es j blank .what))
-      (λ g. group-entry es j end less l g ∙ more ∙ sym (here ∙ ap (λ (gs : List Field). gs ++ fs) (own-group (getD es j blank .name) (getD es j blank .what) g)))
-      (λ g. field-entry es j end less l g ∙ ap (λ (gs : List Field). field-at es j ∷ gs) more
-      ∙ sym (here ∙ ap (λ (gs : List Field). gs ++ fs) (own-field (getD es j blank .name) (getD es j blank .what) g)))
+  -- The fields of a span are those among its entries.
+  pub same-fields : (j end : ℕ) → j ≤ end → fields-from es j end ≡ fields-in (slice j end es)
+  unfolding fields-from
+  same-fields j end l = let z : j + (end - j) ≡ end = omega arith in ap fields-in (sym (slice-run j (end - j) es) ∙ ap (λ (k : ℕ). slice j k es) z)
 
   -- None of the entries is MU where none of their fields is.
   one-single : (a : Asked) (more : List Asked) → filter (λ (x : Asked). x .field .multiple) (a ∷ more) ≡ []
@@ -116,7 +94,7 @@ module _ (es : List Entry) (r : Record) (o : ℕ) where
   values-joined (f ∷ fs) = ap (λ (bs : Bytes). value-of f ++ bs) (values-joined fs)
 
   pub row-filled : (first end : ℕ) → first ≤ end → end ≤ length es → ((k : ℕ) → first ≤ k → k < end → is-multiple (getD es k blank .what) ≡ false) → Celled es first end o r → (room : ℕ)
-      → filled (parts es) r room (stored-items o (fields-from es first end)) ≡ in-room room (done (values-of es r o (fields-of (slice first end es))))
+      → filled (parts es) r room (stored-items o (fields-from es first end)) ≡ in-room room (done (values-of es r o (fields-in (slice first end es))))
   row-filled first end h l single cells room =
       let fs = fields-from es first end in
       filled-together (parts es) r (stored-items o fs) room
@@ -125,7 +103,7 @@ module _ (es : List Entry) (r : Record) (o : ℕ) where
       own-item (field-at es k) (c .0) (c .1) (multiple-at es k ∙ single k low high) (subst (λ (m : ℕ). stored-cell (field-at es k) (c .0) ≡ done (values-at (parts es) r m o, c .1)) (sym (name-at es k)) (c .2)))
       ∙ ap (together room) (sym (map-map done value-of fs))
       ∙ together-done (map value-of fs) room
-      ∙ ap (λ (bs : Bytes). in-room room (done bs)) (values-joined fs ∙ ap (values-of es r o) (same-fields es (end - first) first end (omega arith) l))
+      ∙ ap (λ (bs : Bytes). in-room room (done bs)) (values-joined fs ∙ ap (values-of es r o) (same-fields es first end h))
 
 module _ (es : List Entry) (b : Bytes) (places : List ℕ) (s : Span) (held : Good-span es s) (standard : s .standard ≡ true) (o : ℕ) where
   pub row-single : (k : ℕ) → s .first ≤ k → k < s .end → is-multiple (getD es k blank .what) ≡ false
@@ -145,10 +123,10 @@ module _ (es : List Entry) (b : Bytes) (places : List ℕ) (s : Span) (held : Go
 
 -- The way to a span.
 pub way : (es : List Entry) (s : Span) → Good-span es s → s .standard ≡ true → (path : Path) (width : ℕ) → path .entry ≡ s .first → Leads es path
-    → (all plain (fields-of (slice (s .first) (s .end) es)) ≡ true → Wide (fields-of (slice (s .first) (s .end) es)) width) → Way es s path width
+    → (all plain (fields-in (slice (s .first) (s .end) es)) ≡ true → Wide (fields-in (slice (s .first) (s .end) es)) width) → Way es s path width
 way es s held standard path width e leads wide = record {
   entry = e;
   leads = leads;
-  wide = λ i. wide (ap (all plain) (sym (same-fields es (s .end - s .first) (s .first) (s .end) (omega (arith, held .ordered)) (held .upto)))
+  wide = λ i. wide (ap (all plain) (sym (same-fields es (s .first) (s .end) (omega (arith, held .ordered))))
       ∙ held .one-group standard (path .group) (subst (λ (j : ℕ). Home es j (path .group)) e (leads .home i)) .1);
 }

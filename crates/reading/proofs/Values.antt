@@ -1,28 +1,17 @@
 -- A field by the numbers that the code has of its entry.
 use mathlib.Core.Path.{_≡_, refl}
 use mathlib.Core.Bool.{true, false}
-use mathlib.Core.List.{List}
 use Prim.Native.Nat.{ℕ, _<_}
 use lib.ListN.{length, getD}
 use Rattle.rules.specs.Lists.{Bytes}
 use Rattle.rules.specs.Limits.{formats}
 use Rattle.rules.specs.Values.{Format, alpha, binary, fixed, packed, unpacked, conversion, allowed, converts}
-use Rattle.rules.specs.Table.{What, field, group, Entry}
 use Rattle.value_formats.specs.Formats.{format-at}
 use Rattle.tables.specs.Entries.{Valid, entries-of, blank, decoded, is-group}
-use Rattle.tables.specs.Groups.{field-by, field-at}
+use Rattle.tables.specs.Groups.{field-at}
 use Rattle.tables.specs.declared.Entry.{Entry as Row}
 use Rattle.tables.proofs.Known.{field-known}
 use Rattle.uses.proofs.Fields.{format-of-field, size-at}
-
-name-by : (n : ℕ) (w : What) → field-by n w .name ≡ n
-unfolding field-by
-name-by n (field f s m) = refl
-name-by n (group p) = refl
-
-pub name-at : (es : List Entry) (i : ℕ) → field-at es i .name ≡ getD es i blank .name
-unfolding field-at
-name-at es i = name-by (getD es i blank .name) (getD es i blank .what)
 
 pub converts-itself : (f : Format) → converts f f ≡ true
 unfolding converts conversion

@@ -16,13 +16,12 @@ use Rattle.tables.specs.Entries.{blank, is-group}
 use Rattle.format_buffer.specs.Elements.{range}
 use Rattle.uses.specs.Meant.{asked-of}
 use Rattle.uses.specs.declared.Span.{Span}
-use Rattle.records.specs.Where.{fields-of}
 use Rattle.records.specs.Paths.{Wide, Leads}
 use Rattle.records.specs.Places.{Is-record}
 use Rattle.records.specs.declared.paths.Path.{Path}
 use Rattle.filling.specs.Filling.{Filling}
 use Rattle.filling.specs.declared.Next.{Next}
-use Rattle.tables.specs.Groups.{group-end}
+use Rattle.tables.specs.Groups.{group-end, fields-in}
 
 -- The items end and write as they are to.
 abbrev pub Fills : List Entry → Bytes → List ℕ → List Item → ℕ → ℕ → Bool → Bytes → Bytes → Next → Type 0
@@ -51,7 +50,7 @@ span-items es s o = occurrences-items es s o (s .upto)
 pub record Way (es : List Entry) (s : Span) (path : Path) (width : ℕ) : Type 0 where
   pub entry : path .entry ≡ s .first
   pub leads : Leads es path
-  pub wide : path .inside ≡ true → Wide (fields-of (slice (s .first) (s .end) es)) width
+  pub wide : path .inside ≡ true → Wide (fields-in (slice (s .first) (s .end) es)) width
 
 -- The span is the whole of the periodic group in which its first entry lies, and n of its occurrences exist, from its first on.
 pub record Whole (es : List Entry) (b : Bytes) (places : List ℕ) (s : Span) (path : Path) (n : ℕ) : Type 0 where

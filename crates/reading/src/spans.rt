@@ -11,9 +11,8 @@ ghost use Rattle.rules.specs.Use.{plain};
 ghost use Rattle.rules.specs.Record.{Record};
 ghost use Rattle.tables.specs.Entries.{Valid, entries-of};
 ghost use Rattle.tables.specs.Places.{inside-at};
-ghost use Rattle.tables.specs.Groups.{field-at};
+ghost use Rattle.tables.specs.Groups.{field-at, fields-in};
 ghost use Rattle.uses.specs.Meant.{Good-span, fields-from};
-ghost use Rattle.records.specs.Where.{fields-of};
 ghost use Rattle.records.specs.Paths.{Wide, Leads};
 ghost use Rattle.records.specs.Places.{Is-record, Has-record, Piece-of};
 ghost use Rattle.filling.specs.Filling.{Roomy, Filling, together};
@@ -29,7 +28,7 @@ use uses::Span;
 // The width of a span's fields together, where all are of fixed length and none is MU; otherwise it means nothing.
 fn width(t: &[u8], s: Span) -> usize
     requires { ⌜ Valid (now t) × Good-span (entries-of (now t)) s ⌝ }
-    ensures { λ w. ⌜ (all plain (fields-of (slice (s .first) (s .end) (entries-of (now (t .entry))))) ≡ true → Wide (fields-of (slice (s .first) (s .end) (entries-of (now (t .entry))))) w) ⌝ }
+    ensures { λ w. ⌜ (all plain (fields-in (slice (s .first) (s .end) (entries-of (now (t .entry))))) ≡ true → Wide (fields-in (slice (s .first) (s .end) (entries-of (now (t .entry))))) w) ⌝ }
 {
     let found = records::paths::width_of(t, s.first, s.end);
     match found {

@@ -13,10 +13,9 @@ use Rattle.rules.specs.Use.{plain}
 use Rattle.rules.specs.Record.{Record, times, group-count-at}
 use Rattle.buffer.proofs.Cases.{by-order}
 use Rattle.tables.specs.Entries.{Valid, entries-of, blank}
-use Rattle.tables.specs.Groups.{group-end}
+use Rattle.tables.specs.Groups.{group-end, fields-in}
 use Rattle.tables.proofs.Tables.{valid-names}
 use Rattle.records.specs.Walk.{rest-of, Walked, occurrence}
-use Rattle.records.specs.Where.{fields-of}
 use Rattle.records.specs.Paths.{lengths}
 use Rattle.records.specs.Places.{Is-record, values-of, Occurrences-of}
 use Rattle.records.specs.declared.Reach.the-variants as S
@@ -29,12 +28,12 @@ use Rattle.records.proofs.Strips.{piece-in}
 
 module _ (t : Bytes) (valid : Valid t) {b : Bytes} {places : List ℕ} {r : Record} (held : Is-record (entries-of t) b places r) (g : ℕ)
     (level : getD (entries-of t) g blank .level ≡ 1) (periodic : getD (entries-of t) g blank .what ≡ group true) (there : g < length (entries-of t))
-    (plains : all plain (fields-of (slice (g + 1) (group-end (entries-of t) g) (entries-of t))) ≡ true) where
+    (plains : all plain (fields-in (slice (g + 1) (group-end (entries-of t) g) (entries-of t))) ≡ true) where
   abbrev es : List Entry
   es = entries-of t
 
   abbrev fs : List Field
-  fs = fields-of (slice (g + 1) (group-end es g) es)
+  fs = fields-in (slice (g + 1) (group-end es g) es)
 
   -- Occurrence o stands at p.
   abbrev Row-at : ℕ → ℕ → Type 0

@@ -6,7 +6,7 @@ use mathlib.Core.Option.{none}
 use Prim.Native.Nat.{ℕ, zero, suc, _≤_, _<_}
 use native.Mathlib.Nat.{not-suc-le-zero, le-of-suc-le-suc}
 use native.Mathlib.Omega.{arith}
-use lib.Dec.{eqb, leb, leb→le}
+use lib.Dec.{eqb}
 use lib.ListN.{length, take, drop, getD}
 use Rattle.rules.specs.Outcome.{Outcome, done, _>>=_}
 use Rattle.rules.specs.Limits.{greatest-count}
@@ -14,7 +14,7 @@ use Rattle.rules.specs.Lists.{Bytes}
 use Rattle.rules.specs.Values.{Format, first-value, content, with-length-byte, in-normal-form}
 use Rattle.rules.specs.Table.{Field, member}
 use Rattle.rules.specs.Record.{Cell, Occurrence, Reader, times, stored-count, count-bytes, counted, each, stored-value, stored-cell, cell-of}
-use Rattle.rules.proofs.Steps.{from-bind, from-need, from-as, from-done, not-done, not-some, by-test, T-true}
+use Rattle.rules.proofs.Steps.{from-bind, from-need, from-as, from-done, not-some, by-test, T-true}
 use Rattle.rules.proofs.Readers.{count-sound, cut-sound, value-sound}
 
 -- The first of several, and the others after it.

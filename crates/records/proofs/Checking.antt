@@ -2,19 +2,18 @@
 use mathlib.Core.Path.{_≡_, refl, sym, _∙_, ap}
 use mathlib.Core.Bool.{Bool, true, false}
 use mathlib.Core.List.{List, [], _∷_, _++_}
-use Prim.Native.Nat.{ℕ, zero, suc, _+_, _-_, _≤_, _<_}
-use native.Mathlib.Nat.{add-zero, add-suc, zero-add, not-suc-le-zero}
+use Prim.Native.Nat.{ℕ, suc, _+_, _-_, _≤_, _<_}
+use native.Mathlib.Nat.{add-zero, zero-add, not-suc-le-zero}
 use native.Mathlib.Numerals.{add-one}
 use native.Mathlib.Omega.{arith}
-use lib.Dec.{ltb}
 use lib.ListN.{length, drop, getD, drop-of-length-le}
 use lib.Seq.{drop-cons}
 use Rattle.rules.specs.Limits.{record-head-size}
 use Rattle.rules.specs.Outcome.{Outcome, done, refused, _>>=_}
 use Rattle.rules.specs.Lists.{Bytes}
-use Rattle.rules.specs.Table.{What, field, group, Entry, Part, is-inside, parts-from, part-of, parts}
+use Rattle.rules.specs.Table.{What, field, group, Entry, Part, is-inside, parts-from, part-of}
 use Rattle.rules.specs.Record.{Reader, each, stored-part}
-use Rattle.records.specs.Walk.{rest-of, bytes-left, behind, start-of, Starts}
+use Rattle.records.specs.Walk.{rest-of, behind, start-of, Starts}
 use Rattle.rules.proofs.Steps.{done-inj, not-done, by-outcome}
 use Rattle.buffer.proofs.Cases.{by-order}
 use Rattle.records.proofs.Walks.{each-turn, each-stop}

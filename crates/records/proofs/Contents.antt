@@ -13,10 +13,11 @@ use Rattle.rules.proofs.Steps.{from-done, not-done}
 use Rattle.values.specs.Places.{Located}
 use Rattle.values.specs.declared.FirstValue.{FirstValue}
 use Rattle.values.specs.declared.FirstValue.the-variants.{Value, Refused}
+use Rattle.values.proofs.Cuts.{first-content}
 use Rattle.values.proofs.Converted.{content-allowed}
 use Rattle.records.specs.Places.{Content-of}
 use Rattle.records.proofs.Cells.{value-first}
-use Rattle.records.proofs.Normals.{first-at, first-none, value-length}
+use Rattle.records.proofs.Normals.{first-at, first-none}
 
 module _ (b : Bytes) (at size : ℕ) {first : FirstValue} (w : Located b at (first-value size (drop at b)) first) (f : Format) (v rest : Bytes)
     (h : allowed f size ≡ true) (p : stored-value f size (drop at b) ≡ done (v, rest)) where
@@ -29,7 +30,7 @@ module _ (b : Bytes) (at size : ℕ) {first : FirstValue} (w : Located b at (fir
         ordered = x .1;
         inside = x .2;
         is = is ∙ same;
-        long = content-allowed f size (upto - from) h (rw n at (value-length size (drop at b) _ _ (x .0)));
+        long = content-allowed f size (upto - from) h (rw n at (first-content size (drop at b) _ _ (x .0)));
       }
 
   pub content-none : {x : Refusal} → first ≡ Refused x → ⊥

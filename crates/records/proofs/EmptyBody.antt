@@ -1,11 +1,10 @@
 -- The body of the empty record is what its entries add to it, one after the other: each entry is a part of its own or adds nothing.
-use mathlib.Core.Path.{_≡_, refl, sym, _∙_, ap}
+use mathlib.Core.Path.{_≡_, refl, _∙_, ap}
 use mathlib.Core.Bool.{Bool, true, false}
-use mathlib.Core.List.{List, [], _∷_, _++_, map, append-nil}
+use mathlib.Core.List.{List, [], _∷_, _++_, append-nil}
 use Prim.Native.Nat.{ℕ}
 use Rattle.rules.specs.Lists.{Bytes, join, run}
-use Rattle.rules.specs.Values.{Format, null}
-use Rattle.rules.specs.Table.{What, field, group, Entry, Part, is-inside, parts-from, part-of, alone, fields-below}
+use Rattle.rules.specs.Table.{What, field, group, Entry, Part, is-inside, parts-from, part-of, alone}
 use Rattle.rules.specs.Record.{body-bytes, part-bytes, cell-bytes, each-bytes, count-bytes, counted-bytes, empty-record, laid-out, laid-part, laid-cell, count-or-one}
 use Rattle.records.specs.Empty.{empty-entry, empty-from}
 

@@ -2,74 +2,51 @@
 use mathlib.Core.Path.{_≡_, refl, sym, _∙_, ap}
 use mathlib.Core.Bool.{Bool, true, false, not, _&&_}
 use mathlib.Core.List.{List, [], _∷_, _++_}
-use Prim.Native.Nat.{ℕ, suc, _+_, _≤_, _<_}
+use Prim.Native.Nat.{ℕ, _+_, _≤_, _<_}
 use native.Mathlib.Numerals.{add-one}
 use native.Mathlib.Omega.{arith}
-use borrow.Author.Tests.{eqb-true, eqb-false, ne-eqb}
-use lib.Dec.{T, ltb, eqb, leb, leb→le}
+use borrow.Author.Tests.{eqb-false, ne-eqb}
+use lib.Dec.{ltb, eqb}
 use lib.ListN.{length, drop, getD, length-append, drop-of-length-le}
 use lib.Seq.{drop-cons}
-use Rattle.rules.specs.Limits.{longest-alpha, longest-binary, longest-packed, longest-unpacked}
+use Rattle.rules.specs.Limits.{longest-alpha, formats}
 use Rattle.rules.specs.Lists.{Bytes}
-use Rattle.rules.specs.Values.{Format, alpha, binary, fixed, packed, unpacked, allowed, null}
+use Rattle.rules.specs.Values.{allowed, null}
 use Rattle.rules.specs.Record.{count-bytes}
 use Rattle.rules.specs.Table.{What, field, group, Entry, inside-of, is-inside}
-use Rattle.tables.specs.Entries.{blank, format-at, number-of, format-number, size-of, is-multiple, is-periodic, decoded}
+use Rattle.tables.specs.Entries.{blank, group-number, format-at, number-of, format-number, size-of, is-multiple, is-periodic, decoded}
 use Rattle.buffer.specs.Splice.{splice}
 use Rattle.buffer.proofs.Laws.{splice-nil, splice-rest, length-splice}
-use Rattle.rules.proofs.Steps.{by-test, not-both, and-right, T-true, true-T}
+use Rattle.rules.proofs.Steps.{by-test, not-both}
 use Rattle.buffer.proofs.Cases.{by-order}
+use Rattle.value_formats.proofs.Letters.{number-back, number-small}
+use Rattle.values.proofs.Numbered.{longest-size}
 use Rattle.values.proofs.Nulls.{null-0, null-size}
 use Rattle.tables.proofs.EntryBytes.{Sound}
 use Rattle.records.specs.Empty.{empty-entry, empty-from, null-entry}
 
 -- A field and a group by their numbers.
-pub number-small : (f : Format) → number-of f < 5
-number-small alpha = omega arith
-number-small binary = omega arith
-number-small fixed = omega arith
-number-small packed = omega arith
-number-small unpacked = omega arith
-
-number-back : (f : Format) → f ≡ format-at (number-of f)
-unfolding format-at
-number-back alpha = refl
-number-back binary = refl
-number-back fixed = refl
-number-back packed = refl
-number-back unpacked = refl
-
-pub entry-field : (w : What) → (format-number w ≡ 5 → ⊥) → w ≡ field (format-at (format-number w)) (size-of w) (is-multiple w)
-entry-field (field f n m) h = ap (λ g. field g n m) (number-back f)
+pub entry-field : (w : What) → (format-number w ≡ group-number → ⊥) → w ≡ field (format-at (format-number w)) (size-of w) (is-multiple w)
+entry-field (field f n m) h = ap (λ g. field g n m) (sym (number-back f))
 entry-field (group p) h = absurd (h refl)
 
-pub entry-group : (w : What) → format-number w ≡ 5 → w ≡ group (is-periodic w)
+pub entry-group : (w : What) → format-number w ≡ group-number → w ≡ group (is-periodic w)
 entry-group (field f n m) h = absurd (let l = number-small f in omega arith)
 entry-group (group p) h = refl
 
-pub entry-small : (w : What) → (format-number w ≡ 5 → ⊥) → format-number w < 5
+pub entry-small : (w : What) → (format-number w ≡ group-number → ⊥) → format-number w < formats
 entry-small (field f n m) h = number-small f
 entry-small (group p) h = absurd (h refl)
 
-pub entry-allowed : (l : ℕ) (w : What) → Sound l w → (format-number w ≡ 5 → ⊥) → allowed (format-at (format-number w)) (size-of w) ≡ true
-entry-allowed l (field f n m) s h = rw (← number-back f) s
+pub entry-allowed : (l : ℕ) (w : What) → Sound l w → (format-number w ≡ group-number → ⊥) → allowed (format-at (format-number w)) (size-of w) ≡ true
+entry-allowed l (field f n m) s h = rw (number-back f) s
 entry-allowed l (group p) s h = absurd (h refl)
 
 -- No format allows a longer value than A, so null is no longer.
-allowed-most : (f : Format) (n : ℕ) → T (allowed f n) → n ≤ longest-alpha
-unfolding allowed
-allowed-most alpha n t = leb→le n longest-alpha t
-allowed-most binary n t = let h = leb→le n longest-binary (and-right (leb 1 n) (leb n longest-binary) t) in omega arith
-allowed-most fixed n t = by-test (eqb n 2)
-    (λ e. omega (arith, eqb-true n 2 e))
-    (λ e. omega (arith, eqb-true n 4 (T-true (eqb n 4) (rw e at t))))
-allowed-most packed n t = let h = leb→le n longest-packed (and-right (leb 1 n) (leb n longest-packed) t) in omega arith
-allowed-most unpacked n t = let h = leb→le n longest-unpacked (and-right (leb 1 n) (leb n longest-unpacked) t) in omega arith
-
-pub null-short : (k n : ℕ) → k < 5 → allowed (format-at k) n ≡ true → length (null (format-at k) n) ≤ longest-alpha
+pub null-short : (k n : ℕ) → k < formats → allowed (format-at k) n ≡ true → length (null (format-at k) n) ≤ longest-alpha
 null-short k n h a = by-order n 1
     (λ l. let z : n ≡ 0 = omega arith in omega (arith, ap length (null-0 k n h z a)))
-    (λ l. omega (arith, null-size k n h (λ z. omega arith), allowed-most (format-at k) n (true-T a)))
+    (λ l. omega (arith, null-size k n h (λ z. omega arith), longest-size k n h a))
 
 -- Inside a periodic group, as the code tests it.
 pub inside-periodic : (before : Bool) (l : ℕ) (w : What) → is-periodic w ≡ true → inside-of before l w ≡ true
@@ -89,23 +66,23 @@ inside-not before l (group p) h b = rw (h, b) refl
 
 -- What an entry adds.
 module _ (inside : Bool) (w : What) where
-  pub adds-count : format-number w ≡ 5 → is-periodic w ≡ true → empty-entry inside w ≡ count-bytes 0
+  pub adds-count : format-number w ≡ group-number → is-periodic w ≡ true → empty-entry inside w ≡ count-bytes 0
   unfolding empty-entry
   adds-count h p = ap (empty-entry inside) (entry-group w h) ∙ rw p refl
 
-  pub adds-nothing : format-number w ≡ 5 → is-periodic w ≡ false → empty-entry inside w ≡ []
+  pub adds-nothing : format-number w ≡ group-number → is-periodic w ≡ false → empty-entry inside w ≡ []
   unfolding empty-entry
   adds-nothing h p = ap (empty-entry inside) (entry-group w h) ∙ rw p refl
 
-  pub adds-no-more : (format-number w ≡ 5 → ⊥) → inside ≡ true → empty-entry inside w ≡ []
+  pub adds-no-more : (format-number w ≡ group-number → ⊥) → inside ≡ true → empty-entry inside w ≡ []
   unfolding empty-entry
   adds-no-more h p = ap (empty-entry inside) (entry-field w h) ∙ rw p refl
 
-  pub adds-no-values : (format-number w ≡ 5 → ⊥) → inside ≡ false → is-multiple w ≡ true → empty-entry inside w ≡ count-bytes 0
+  pub adds-no-values : (format-number w ≡ group-number → ⊥) → inside ≡ false → is-multiple w ≡ true → empty-entry inside w ≡ count-bytes 0
   unfolding empty-entry
   adds-no-values h p m = ap (empty-entry inside) (entry-field w h) ∙ rw (p, m) refl
 
-  pub adds-null : (format-number w ≡ 5 → ⊥) → inside ≡ false → is-multiple w ≡ false → empty-entry inside w ≡ null (format-at (format-number w)) (size-of w)
+  pub adds-null : (format-number w ≡ group-number → ⊥) → inside ≡ false → is-multiple w ≡ false → empty-entry inside w ≡ null (format-at (format-number w)) (size-of w)
   unfolding empty-entry
   adds-null h p m = ap (empty-entry inside) (entry-field w h) ∙ rw (p, m) refl
 
@@ -122,16 +99,16 @@ empty-over before es i h = rw (drop-of-length-le es h) refl
 -- What adds null, and what adds a count of 0 or nothing.
 module _ (inside : Bool) (e : Entry) where
   pub null-adds : null-entry inside (decoded e) ≡ true
-      → ((format-number (e .what) ≡ 5 → ⊥) × (empty-entry inside (e .what) ≡ null (format-at (format-number (e .what))) (size-of (e .what))))
+      → ((format-number (e .what) ≡ group-number → ⊥) × (empty-entry inside (e .what) ≡ null (format-at (format-number (e .what))) (size-of (e .what))))
   unfolding null-entry
   null-adds h = go (e .what) inside h
     where
-      go : (w : What) (i : Bool) → (not (eqb (format-number w) 5) && not i && not (is-multiple w)) ≡ true
-          → ((format-number w ≡ 5 → ⊥) × (empty-entry i w ≡ null (format-at (format-number w)) (size-of w)))
-      go w i q = by-test (eqb (format-number w) 5) (λ x. absurd (not-both (rw x at q)))
+      go : (w : What) (i : Bool) → (not (eqb (format-number w) group-number) && not i && not (is-multiple w)) ≡ true
+          → ((format-number w ≡ group-number → ⊥) × (empty-entry i w ≡ null (format-at (format-number w)) (size-of w)))
+      go w i q = by-test (eqb (format-number w) group-number) (λ x. absurd (not-both (rw x at q)))
           (λ x. by-test i (λ y. absurd (not-both (rw (x, y) at q)))
           (λ y. by-test (is-multiple w) (λ z. absurd (not-both (rw (x, y, z) at q)))
-          (λ z. (eqb-false (format-number w) 5 x, adds-null i w (eqb-false (format-number w) 5 x) y z))))
+          (λ z. (eqb-false (format-number w) group-number x, adds-null i w (eqb-false (format-number w) group-number x) y z))))
 
   pub nothing-added : length (empty-entry inside (e .what)) ≡ 0 → empty-entry inside (e .what) ≡ []
   nothing-added h = go (empty-entry inside (e .what)) h
@@ -144,13 +121,13 @@ module _ (inside : Bool) (e : Entry) where
   unfolding null-entry empty-entry
   count-added h more = go (e .what) inside h more
     where
-      go : (w : What) (i : Bool) → (not (eqb (format-number w) 5) && not i && not (is-multiple w)) ≡ false
+      go : (w : What) (i : Bool) → (not (eqb (format-number w) group-number) && not i && not (is-multiple w)) ≡ false
           → (length (empty-entry i w) ≡ 0 → ⊥) → empty-entry i w ≡ count-bytes 0
       go (group true) i q z = refl
       go (group false) i q z = absurd (z refl)
       go (field f n m) true q z = absurd (z refl)
       go (field f n true) false q z = refl
-      go (field f n false) false q z = absurd (not-both (sym (rw (ne-eqb (number-of f) 5 (λ z. let l = number-small f in omega arith)) at q)))
+      go (field f n false) false q z = absurd (not-both (sym (rw (ne-eqb (number-of f) group-number (λ z. let l = number-small f in omega arith)) at q)))
 
 -- A loop that writes what the entries add: i are written, up to the place `at`, and the rest makes up the whole.
 pub record Writing (es : List Entry) (start : ℕ) (out₀ out : Bytes) (inside : Bool) (i at : ℕ) : Type 0 where

@@ -1,13 +1,13 @@
 -- Where the pieces of a body end, in the code's words: what a count leaves, what an entry adds, and the fields of a group by their entries.
 use mathlib.Core.Path.{_≡_, refl, sym, _∙_, ap}
-use mathlib.Core.Bool.{Bool, true, false, _&&_}
+use mathlib.Core.Bool.{Bool, true, false}
 use mathlib.Core.List.{List, [], _∷_, _++_}
 use Prim.Native.Nat.{ℕ, zero, suc, _+_, _≤_, _<_}
 use native.Mathlib.Nat.{suc-add, zero-add, not-suc-le-zero}
 use native.Mathlib.Numerals.{add-one}
 use native.Mathlib.Omega.{arith}
-use borrow.Author.Tests.{lt-ltb, ltb-true, le-leb, leb-true}
-use lib.Dec.{leb, ltb}
+use borrow.Author.Tests.{lt-ltb, le-leb}
+use lib.Dec.{leb, ltb, leb→le, ltb→lt}
 use lib.ListN.{length, take, drop, getD, length-drop}
 use lib.Seq.{slice, take-nil}
 use Rattle.rules.specs.Outcome.{done, refused}
@@ -15,17 +15,18 @@ use Rattle.rules.specs.Limits.{greatest-count}
 use Rattle.rules.specs.Lists.{Bytes}
 use Rattle.rules.specs.Table.{What, field, group, Entry, Field, fields-below, alone, part-of}
 use Rattle.rules.specs.Record.{Reader, times, counted, each, stored-value, stored-cell, stored-part}
-use Rattle.rules.proofs.Steps.{by-test, by-outcome}
+use Rattle.rules.proofs.Steps.{by-test, by-outcome, and-left, and-right, true-T}
 use Rattle.buffer.proofs.Cases.{by-order}
-use Rattle.tables.specs.Entries.{blank, format-at, format-number, size-of, is-multiple, is-periodic}
-use Rattle.tables.specs.Groups.{run-below, group-end}
+use Rattle.tables.specs.Entries.{blank, group-number, format-at, format-number, size-of, is-multiple, is-periodic}
+use Rattle.tables.specs.Groups.{run-below, group-end, fields-in}
 use Rattle.tables.proofs.Nesting.{run-short}
 use Rattle.records.specs.Counts.{has-count}
 use Rattle.records.specs.Walk.{rest-of, behind, occurrence, occurrences-counted, Kept}
-use Rattle.records.specs.Where.{field-of, fields-of}
+use Rattle.records.specs.Where.{field-of}
 use Rattle.records.proofs.Walks.{each-turn, each-stop, count-missing, count-over, count-good, not-counted}
 use Rattle.records.proofs.Entries.{never}
 use Rattle.records.proofs.Passing.{below-on, below-end}
+use Rattle.records.proofs.Groups.{fields-more}
 use Rattle.records.proofs.EmptyEntries.{entry-field, entry-group}
 
 -- A count that stands there and is not over its limit: that many follow; else nothing is read.
@@ -35,11 +36,10 @@ has-count-is b at h k = rw (lt-ltb at (length b) h, le-leb (getD b at 0) greates
 
 pub count-some : (b : Bytes) (at : ℕ) → has-count b at ≡ true → (at < length b) × (getD b at 0 ≤ greatest-count)
 unfolding has-count
-count-some b at h = both-are (ltb at (length b)) (leb (getD b at 0) greatest-count) h (λ l k. (ltb-true at (length b) l, leb-true (getD b at 0) greatest-count k))
-  where
-    both-are : {C : Type 0} (x y : Bool) → (x && y) ≡ true → (x ≡ true → y ≡ true → C) → C
-    both-are true y e k = k refl e
-    both-are false y e k = absurd (never refl e)
+count-some b at h = (
+  ltb→lt at (length b) (and-left (ltb at (length b)) (leb (getD b at 0) greatest-count) (true-T h)),
+  leb→le (getD b at 0) greatest-count (and-right (ltb at (length b)) (leb (getD b at 0) greatest-count) (true-T h)),
+)
 
 module _ {X : Type 0} (one : Reader X) (b : Bytes) (at : ℕ) where
   pub count-there : has-count b at ≡ true → rest-of (counted true one (drop at b)) ≡ rest-of (times (getD b at 0) one (drop (at + 1) b))
@@ -57,14 +57,14 @@ each-single one y bs = by-outcome (rest-of (one y bs)) (λ cs h. each-turn one y
 
 -- The cell of an entry by the numbers that the code has of it.
 module _ (n : ℕ) (w : What) (bs : Bytes) where
-  pub cell-of-field : (format-number w ≡ 5 → ⊥)
+  pub cell-of-field : (format-number w ≡ group-number → ⊥)
       → rest-of (each stored-cell (field-of n w) bs) ≡ rest-of (counted (is-multiple w) (stored-value (format-at (format-number w)) (size-of w)) bs)
   unfolding field-of stored-cell
   cell-of-field h =
       ap (λ (v : What). rest-of (each stored-cell (field-of n v) bs)) (entry-field w h)
       ∙ each-single stored-cell (record { name = n; format = format-at (format-number w); size = size-of w; multiple = is-multiple w }) bs
 
-  pub cell-of-group : format-number w ≡ 5 → rest-of (each stored-cell (field-of n w) bs) ≡ done bs
+  pub cell-of-group : format-number w ≡ group-number → rest-of (each stored-cell (field-of n w) bs) ≡ done bs
   unfolding field-of each
   cell-of-group h = ap (λ (v : What). rest-of (each stored-cell (field-of n v) bs)) (entry-group w h)
 
@@ -103,22 +103,22 @@ module _ (inside : Bool) (e : Entry) (es : List Entry) (bs : Bytes) where
   behind-outside h i = outside-part inside (e .name) es bs (e .what) h i
 
 -- The fields of a group of level 1 are those among the entries from after it to its end.
-below-run : (es : List Entry) → fields-below 1 es ≡ fields-of (take (run-below 1 es) es)
-unfolding fields-below fields-of run-below
+below-run : (es : List Entry) → fields-below 1 es ≡ fields-in (take (run-below 1 es) es)
+unfolding fields-below fields-in run-below
 below-run [] = refl
 below-run (e ∷ es) = by-test (ltb 1 (e .level))
-    (λ t. below-on e es t ∙ rw t (ap (λ (fs : List Field). field-of (e .name) (e .what) ++ fs) (below-run es)))
+    (λ t. below-on e es t ∙ rw t (ap (λ (fs : List Field). field-of (e .name) (e .what) ++ fs) (below-run es) ∙ sym (fields-more e (take (run-below 1 es) es))))
     (λ t. below-end e es t ∙ rw t refl)
 
-slice-run : (n m : ℕ) (es : List Entry) → slice n (n + m) es ≡ take m (drop n es)
+pub slice-run : (n m : ℕ) (es : List Entry) → slice n (n + m) es ≡ take m (drop n es)
 slice-run zero m es = rw (zero-add m) refl
 slice-run (suc n) m [] = rw (suc-add n m) (sym (take-nil m))
 slice-run (suc n) m (e ∷ es) = rw (suc-add n m) (slice-run n m es)
 
 module _ (es : List Entry) (g : ℕ) where
-  pub group-fields : getD es g blank .level ≡ 1 → fields-below 1 (drop (suc g) es) ≡ fields-of (slice (g + 1) (group-end es g) es)
+  pub group-fields : getD es g blank .level ≡ 1 → fields-below 1 (drop (suc g) es) ≡ fields-in (slice (g + 1) (group-end es g) es)
   unfolding group-end
-  group-fields h = below-run (drop (suc g) es) ∙ rw (h, add-one) (ap fields-of (sym (slice-run (suc g) (run-below 1 (drop (suc g) es)) es)))
+  group-fields h = below-run (drop (suc g) es) ∙ rw (h, add-one) (ap fields-in (sym (slice-run (suc g) (run-below 1 (drop (suc g) es)) es)))
 
   pub group-within : g < length es → (g + 1 ≤ group-end es g) × (group-end es g ≤ length es)
   unfolding group-end
@@ -144,7 +144,7 @@ module _ (inside : Bool) (es : List Entry) (g : ℕ) (b : Bytes) (at : ℕ) (p :
   behind-countless h = behind-periodic inside (getD es g blank) (drop (suc g) es) (drop at b) p ∙ count-none (each stored-cell (fields-below 1 (drop (suc g) es))) b at h
 
   pub behind-counted : has-count b at ≡ true → getD es g blank .level ≡ 1 → (end : ℕ) → end ≡ group-end es g
-      → behind inside (getD es g blank) (drop (suc g) es) (drop at b) ≡ rest-of (times (getD b at 0) (each stored-cell (fields-of (slice (g + 1) end es))) (drop (at + 1) b))
+      → behind inside (getD es g blank) (drop (suc g) es) (drop at b) ≡ rest-of (times (getD b at 0) (each stored-cell (fields-in (slice (g + 1) end es))) (drop (at + 1) b))
   behind-counted h l end q =
       behind-periodic inside (getD es g blank) (drop (suc g) es) (drop at b) p
       ∙ count-there (each stored-cell (fields-below 1 (drop (suc g) es))) b at h
@@ -153,7 +153,7 @@ module _ (inside : Bool) (es : List Entry) (g : ℕ) (b : Bytes) (at : ℕ) (p :
 -- What entry i keeps: a periodic group the beginnings of its occurrences, another entry nothing.
 module _ (es : List Entry) (i : ℕ) where
   pub kept-rows : is-periodic (getD es i blank .what) ≡ true → {end : ℕ} → end ≡ group-end es i → {b : Bytes} {at n kept : ℕ} {before after : List ℕ}
-      → Kept (each stored-cell (fields-of (slice (i + 1) end es))) b at n kept before after → Kept (occurrence es i) b at (occurrences-counted (getD es i blank .what) n) kept before after
+      → Kept (each stored-cell (fields-in (slice (i + 1) end es))) b at n kept before after → Kept (occurrence es i) b at (occurrences-counted (getD es i blank .what) n) kept before after
   unfolding occurrence
   kept-rows p {end} q {b} {at} {n} k = rw (rows-some (getD es i blank .what) n p, ← q) k
 

@@ -10,7 +10,7 @@ use lib.Dec.{T, eqb, eqb-refl}
 use lib.ListN.{length, drop, getD}
 use Rattle.rules.specs.Outcome.{done}
 use Rattle.rules.specs.Lists.{all}
-use Rattle.rules.specs.Table.{group, Entry, is-inside, names, differ}
+use Rattle.rules.specs.Table.{Entry, is-inside, names, differ}
 use Rattle.rules.specs.Use.{Found, find-from}
 use Rattle.rules.proofs.Steps.{done-inj, not-done, by-test, and-left, and-right, eqb-same}
 use Rattle.records.specs.Where.{inside-from, First}

@@ -13,7 +13,7 @@ use Rattle.rules.specs.Limits.{longest-record, record-head-size}
 use Rattle.rules.specs.Lists.{Bytes, same, nothing}
 use Rattle.rules.specs.Table.{Part}
 use Rattle.rules.specs.Record.{Record, record-head, each, stored-part, stored}
-use Rattle.rules.proofs.Steps.{done-inj, not-done, eqb-same, by-test, same-eq, true-T}
+use Rattle.rules.proofs.Steps.{done-inj, not-done, eqb-same, by-test, same-eq, and-right, true-T}
 use Rattle.buffer.proofs.Cases.{by-order}
 use Rattle.records.specs.Walk.{rest-of, is-headed}
 use Rattle.records.proofs.Entries.{never}
@@ -37,14 +37,10 @@ module _ (b : Bytes) where
   pub headed-most : is-headed b ≡ true → length b ≤ longest-record
   headed-most h = by-order longest-record (length b) (λ l. absurd (never (head-long l) h)) (λ l. l)
 
-  and-second : (x y : Bool) → (x && y) ≡ true → y ≡ true
-  and-second true y h = h
-  and-second false y h = absurd (never refl h)
-
   pub headed-long : is-headed b ≡ true → record-head-size ≤ length b
   unfolding is-headed
   headed-long h = by-order (length b) record-head-size
-      (λ l. absurd (never (head-short l) (and-second (leb (length b) longest-record) (same (take record-head-size b) record-head) h)))
+      (λ l. absurd (rw (head-short l) at (and-right (leb (length b) longest-record) (same (take record-head-size b) record-head) (true-T h))))
       (λ l. l)
 
 -- The answer, by the head and by what the body's parts leave.

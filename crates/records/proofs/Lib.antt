@@ -7,7 +7,6 @@ pub mod Passing
 pub mod Groups
 pub mod Lookups
 pub mod Occurrences
-pub mod Homes
 pub mod EmptyEntries
 pub mod Turns
 pub mod Ends

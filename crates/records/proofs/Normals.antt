@@ -1,24 +1,18 @@
 -- A stored value, by where the first value lies and whether it is in normal form.
 use mathlib.Core.Path.{_≡_, refl, sym, _∙_, ap}
-use mathlib.Core.Bool.{true, false, _&&_}
+use mathlib.Core.Bool.{true, false}
 use mathlib.Core.List.{[], _∷_}
-use mathlib.Core.Logic.{_⊎_, inl, inr}
 use Prim.Native.Nat.{ℕ, zero, suc, _+_, _*_, _-_, _≤_, _<_}
 use native.Mathlib.Nat.{zero-mul}
 use native.Mathlib.Omega.{arith}
-use borrow.Author.Tests.{leb-true}
-use lib.Dec.{leb}
 use lib.ListN.{length, take, drop, getD, length-drop}
 use lib.Seq.{length-take-le, drop-drop, getD-drop}
 use Rattle.rules.specs.Outcome.{Outcome, done, refused}
-use Rattle.rules.specs.Limits.{longest-alpha}
 use Rattle.rules.specs.Lists.{Bytes, cut}
 use Rattle.rules.specs.Values.{Format, first-value, in-normal-form}
 use Rattle.rules.specs.Numbers.{refusal-number}
 use Rattle.rules.specs.Record.{times, stored-value}
 use Rattle.rules.specs.declared.Refusal.{Refusal}
-use Rattle.rules.proofs.Steps.{from-need, not-done, and-right, T-true}
-use Rattle.rules.proofs.Readers.{cut-sound}
 use Rattle.buffer.proofs.Cases.{by-order}
 use Rattle.values.specs.Normals.{Any-normal}
 use Rattle.values.specs.Places.{found, Located}
@@ -49,14 +43,6 @@ module _ (f : Format) (n : ℕ) (bs : Bytes) where
     pub value-other : in-normal-form f n v ≡ false → rest-of (stored-value f n bs) ≡ refused 2
     unfolding stored-value
     value-other q = rw (h, q) refl
-
--- The bytes of a first value, without their length byte, are as many as its length says, or at most 253.
-pub value-length : (n : ℕ) (bs v rest : Bytes) → first-value n bs ≡ done (v, rest) → ((n ≡ 0) × (length v ≤ longest-alpha)) ⊎ (n ≡ length v)
-unfolding first-value
-value-length zero [] v rest h = absurd (not-done h)
-value-length zero (m ∷ bs) v rest h = from-need (leb 1 m && leb m (suc longest-alpha)) 8 _ h λ t k.
-    inl (refl, omega (arith, cut-sound 7 (m - 1) bs v rest k .0, leb-true m (suc longest-alpha) (T-true (leb m (suc longest-alpha)) (and-right (leb 1 m) (leb m (suc longest-alpha)) t))))
-value-length (suc n) bs v rest h = inr (omega (arith, cut-sound 7 (suc n) bs v rest h .0))
 
 below-take : (n : ℕ) (bs : Bytes) → ((i : ℕ) → getD bs i 0 < 256) → (i : ℕ) → getD (take n bs) i 0 < 256
 below-take zero bs b i = omega arith

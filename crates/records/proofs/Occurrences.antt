@@ -5,16 +5,16 @@ use mathlib.Core.List.{List, [], _∷_}
 use Prim.Native.Nat.{ℕ, suc, pred, _≤_, _<_}
 use native.Mathlib.Omega.{arith}
 use lib.ListN.{length, drop, getD, List·getD-eq-default}
-use lib.Seq.{slice, slice-empty, slice-cons}
+use lib.Seq.{slice, slice-empty}
 use Rattle.rules.specs.Outcome.{done}
 use Rattle.rules.specs.Limits.{greatest-count}
 use Rattle.rules.specs.Lists.{Bytes}
 use Rattle.rules.specs.Values.{Format}
-use Rattle.rules.specs.Table.{field, group, Entry, Field, fields-below, parts-from}
+use Rattle.rules.specs.Table.{field, Entry, Field, fields-below, parts-from}
 use Rattle.rules.specs.Record.{Occurrence, Record, times, each, stored-cell, stored-part, cell-of, values-at}
 use Rattle.records.specs.Walk.{rest-of, start-of}
-use Rattle.records.specs.Where.{First, Deeper, field-of, fields-of}
-use Rattle.records.proofs.Walks.{each-turn}
+use Rattle.records.specs.Where.{First, Deeper}
+use Rattle.tables.specs.Groups.{fields-in}
 use Rattle.records.proofs.Cells.{counted-many, times-at}
 use Rattle.records.proofs.Groups.{cell-below}
 use Rattle.records.proofs.Lookups.{Grouped}
@@ -38,26 +38,14 @@ module _ {before : Bool} {es : List Entry} {bs : Bytes} {r : Record} {d : Entry}
 
     pub values-there : {C : Type 0} (tail : Bytes) → times (length os) (each stored-cell (fields-below 1 (drop (suc g) es))) tail ≡ done (os, mid) → (i : ℕ) → i < length os
         → ((one cell next : Bytes) → rest-of (times i (each stored-cell (fields-below 1 (drop (suc g) es))) tail) ≡ done one
-        → rest-of (each stored-cell (fields-of (slice (suc g) j es)) one) ≡ done cell
+        → rest-of (each stored-cell (fields-in (slice (suc g) j es)) one) ≡ done cell
         → stored-cell (record { name = n; format = f; size = s; multiple = mu }) cell ≡ done (values-at (parts-from before es) r n (suc i), next) → C) → C
     values-there tail t i l k =
         times-at (each stored-cell (fields-below 1 (drop (suc g) es))) [] (length os) i tail l t λ one after h₁ h₂.
         cell-below es d g j n behind deep first f s mu what one h₂ λ cs cell next h₃ h₄.
         k one cell next (ap rest-of h₁) (ap rest-of h₃) (h₄ ∙ rw (q .values level n j behind deep first f s mu what (suc i)) refl)
 
--- A walk over the fields between two entries: on after a field's cell, past a group, and over.
-module _ (es : List Entry) (d : Entry) (k j : ℕ) (less : k < j) (most : j ≤ length es) (bs : Bytes) where
-  pub between-field : (f : Format) (s : ℕ) (mu : Bool) {cs : Bytes} → getD es k d .what ≡ field f s mu
-      → rest-of (stored-cell (record { name = getD es k d .name; format = f; size = s; multiple = mu }) bs) ≡ done cs
-      → rest-of (each stored-cell (fields-of (slice k j es)) bs) ≡ rest-of (each stored-cell (fields-of (slice (suc k) j es)) cs)
-  unfolding fields-of field-of
-  between-field f s mu what h = rw (slice-cons k j es d less most, what)
-      (each-turn stored-cell (record { name = getD es k d .name; format = f; size = s; multiple = mu }) (fields-of (slice (suc k) j es)) bs h)
-
-  pub between-group : (p : Bool) → getD es k d .what ≡ group p → rest-of (each stored-cell (fields-of (slice k j es)) bs) ≡ rest-of (each stored-cell (fields-of (slice (suc k) j es)) bs)
-  unfolding fields-of field-of
-  between-group p what = rw (slice-cons k j es d less most, what) refl
-
-pub between-over : (es : List Entry) (j : ℕ) (bs : Bytes) → rest-of (each stored-cell (fields-of (slice j j es)) bs) ≡ done bs
-unfolding fields-of each
+-- A walk over no field is over.
+pub between-over : (es : List Entry) (j : ℕ) (bs : Bytes) → rest-of (each stored-cell (fields-in (slice j j es)) bs) ≡ done bs
+unfolding fields-in each
 between-over es j bs = rw (slice-empty j es) refl

@@ -12,9 +12,11 @@ use Rattle.rules.specs.Lists.{Bytes}
 use Rattle.rules.specs.Table.{What, field, group, Entry, Field, Part, is-inside, inside-of, fields-below, alone, part-of, parts-from, member}
 use Rattle.rules.specs.Record.{Record, each, stored-part, values-at, group-count-at}
 use Rattle.rules.proofs.Steps.{by-test}
+use Rattle.tables.specs.Entries.{is-periodic}
 use Rattle.records.specs.Walk.{rest-of, behind, start-of}
 use Rattle.records.specs.Where.{inside-from, First, field-of}
 use Rattle.records.proofs.Cells.{each-first}
+use Rattle.records.proofs.EmptyEntries.{inside-periodic, inside-deeper}
 
 -- No entry before entry j has the name n.
 abbrev pub Unnamed : ℕ → List Entry → ℕ → Type 0
@@ -34,10 +36,7 @@ Clear before es d j = ltb 1 (getD es j d .level) ≡ true → inside-from before
 
 -- Only level 1 leaves a periodic group.
 stays : (level : ℕ) (w : What) → ltb 1 level ≡ true → inside-of true level w ≡ true
-unfolding inside-of
-stays level (field f s mu) t = t
-stays level (group true) t = refl
-stays level (group false) t = t
+stays level w t = by-test (is-periodic w) (inside-periodic true level w) (λ p. inside-deeper true level w p refl ∙ t)
 
 -- An entry of a level above 1 adds its field, if it is one, to those after it; an entry of level 1 ends them.
 module _ (e : Entry) (es : List Entry) where
@@ -109,10 +108,6 @@ pub record Reached (before : Bool) (es : List Entry) (bs : Bytes) (r : Record) (
   pub counts : (n : ℕ) → Unnamed n es j → group-count-at (parts-from before es) r n ≡ group-count-at (parts-at before es d j) r′ n
   pub values : (n : ℕ) → Unnamed n es j → Clear before es d j → (i : ℕ) → values-at (parts-from before es) r n i ≡ values-at (parts-at before es d j) r′ n i
 
-begins : (before : Bool) (level : ℕ) (w : What) → w ≡ group true → inside-of before level w ≡ true
-unfolding inside-of
-begins before level w q = ap (inside-of before level) q
-
 pub reach : {C : Type 0} (before : Bool) (es : List Entry) (bs : Bytes) (r : Record) (rest : Bytes) (d : Entry) (j : ℕ) → j < length es
     → each stored-part (parts-from before es) bs ≡ done (r, rest) → ((r′ : Record) → Reached before es bs r rest d j r′ → C) → C
 unfolding parts-from inside-from start-of behind
@@ -124,5 +119,5 @@ reach before (e ∷ es) bs r rest d (suc j) l p k =
       stands = rw (q .left) (s .stands);
       counts = λ n u. q .counts n (u .0) ∙ s .counts n (u .1);
       values = λ n u c i. q .values n (u .0)
-          (λ w. none-below n es d j (le-of-suc-le-suc l) (u .1) (λ t h. c t (rw (begins before (e .level) (e .what) w) h))) i ∙ s .values n (u .1) c i;
+          (λ w. none-below n es d j (le-of-suc-le-suc l) (u .1) (λ t h. c t (rw (inside-periodic before (e .level) (e .what) (ap is-periodic w)) h))) i ∙ s .values n (u .1) c i;
     })

@@ -6,7 +6,7 @@ use Prim.Native.Nat.{ℕ, zero, suc, _+_, _-_, _≤_, _<_}
 use native.Mathlib.Nat.{not-suc-le-zero, le-of-suc-le-suc}
 use native.Mathlib.Omega.{arith}
 use lib.ListN.{length, take, drop, getD, length-append, length-drop, drop-of-length-le}
-use lib.Seq.{slice, slice-cons, slice-empty, take-at}
+use lib.Seq.{slice, slice-empty, take-at}
 use Rattle.rules.specs.Limits.{record-head-size}
 use Rattle.rules.specs.Outcome.{Outcome, done}
 use Rattle.rules.specs.Lists.{Bytes, join}
@@ -17,15 +17,16 @@ use Rattle.rules.proofs.Steps.{done-inj}
 use Rattle.rules.proofs.Readers.{value-sound}
 use Rattle.buffer.proofs.Cases.{by-order}
 use Rattle.tables.specs.Entries.{blank, is-group, is-multiple, is-periodic}
-use Rattle.tables.specs.Groups.{field-at}
+use Rattle.tables.specs.Groups.{field-at, fields-in}
 use Rattle.tables.specs.Places.{inside-at, inside-before}
 use Rattle.records.specs.Walk.{rest-of, bytes-left, behind, start-of}
-use Rattle.records.specs.Where.{inside-from, field-of, fields-of}
+use Rattle.records.specs.Where.{inside-from, field-of}
 use Rattle.records.specs.Places.{Is-record, values-of, Outside, Celled, Piece-of}
 use Rattle.records.specs.declared.places.Extent.the-variants.{At}
 use Rattle.records.proofs.Entries.{never}
 use Rattle.records.proofs.Cells.{counted-once}
 use Rattle.records.proofs.Ends.{each-single, behind-outside}
+use Rattle.records.proofs.Groups.{fields-first}
 use Rattle.records.proofs.Passing.{reach}
 use Rattle.records.proofs.Placed.{whole-body, field-is, inside-same, cell-outside}
 
@@ -95,8 +96,8 @@ module _ {es : List Entry} {b : Bytes} {places : List ℕ} {r : Record} (held : 
         (behind-outside (inside-from false es j) (getD es j blank) (drop (suc j) es) (from j) (ap is-periodic q) (inside-same es j less ∙ out)
         ∙ ap (λ (w : What). rest-of (each stored-cell (field-of (getD es j blank .name) w) (from j))) q))
 
-  chain : (n first end : ℕ) → first + n ≡ end → end ≤ length es → Outside es first end → from first ≡ values-of es r 1 (fields-of (slice first end es)) ++ from end
-  unfolding fields-of values-of
+  chain : (n first end : ℕ) → first + n ≡ end → end ≤ length es → Outside es first end → from first ≡ values-of es r 1 (fields-in (slice first end es)) ++ from end
+  unfolding fields-in values-of
   chain zero first end e h out = let z : first ≡ end = omega arith in rw (z, slice-empty end es) refl
   chain (suc n) first end e h out =
       let less : first < end = omega arith in
@@ -104,13 +105,13 @@ module _ {es : List Entry} {b : Bytes} {places : List ℕ} {r : Record} (held : 
       let own = field-of (getD es first blank .name) (getD es first blank .what) in
       step-by first (omega arith) (o .0) (getD es first blank .what) refl (o .1)
       ∙ ap (λ (bs : Bytes). values-of es r 1 own ++ bs) (chain n (suc first) end (omega arith) h (λ j k l. out j (omega arith) l))
-      ∙ sym (append-assoc (values-of es r 1 own) (values-of es r 1 (fields-of (slice (suc first) end es))) (from end))
-      ∙ rw (slice-cons first end es blank less h, values-append es r 1 own (fields-of (slice (suc first) end es))) refl
+      ∙ sym (append-assoc (values-of es r 1 own) (values-of es r 1 (fields-in (slice (suc first) end es))) (from end))
+      ∙ rw (fields-first es blank first end less h, values-append es r 1 own (fields-in (slice (suc first) end es))) refl
 
   pub piece-stands : (first end : ℕ) → first ≤ end → end ≤ length es → Outside es first end → (p q : ℕ) → p ≤ length b → drop p b ≡ from first → q ≤ length b → drop q b ≡ from end
       → Piece-of es b first end 1 r (At p q)
   piece-stands first end o h out p q hp dp hq dq =
-      let vs = values-of es r 1 (fields-of (slice first end es)) in
+      let vs = values-of es r 1 (fields-in (slice first end es)) in
       let d : drop p b ≡ vs ++ drop q b = dp ∙ chain (end - first) first end (omega arith) h out ∙ ap (λ (bs : Bytes). vs ++ bs) (sym dq) in
       let l = ap length d ∙ length-append vs (drop q b) in
       let n : length vs ≡ q - p = omega (arith, l, length-drop p b, length-drop q b) in

@@ -18,11 +18,12 @@ use Rattle.rules.proofs.Steps.{from-bind, from-need, nothing-eq, done-inj, not-
 use Rattle.buffer.proofs.Cases.{by-order}
 use Rattle.tables.specs.Entries.{blank, is-group, is-multiple, is-periodic, size-of, format-at, format-number}
 use Rattle.tables.specs.Places.{inside-at, inside-before, Home}
-use Rattle.tables.specs.Groups.{group-end, field-by, field-at}
+use Rattle.tables.specs.Groups.{group-end, field-by, field-at, fields-in}
 use Rattle.value_formats.proofs.Letters.{number-back}
+use Rattle.tables.proofs.EntryFields.{field-periodic}
 use Rattle.tables.proofs.Nesting.{run-levels}
 use Rattle.records.specs.Walk.{rest-of, Walked, Ends, firsts, directory, occurrence, Checked}
-use Rattle.records.specs.Where.{inside-from, First, Deeper, fields-of}
+use Rattle.records.specs.Where.{inside-from, First, Deeper}
 use Rattle.records.specs.Places.{Is-record, Has-record, Entered, Cell-of}
 use Rattle.records.specs.declared.Reach.the-variants as S
 use Rattle.records.specs.declared.places.Cell.{Cell}
@@ -87,10 +88,6 @@ home-deeper es i g home k p q =
 pub home-before : (es : List Entry) (i g : ℕ) → is-periodic (getD es i blank .what) ≡ false → Home es i g → g < i
 home-before es i g what home = by-order g i (λ l. l) (λ l. let z : g ≡ i = omega (arith, home .upto) in absurd (never (rw (← z) at what) (ap is-periodic (home .periodic))))
 
-pub field-periodic : (w : What) → is-group w ≡ false → is-periodic w ≡ false
-field-periodic (field f s mu) h = refl
-field-periodic (group p) h = absurd (never h refl)
-
 pub home-end : (es : List Entry) (i g : ℕ) → Home es i g → i ≤ group-end es g
 unfolding group-end
 home-end es i g home = rw (home .level) (omega (arith, home .within))
@@ -135,7 +132,7 @@ module _ {es : List Entry} {b : Bytes} {places : List ℕ} {r : Record} (held : 
     -- The occurrence that stands at p, and its fields up to an entry, come to an end.
     module _ (level : getD es g blank .level ≡ 1) (o : ℕ) (some : 1 ≤ o) (many : o ≤ group-count-at (parts es) r (getD es g blank .name)) (p : ℕ)
         (row : Walked b (rest-of (times (o - 1) (occurrence es g) (drop (getD places g 0 + 1) b))) (S.At p)) where
-      row-whole : Ends (rest-of (each stored-cell (fields-of (slice (g + 1) (group-end es g) es)) (drop p b)))
+      row-whole : Ends (rest-of (each stored-cell (fields-in (slice (g + 1) (group-end es g) es)) (drop p b)))
       unfolding occurrence parts
       row-whole = group-there λ os mid q.
           occurrences q λ tail h most s.
@@ -144,10 +141,10 @@ module _ {es : List Entry} {b : Bytes} {places : List ℕ} {r : Record} (held : 
           let e : one ≡ drop p b = done-inj (sym (ap rest-of h₁) ∙ rw (group-fields es g level, c .2, ← add-one (getD places g 0)) (sym (row .answer))) in
           (after, rw (e, group-fields es g level) at (ap rest-of h₂))
 
-      pub members-end : (i : ℕ) → g < i → i ≤ group-end es g → Ends (rest-of (each stored-cell (fields-of (slice (g + 1) i es)) (drop p b)))
-      members-end i l m = by-outcome (rest-of (each stored-cell (fields-of (slice (g + 1) i es)) (drop p b)))
+      pub members-end : (i : ℕ) → g < i → i ≤ group-end es g → Ends (rest-of (each stored-cell (fields-in (slice (g + 1) i es)) (drop p b)))
+      members-end i l m = by-outcome (rest-of (each stored-cell (fields-in (slice (g + 1) i es)) (drop p b)))
           (λ cs h. (cs, h))
-          (λ k h. absurd (not-done (sym (each-off stored-cell (fields-of (slice i (group-end es g) es)) (fields-of (slice (g + 1) i es)) (drop p b) k h)
+          (λ k h. absurd (not-done (sym (each-off stored-cell (fields-in (slice i (group-end es g) es)) (fields-in (slice (g + 1) i es)) (drop p b) k h)
           ∙ rw (fields-split es blank (i - (g + 1)) (g + 1) i (group-end es g) (omega arith) m (group-within es g less .1)) at (row-whole .1))))
 
     pub row-kept : (k : ℕ) → k < getD b (getD places g 0) 0 → getD places (firsts + g) 0 + k < directory
@@ -167,8 +164,8 @@ module _ {es : List Entry} {b : Bytes} {places : List ℕ} {r : Record} (held : 
         (omega (arith, q .count (getD es g blank .name) (own-name g (omega (arith, group-before)))))
 
     pub cell-there : {C : Type 0} → o ≤ group-count-at (parts es) r (getD es g blank .name)
-        → ((one cell next : Bytes) → rest-of (times (o - 1) (each stored-cell (fields-of (slice (g + 1) (group-end es g) es))) (drop (getD places g 0 + 1) b)) ≡ done one
-        → rest-of (each stored-cell (fields-of (slice (g + 1) i es)) one) ≡ done cell
+        → ((one cell next : Bytes) → rest-of (times (o - 1) (each stored-cell (fields-in (slice (g + 1) (group-end es g) es))) (drop (getD places g 0 + 1) b)) ≡ done one
+        → rest-of (each stored-cell (fields-in (slice (g + 1) i es)) one) ≡ done cell
         → stored-cell (field-at es i) cell ≡ done (values-at (parts es) r (getD es i blank .name) o, next) → C) → C
     unfolding parts
     cell-there many k = group-there g (omega (arith, group-before)) (home .periodic) λ os mid q.
@@ -183,14 +180,14 @@ module _ {es : List Entry} {b : Bytes} {places : List ℕ} {r : Record} (held : 
     -- What a walk over the fields before it finds, from the place of the occurrence on.
     module _ (many : o ≤ group-count-at (parts es) r (getD es g blank .name)) (p : ℕ)
         (row : Walked b (rest-of (times (o - 1) (occurrence es g) (drop (getD places g 0 + 1) b))) (S.At p)) where
-      row-there : {C : Type 0} → ((cell next : Bytes) → rest-of (each stored-cell (fields-of (slice (g + 1) i es)) (drop p b)) ≡ done cell
+      row-there : {C : Type 0} → ((cell next : Bytes) → rest-of (each stored-cell (fields-in (slice (g + 1) i es)) (drop p b)) ≡ done cell
           → stored-cell (field-at es i) cell ≡ done (values-at (parts es) r (getD es i blank .name) o, next) → C) → C
       unfolding occurrence
       row-there k = cell-there many λ one cell next h₁ h₂ h₃.
           let e : one ≡ drop p b = done-inj (sym h₁ ∙ sym (row .answer)) in
           k cell next (rw e at h₂) h₃
 
-      pub cell-stands : (q : ℕ) → Walked b (rest-of (each stored-cell (fields-of (slice (g + 1) i es)) (drop p b))) (S.At q) → Cell-of es b i o r (At q)
+      pub cell-stands : (q : ℕ) → Walked b (rest-of (each stored-cell (fields-in (slice (g + 1) i es)) (drop p b))) (S.At q) → Cell-of es b i o r (At q)
       cell-stands q w = row-there λ cell next h₁ h₂.
           let d : drop q b ≡ cell = done-inj (w .answer ∙ h₁) in
           (w .place, next, ap (stored-cell (field-at es i)) d ∙ h₂)

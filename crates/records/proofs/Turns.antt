@@ -6,7 +6,7 @@ use native.Mathlib.Nat.{sub-zero, not-suc-le-zero, le-of-suc-le-suc}
 use native.Mathlib.Numerals.{add-one}
 use native.Mathlib.Omega.{arith}
 use lib.ListN.{length, drop, getD, set, length-set}
-use lib.Seq.{slice, slice-cons, getD-set-same, getD-set-other}
+use lib.Seq.{slice, getD-set-same, getD-set-other}
 use Rattle.rules.specs.Outcome.{Outcome, done}
 use Rattle.rules.specs.Lists.{Bytes}
 use Rattle.rules.specs.Table.{Entry}
@@ -14,11 +14,13 @@ use Rattle.rules.specs.Record.{Reader, times, each, stored-cell}
 use Rattle.rules.proofs.Steps.{not-done, by-outcome}
 use Rattle.buffer.proofs.Cases.{by-order}
 use Rattle.records.specs.Walk.{rest-of, Walked, Ends, directory, Kept}
-use Rattle.records.specs.Where.{field-of, fields-of}
+use Rattle.records.specs.Where.{field-of}
+use Rattle.tables.specs.Groups.{fields-in}
 use Rattle.records.specs.declared.Reach.{Reach}
 use Rattle.records.specs.declared.Reach.the-variants.{At, Bad}
 use Rattle.records.proofs.Walks.{walked-at, walked-bad, times-stop, times-more, turn-at, turn-bad, turns-over}
 use Rattle.records.proofs.Checking.{each-on, each-off}
+use Rattle.records.proofs.Groups.{fields-first}
 use Rattle.records.proofs.Occurrences.{between-over}
 
 -- A reader n times, of which i are done, at the place p.
@@ -82,40 +84,37 @@ set-beyond (x ∷ l) (suc j) v h = ap (λ (r : List ℕ). x ∷ r) (set-beyond l
 pub record Among (es : List Entry) (b : Bytes) (whole : Outcome Bytes) (j i p : ℕ) : Type 0 where
   pub upto : i ≤ j
   pub place : p ≤ length b
-  pub rest : rest-of (each stored-cell (fields-of (slice i j es)) (drop p b)) ≡ whole
+  pub rest : rest-of (each stored-cell (fields-in (slice i j es)) (drop p b)) ≡ whole
 
-pub among : (es : List Entry) (b : Bytes) (j i p : ℕ) → i ≤ j → p ≤ length b → Among es b (rest-of (each stored-cell (fields-of (slice i j es)) (drop p b))) j i p
+pub among : (es : List Entry) (b : Bytes) (j i p : ℕ) → i ≤ j → p ≤ length b → Among es b (rest-of (each stored-cell (fields-in (slice i j es)) (drop p b))) j i p
 among es b j i p h k = record { upto = h; place = k; rest = refl }
 
 module _ {es : List Entry} {b : Bytes} {whole : Outcome Bytes} {j i p : ℕ} (l : Among es b whole j i p) where
   module _ (d : Entry) (less : i < j) (most : j ≤ length es) {r : Reach} (w : Walked b (rest-of (each stored-cell (field-of (getD es i d .name) (getD es i d .what)) (drop p b))) r) where
     pub among-on : {e : ℕ} → r ≡ At e → Among es b whole j (i + 1) e
-    unfolding fields-of
     among-on {e} q =
         let h = walked-at w q in
         record {
           upto = omega arith;
           place = h .1;
           rest =
-              rw add-one (sym (each-on stored-cell (fields-of (slice (suc i) j es)) (field-of (getD es i d .name) (getD es i d .what)) (drop p b) (drop e b) (h .0))
-              ∙ rw (slice-cons i j es d less most) at (l .rest));
+              rw add-one (sym (each-on stored-cell (fields-in (slice (suc i) j es)) (field-of (getD es i d .name) (getD es i d .what)) (drop p b) (drop e b) (h .0))
+              ∙ rw (fields-first es d i j less most) at (l .rest));
         }
 
     pub among-off : r ≡ Bad → Walked b whole Bad
-    unfolding fields-of
     among-off q = record {
       answer =
-          sym (each-off stored-cell (fields-of (slice (suc i) j es)) (field-of (getD es i d .name) (getD es i d .what)) (drop p b) 2 (walked-bad w q))
-          ∙ rw (slice-cons i j es d less most) at (l .rest);
+          sym (each-off stored-cell (fields-in (slice (suc i) j es)) (field-of (getD es i d .name) (getD es i d .what)) (drop p b) 2 (walked-bad w q))
+          ∙ rw (fields-first es d i j less most) at (l .rest);
       place = tt;
     }
 
   pub among-there : (d : Entry) → i < j → j ≤ length es → Ends whole → Ends (rest-of (each stored-cell (field-of (getD es i d .name) (getD es i d .what)) (drop p b)))
-  unfolding fields-of
   among-there d less most e = by-outcome (rest-of (each stored-cell (field-of (getD es i d .name) (getD es i d .what)) (drop p b)))
       (λ cs h. (cs, h))
-      (λ k h. absurd (not-done (sym (each-off stored-cell (fields-of (slice (suc i) j es)) (field-of (getD es i d .name) (getD es i d .what)) (drop p b) k h)
-      ∙ rw (slice-cons i j es d less most) at (l .rest) ∙ e .1)))
+      (λ k h. absurd (not-done (sym (each-off stored-cell (fields-in (slice (suc i) j es)) (field-of (getD es i d .name) (getD es i d .what)) (drop p b) k h)
+      ∙ rw (fields-first es d i j less most) at (l .rest) ∙ e .1)))
 
   pub among-all : j ≤ i → Walked b whole (At p)
   among-all h = let e : i ≡ j = omega (arith, l .upto) in record { answer = sym (between-over es j (drop p b)) ∙ rw e at (l .rest); place = l .place }

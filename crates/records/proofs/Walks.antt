@@ -1,19 +1,18 @@
 -- A step of a walk: how `times` and `each` go on from what one reader leaves, and how they stop, the values forgotten.
 use mathlib.Core.Path.{_≡_, refl, sym, _∙_, ap}
-use mathlib.Core.Bool.{Bool, true, false}
+use mathlib.Core.Bool.{true, false}
 use mathlib.Core.List.{List, [], _∷_, _++_}
 use Prim.Native.Nat.{ℕ, zero, suc, _+_, _-_, _≤_, _<_}
 use native.Mathlib.Omega.{arith}
 use borrow.Author.Tests.{le-leb, lt-leb}
-use lib.Dec.{leb}
 use lib.ListN.{length, drop, getD, drop-of-length-le}
 use lib.Seq.{drop-cons}
-use Rattle.rules.specs.Outcome.{Outcome, done, refused, _>>=_, need}
+use Rattle.rules.specs.Outcome.{Outcome, done, refused, _>>=_}
 use Rattle.rules.specs.Limits.{greatest-count}
 use Rattle.rules.specs.Lists.{Bytes}
 use Rattle.rules.specs.Record.{Reader, times, each, stored-count, counted}
 use Rattle.rules.proofs.Steps.{done-inj, not-done, by-outcome}
-use Rattle.records.specs.Walk.{rest-of, seen, walk-place, Walked}
+use Rattle.records.specs.Walk.{rest-of, seen, Walked}
 use Rattle.records.specs.declared.Reach.{Reach}
 use Rattle.records.specs.declared.Reach.the-variants.{At, Bad}
 

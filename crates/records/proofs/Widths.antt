@@ -8,22 +8,24 @@ use native.Mathlib.Numerals.{add-one}
 use native.Mathlib.Omega.{arith}
 use borrow.Author.Tests.{le-leb}
 use lib.ListN.{length, getD}
-use lib.Seq.{slice, slice-cons, slice-empty}
+use lib.Seq.{slice, slice-empty}
 use Rattle.rules.specs.Lists.{all}
 use Rattle.rules.specs.Table.{What, field, group, Entry, Field}
 use Rattle.rules.specs.Use.{plain}
-use Rattle.tables.specs.Entries.{format-number, size-of, is-multiple}
+use Rattle.tables.specs.Entries.{group-number, format-number, size-of, is-multiple}
 use Rattle.tables.specs.declared.Found.{Found}
 use Rattle.tables.specs.declared.Found.the-variants.{At, Nothing}
-use Rattle.records.specs.Where.{field-of, fields-of}
+use Rattle.records.specs.Where.{field-of}
+use Rattle.tables.specs.Groups.{fields-in}
 use Rattle.records.specs.Paths.{lengths, Width}
 use Rattle.records.proofs.Entries.{never}
 use Rattle.rules.specs.Limits.{most-entries}
 use Rattle.records.specs.Counts.{greatest-byte}
 use Rattle.records.proofs.EmptyEntries.{entry-group}
+use Rattle.records.proofs.Groups.{fields-first}
 
 -- One entry, by the numbers that the code has of it.
-pub width-group : (n : ℕ) (w : What) → format-number w ≡ 5 → Width (field-of n w) greatest-byte (At 0)
+pub width-group : (n : ℕ) (w : What) → format-number w ≡ group-number → Width (field-of n w) greatest-byte (At 0)
 unfolding field-of all lengths
 width-group n w h = rw (entry-group w h) (record { plains = refl; width = refl }, omega arith)
 
@@ -32,12 +34,12 @@ unfolding field-of all plain
 width-multiple n (field f s mu) h = rw h refl
 width-multiple n (group p) h = absurd (never refl h)
 
-pub width-none : (n : ℕ) (w : What) → (format-number w ≡ 5 → ⊥) → is-multiple w ≡ false → size-of w ≡ 0 → all plain (field-of n w) ≡ false
+pub width-none : (n : ℕ) (w : What) → (format-number w ≡ group-number → ⊥) → is-multiple w ≡ false → size-of w ≡ 0 → all plain (field-of n w) ≡ false
 unfolding field-of all plain
 width-none n (field f s mu) g h z = rw (h, z) refl
 width-none n (group p) g h z = absurd (g refl)
 
-pub width-plain : (n : ℕ) (w : What) → (format-number w ≡ 5 → ⊥) → is-multiple w ≡ false → 0 < size-of w → size-of w ≤ greatest-byte → Width (field-of n w) greatest-byte (At (size-of w))
+pub width-plain : (n : ℕ) (w : What) → (format-number w ≡ group-number → ⊥) → is-multiple w ≡ false → 0 < size-of w → size-of w ≤ greatest-byte → Width (field-of n w) greatest-byte (At (size-of w))
 unfolding field-of all plain lengths
 width-plain n (field f s mu) g h z m = (record { plains = rw (h, le-leb 1 s z) refl; width = omega arith }, m)
 width-plain n (group p) g h z m = absurd (g refl)
@@ -60,8 +62,8 @@ lengths-append (x ∷ xs) ys = rw (lengths-append xs ys) (omega arith)
 -- The widths of the entries from first to i are added up, with those to end still to come.
 pub record Adding (es : List Entry) (first end i w : ℕ) : Type 0 where
   pub upto : i ≤ end
-  pub plains : all plain (fields-of (slice i end es)) ≡ all plain (fields-of (slice first end es))
-  pub width : w + lengths (fields-of (slice i end es)) ≡ lengths (fields-of (slice first end es))
+  pub plains : all plain (fields-in (slice i end es)) ≡ all plain (fields-in (slice first end es))
+  pub width : w + lengths (fields-in (slice i end es)) ≡ lengths (fields-in (slice first end es))
   pub most : w ≤ i * greatest-byte
 
 pub adding : (es : List Entry) (first end : ℕ) → first ≤ end → Adding es first end first 0
@@ -69,15 +71,14 @@ adding es first end h = record { upto = h; plains = refl; width = zero-add _; mo
 
 module _ {es : List Entry} {first end i w : ℕ} (l : Adding es first end i w) where
   module _ (d : Entry) (less : i < end) (most : end ≤ length es) where
-    here : fields-of (slice i end es) ≡ field-of (getD es i d .name) (getD es i d .what) ++ fields-of (slice (i + 1) end es)
-    unfolding fields-of
-    here = rw (add-one i, slice-cons i end es d less most) refl
+    here : fields-in (slice i end es) ≡ field-of (getD es i d .name) (getD es i d .what) ++ fields-in (slice (i + 1) end es)
+    here = rw (add-one i) (fields-first es d i end less most)
 
     pub add-on : (r : Found) → Width (field-of (getD es i d .name) (getD es i d .what)) greatest-byte r → {n : ℕ} → r ≡ At n → Adding es first end (i + 1) (w + n)
     add-on r one {n} q =
         let x = rw q at one in
         let own = field-of (getD es i d .name) (getD es i d .what) in
-        let rest = fields-of (slice (i + 1) end es) in
+        let rest = fields-in (slice (i + 1) end es) in
         record {
           upto = omega arith;
           plains = sym (ap (all plain) here ∙ plains-append own rest ∙ ap (λ (t : Bool). t && all plain rest) (x .0 .plains)) ∙ l .plains;
@@ -85,15 +86,15 @@ module _ {es : List Entry} {first end i w : ℕ} (l : Adding es first end i w) w
           most = omega (arith, l .most, x .1);
         }
 
-    pub add-off : (r : Found) → Width (field-of (getD es i d .name) (getD es i d .what)) greatest-byte r → r ≡ Nothing → all plain (fields-of (slice first end es)) ≡ false
+    pub add-off : (r : Found) → Width (field-of (getD es i d .name) (getD es i d .what)) greatest-byte r → r ≡ Nothing → all plain (fields-in (slice first end es)) ≡ false
     add-off r one q =
         let own = field-of (getD es i d .name) (getD es i d .what) in
-        let rest = fields-of (slice (i + 1) end es) in
+        let rest = fields-in (slice (i + 1) end es) in
         sym (l .plains) ∙ ap (all plain) here ∙ plains-append own rest ∙ ap (λ (t : Bool). t && all plain rest) (rw q at one)
 
-  pub added : end ≤ i → end ≤ most-entries → Width (fields-of (slice first end es)) (most-entries * greatest-byte) (At w)
-  unfolding fields-of all lengths
+  pub added : end ≤ i → end ≤ most-entries → Width (fields-in (slice first end es)) (most-entries * greatest-byte) (At w)
+  unfolding fields-in all lengths
   added h k =
       let z : i ≡ end = omega (arith, l .upto) in
-      let e : fields-of (slice i end es) ≡ [] = rw (z, slice-empty end es) refl in
+      let e : fields-in (slice i end es) ≡ [] = rw (z, slice-empty end es) refl in
       (record { plains = sym (l .plains) ∙ ap (all plain) e; width = omega (arith, l .width, ap lengths e) }, omega (arith, l .most))

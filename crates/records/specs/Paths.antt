@@ -10,7 +10,7 @@ use Rattle.rules.specs.Use.{plain}
 use Rattle.tables.specs.Places.{inside-at, Home}
 use Rattle.tables.specs.declared.Found.{Found}
 use Rattle.tables.specs.declared.Found.the-variants.{At, Nothing}
-use Rattle.records.specs.Where.{fields-of}
+use Rattle.tables.specs.Groups.{fields-in}
 use Rattle.records.specs.declared.paths.Path.{Path}
 
 -- The standard lengths of some fields together.
@@ -31,4 +31,4 @@ Width fs most Nothing = all plain fs ≡ false
 pub record Leads (es : List Entry) (p : Path) : Type 0 where
   pub home : p .inside ≡ true → Home es (p .entry) (p .group)
   pub outside : p .inside ≡ false → inside-at es (p .entry) ≡ false
-  pub fixed : p .fixed ≡ true → Wide (fields-of (slice (p .group + 1) (p .entry) es)) (p .offset)
+  pub fixed : p .fixed ≡ true → Wide (fields-in (slice (p .group + 1) (p .entry) es)) (p .offset)

@@ -12,10 +12,9 @@ use Rattle.rules.specs.Values.{Format, content, allowed}
 use Rattle.rules.specs.Table.{Entry, Field, parts}
 use Rattle.rules.specs.Record.{Record, times, each, stored-cell, stored, group-count-at, values-at}
 use Rattle.tables.specs.Entries.{blank, is-group, is-multiple}
-use Rattle.tables.specs.Groups.{group-end, field-at}
+use Rattle.tables.specs.Groups.{group-end, field-at, fields-in}
 use Rattle.tables.specs.Places.{inside-at}
 use Rattle.records.specs.Walk.{rest-of, Walked, occurrence, Starts, Occurrences-kept}
-use Rattle.records.specs.Where.{fields-of}
 use Rattle.records.specs.declared.Reach.the-variants as Reach
 use Rattle.records.specs.declared.places.Cell.{Cell}
 use Rattle.records.specs.declared.places.Cell.the-variants.{At, Nothing}
@@ -36,7 +35,7 @@ Has-record es b places = (r : Record) × Is-record es b places r
 pub record Entry-at (es : List Entry) (b : Bytes) (places : List ℕ) (g i o : ℕ) (r : Record) (p q : ℕ) : Type 0 where
   pub many : o ≤ group-count-at (parts es) r (getD es g blank .name)
   pub row : Walked b (rest-of (times (o - 1) (occurrence es g) (drop (getD places g 0 + count-size) b))) (Reach.At p)
-  pub before : Walked b (rest-of (each stored-cell (fields-of (slice (g + 1) i es)) (drop p b))) (Reach.At q)
+  pub before : Walked b (rest-of (each stored-cell (fields-in (slice (g + 1) i es)) (drop p b))) (Reach.At q)
 
 -- The same of the code's answer: or there is no such occurrence.
 abbrev pub Entered : List Entry → Bytes → List ℕ → ℕ → ℕ → ℕ → Record → Cell → Type 0
@@ -76,11 +75,11 @@ Valueless es first end o r = (j : ℕ) → first ≤ j → j < end → is-group 
 -- The piece of a record that those fields are; or they lie in a periodic group, and there is no such occurrence.
 abbrev pub Piece-of : List Entry → Bytes → ℕ → ℕ → ℕ → Record → Extent → Type 0
 Piece-of es b first end o r (Lies from upto) =
-    (from ≤ upto) × (upto ≤ length b) × (take (upto - from) (drop from b) ≡ values-of es r o (fields-of (slice first end es))) × Celled es first end o r
+    (from ≤ upto) × (upto ≤ length b) × (take (upto - from) (drop from b) ≡ values-of es r o (fields-in (slice first end es))) × Celled es first end o r
 Piece-of es b first end o r Absent = (inside-at es first ≡ true) × Valueless es first end o r
 
 -- n occurrences of the periodic group that entry g is, from occurrence o on, stand one after the other from a place on, each `width` bytes wide.
 pub record Occurrences-of (es : List Entry) (b : Bytes) (g o n width : ℕ) (r : Record) (from : ℕ) : Type 0 where
   pub inside : from + n * width ≤ length b
-  pub bytes : take (n * width) (drop from b) ≡ join (run (λ k. values-of es r k (fields-of (slice (g + 1) (group-end es g) es))) o n)
+  pub bytes : take (n * width) (drop from b) ≡ join (run (λ k. values-of es r k (fields-in (slice (g + 1) (group-end es g) es))) o n)
   pub cells : (k : ℕ) → o ≤ k → k < o + n → Celled es (g + 1) (group-end es g) k r

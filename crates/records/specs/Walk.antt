@@ -12,8 +12,7 @@ use Rattle.rules.specs.Lists.{Bytes, same}
 use Rattle.rules.specs.Table.{What, Entry, is-inside, part-of, parts}
 use Rattle.rules.specs.Record.{Occurrence, Reader, record-head, times, each, stored-cell, stored-part, stored}
 use Rattle.tables.specs.Entries.{blank, is-periodic}
-use Rattle.tables.specs.Groups.{group-end}
-use Rattle.records.specs.Where.{fields-of}
+use Rattle.tables.specs.Groups.{group-end, fields-in}
 use Rattle.records.specs.Counts.{count-at}
 use Rattle.records.specs.declared.Reach.{Reach}
 use Rattle.records.specs.declared.Reach.the-variants.{At, Bad}
@@ -82,7 +81,7 @@ greatest-kept = 65535
 
 -- An occurrence of the periodic group that entry g is; and how many of them an entry has, by the count at its place.
 unfoldable pub occurrence : List Entry → ℕ → Reader Occurrence
-occurrence es g = each stored-cell (fields-of (slice (g + 1) (group-end es g) es))
+occurrence es g = each stored-cell (fields-in (slice (g + 1) (group-end es g) es))
 
 unfoldable pub occurrences-counted : What → ℕ → ℕ
 occurrences-counted w n = cond (is-periodic w) n 0

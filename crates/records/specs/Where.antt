@@ -1,11 +1,12 @@
 -- Which entry a name stands for, and which entries lie in a periodic group, by their numbers in the table.
 use mathlib.Core.Path.{_≡_}
 use mathlib.Core.Bool.{Bool, true, false}
-use mathlib.Core.List.{List, [], _∷_, _++_}
+use mathlib.Core.List.{List, [], _∷_}
 use Prim.Native.Nat.{ℕ, zero, suc, _≤_, _<_}
 use lib.Dec.{eqb}
 use lib.ListN.{getD}
-use Rattle.rules.specs.Table.{What, field, group, Entry, Field, is-inside}
+use Rattle.rules.specs.Table.{What, Entry, Field, is-inside}
+use Rattle.tables.specs.Groups.{with-field}
 
 -- Whether entry j is a periodic group or lies in one.
 unfoldable pub inside-from : Bool → List Entry → ℕ → Bool
@@ -23,11 +24,6 @@ First n (e ∷ es) (suc j) = (eqb (e .name) n ≡ false) × First n es j
 abbrev pub Deeper : List Entry → Entry → ℕ → ℕ → Type 0
 Deeper es d g j = (k : ℕ) → g < k → k ≤ j → 1 < getD es k d .level
 
--- The field that an entry is, if it is one; and the fields among some entries.
+-- The field that an entry is, if it is one.
 unfoldable pub field-of : ℕ → What → List Field
-field-of n (field f s mu) = record { name = n; format = f; size = s; multiple = mu } ∷ []
-field-of n (group p) = []
-
-unfoldable pub fields-of : List Entry → List Field
-fields-of [] = []
-fields-of (e ∷ es) = field-of (e .name) (e .what) ++ fields-of es
+field-of n w = with-field n w []

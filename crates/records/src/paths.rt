@@ -6,7 +6,8 @@ ghost use lib.ListN.{length, getD};
 ghost use lib.Seq.{slice};
 ghost use Rattle.tables.specs.Entries.{Valid, entries-of, blank, is-periodic};
 ghost use Rattle.tables.specs.Places.{Home};
-ghost use Rattle.records.specs.Where.{field-of, fields-of};
+ghost use Rattle.records.specs.Where.{field-of};
+ghost use Rattle.tables.specs.Groups.{fields-in};
 ghost use Rattle.rules.specs.Limits.{most-entries};
 ghost use Rattle.records.specs.Counts.{greatest-byte};
 ghost use Rattle.records.specs.Paths.{Width, Leads};
@@ -43,7 +44,7 @@ fn width_at(t: &[u8], i: usize) -> Found
 // The same of the fields among the entries from first to end together.
 pub fn width_of(t: &[u8], first: usize, end: usize) -> Found
     requires { ⌜ Valid (now t) × (first ≤ end) × (end ≤ length (entries-of (now t))) ⌝ }
-    ensures { λ r. ⌜ Width (fields-of (slice first end (entries-of (now (t .entry))))) (most-entries * greatest-byte) r ⌝ }
+    ensures { λ r. ⌜ Width (fields-in (slice first end (entries-of (now (t .entry))))) (most-entries * greatest-byte) r ⌝ }
 {
     let mut w = 0;
     let mut i = first;

@@ -9,12 +9,11 @@ ghost use Rattle.rules.specs.Table.{group, parts};
 ghost use Rattle.rules.specs.Record.{Record, times, each, stored-cell, group-count-at, value-count-at};
 ghost use Rattle.tables.specs.Entries.{Valid, entries-of, blank, is-group, is-multiple};
 ghost use Rattle.tables.specs.Places.{inside-at};
-ghost use Rattle.tables.specs.Groups.{group-end};
+ghost use Rattle.tables.specs.Groups.{group-end, fields-in};
 ghost use Rattle.records.specs.Places.{Is-record, Has-record, Entered, Cell-of, Outside, Piece-of, Occurrences-of};
 ghost use Rattle.records.specs.Counts.{count-at, greatest-byte};
 ghost use Rattle.records.specs.Walk.{directory, rest-of, Walked, Ends, start-of, occurrence, greatest-kept};
 ghost use Rattle.records.specs.Paths.{Wide, Leads};
-ghost use Rattle.records.specs.Where.{fields-of};
 ghost use Rattle.records.specs.declared.Reach.the-variants.{At};
 use crate::DIRECTORY;
 use crate::FIRSTS;
@@ -74,8 +73,8 @@ fn occurrence_at(t: &[u8], b: &[u8], places: &[u16; DIRECTORY], g: usize, o: usi
 
 // The place of an entry in the occurrence that stands at a place: after the fields before it there.
 fn place_in(t: &[u8], b: &[u8], path: Path, row: usize) -> usize
-    requires { ⌜ Valid (now t) × (path .group < path .entry) × (path .entry ≤ length (entries-of (now t))) × Leads (entries-of (now t)) path × (row ≤ length (now b)) × Ends (rest-of (each stored-cell (fields-of (slice (path .group + 1) (path .entry) (entries-of (now t)))) (drop row (now b)))) ⌝ }
-    ensures { λ r. ⌜ Walked (now (b .entry)) (rest-of (each stored-cell (fields-of (slice (path .group + 1) (path .entry) (entries-of (now (t .entry))))) (drop row (now (b .entry))))) (At r) ⌝ }
+    requires { ⌜ Valid (now t) × (path .group < path .entry) × (path .entry ≤ length (entries-of (now t))) × Leads (entries-of (now t)) path × (row ≤ length (now b)) × Ends (rest-of (each stored-cell (fields-in (slice (path .group + 1) (path .entry) (entries-of (now t)))) (drop row (now b)))) ⌝ }
+    ensures { λ r. ⌜ Walked (now (b .entry)) (rest-of (each stored-cell (fields-in (slice (path .group + 1) (path .entry) (entries-of (now (t .entry))))) (drop row (now (b .entry))))) (At r) ⌝ }
 {
     if path.fixed {
         return row + path.offset;
@@ -164,7 +163,7 @@ pub fn piece_inside(
     width: usize,
     o: usize,
 ) -> Extent
-    requires { ⌜ Valid (now t) × (path .group < path .entry) × (path .entry < end) × (end ≤ length (entries-of (now t))) × (end ≤ group-end (entries-of (now t)) (path .group)) × (1 ≤ o) × Leads (entries-of (now t)) path × (path .inside ≡ true) × Wide (fields-of (slice (path .entry) end (entries-of (now t)))) width × Has-record (entries-of (now t)) (now b) (now places) ⌝ }
+    requires { ⌜ Valid (now t) × (path .group < path .entry) × (path .entry < end) × (end ≤ length (entries-of (now t))) × (end ≤ group-end (entries-of (now t)) (path .group)) × (1 ≤ o) × Leads (entries-of (now t)) path × (path .inside ≡ true) × Wide (fields-in (slice (path .entry) end (entries-of (now t)))) width × Has-record (entries-of (now t)) (now b) (now places) ⌝ }
     ensures { λ c. ⌜ ((r : Record) → Is-record (entries-of (now (t .entry))) (now (b .entry)) (now (places .entry)) r → Piece-of (entries-of (now (t .entry))) (now (b .entry)) (path .entry) end o r c) ⌝ }
 {
     let first = entry_in(t, b, places, path, o);
@@ -185,7 +184,7 @@ pub fn occurrences_at(
     o: usize,
     n: usize,
 ) -> usize
-    requires { ⌜ Valid (now t) × (g < length (entries-of (now t))) × (getD (entries-of (now t)) g blank .what ≡ group true) × (1 ≤ o) × (1 ≤ n) × ((r : Record) → Is-record (entries-of (now t)) (now b) (now places) r → o + n ≤ group-count-at (parts (entries-of (now t))) r (getD (entries-of (now t)) g blank .name) + 1) × Wide (fields-of (slice (g + 1) (group-end (entries-of (now t)) g) (entries-of (now t)))) width × Has-record (entries-of (now t)) (now b) (now places) ⌝ }
+    requires { ⌜ Valid (now t) × (g < length (entries-of (now t))) × (getD (entries-of (now t)) g blank .what ≡ group true) × (1 ≤ o) × (1 ≤ n) × ((r : Record) → Is-record (entries-of (now t)) (now b) (now places) r → o + n ≤ group-count-at (parts (entries-of (now t))) r (getD (entries-of (now t)) g blank .name) + 1) × Wide (fields-in (slice (g + 1) (group-end (entries-of (now t)) g) (entries-of (now t)))) width × Has-record (entries-of (now t)) (now b) (now places) ⌝ }
     ensures { λ p. ⌜ ((r : Record) → Is-record (entries-of (now (t .entry))) (now (b .entry)) (now (places .entry)) r → Occurrences-of (entries-of (now (t .entry))) (now (b .entry)) g o n width r p) ⌝ }
 {
     occurrence_at(t, b, places, g, o)

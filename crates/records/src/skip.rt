@@ -5,7 +5,8 @@ ghost use lib.Seq.{slice};
 ghost use Rattle.rules.specs.Values.{Format};
 ghost use Rattle.rules.specs.Record.{times, each, counted, stored-value, stored-cell};
 ghost use Rattle.tables.specs.Entries.{Valid, entries-of, blank};
-ghost use Rattle.records.specs.Where.{field-of, fields-of};
+ghost use Rattle.records.specs.Where.{field-of};
+ghost use Rattle.tables.specs.Groups.{fields-in};
 ghost use Rattle.records.specs.Walk.{rest-of, Ends, Behind};
 use crate::counts;
 
@@ -52,8 +53,8 @@ fn member_end(t: &[u8], b: &[u8], at: usize, i: usize) -> usize
 
 // The place after the cells of the fields among the entries from first to end, once each.
 pub fn members_end(t: &[u8], b: &[u8], at: usize, first: usize, end: usize) -> usize
-    requires { ⌜ Valid (now t) × (first ≤ end) × (end ≤ length (entries-of (now t))) × (at ≤ length (now b)) × Ends (rest-of (each stored-cell (fields-of (slice first end (entries-of (now t)))) (drop at (now b)))) ⌝ }
-    ensures { λ r. ⌜ Behind (now (b .entry)) (rest-of (each stored-cell (fields-of (slice first end (entries-of (now (t .entry))))) (drop at (now (b .entry))))) r ⌝ }
+    requires { ⌜ Valid (now t) × (first ≤ end) × (end ≤ length (entries-of (now t))) × (at ≤ length (now b)) × Ends (rest-of (each stored-cell (fields-in (slice first end (entries-of (now t)))) (drop at (now b)))) ⌝ }
+    ensures { λ r. ⌜ Behind (now (b .entry)) (rest-of (each stored-cell (fields-in (slice first end (entries-of (now (t .entry))))) (drop at (now (b .entry))))) r ⌝ }
 {
     let mut p = at;
     let mut i = first;
@@ -66,8 +67,8 @@ pub fn members_end(t: &[u8], b: &[u8], at: usize, first: usize, end: usize) -> u
 
 // The same n times.
 pub fn occurrences_end(t: &[u8], b: &[u8], at: usize, n: usize, first: usize, end: usize) -> usize
-    requires { ⌜ Valid (now t) × (first ≤ end) × (end ≤ length (entries-of (now t))) × (at ≤ length (now b)) × Ends (rest-of (times n (each stored-cell (fields-of (slice first end (entries-of (now t))))) (drop at (now b)))) ⌝ }
-    ensures { λ r. ⌜ Behind (now (b .entry)) (rest-of (times n (each stored-cell (fields-of (slice first end (entries-of (now (t .entry)))))) (drop at (now (b .entry))))) r ⌝ }
+    requires { ⌜ Valid (now t) × (first ≤ end) × (end ≤ length (entries-of (now t))) × (at ≤ length (now b)) × Ends (rest-of (times n (each stored-cell (fields-in (slice first end (entries-of (now t))))) (drop at (now b)))) ⌝ }
+    ensures { λ r. ⌜ Behind (now (b .entry)) (rest-of (times n (each stored-cell (fields-in (slice first end (entries-of (now (t .entry)))))) (drop at (now (b .entry))))) r ⌝ }
 {
     let mut p = at;
     let mut i = 0;

@@ -9,7 +9,8 @@ ghost use Rattle.rules.specs.Lists.{cut};
 ghost use Rattle.rules.specs.Values.{allowed};
 ghost use Rattle.rules.specs.Record.{times, each, counted, stored-value, stored-cell};
 ghost use Rattle.tables.specs.Entries.{Valid, entries-of, blank, format-at};
-ghost use Rattle.records.specs.Where.{field-of, fields-of};
+ghost use Rattle.records.specs.Where.{field-of};
+ghost use Rattle.tables.specs.Groups.{fields-in};
 ghost use Rattle.records.specs.Counts.{count-at, greatest-byte};
 ghost use Rattle.records.specs.Walk.{directory, rest-of, Walked, behind, occurrence, occurrences-counted, Keeps, Checked, greatest-kept};
 use crate::DIRECTORY;
@@ -107,7 +108,7 @@ fn member_end(t: &[u8], b: &[u8], at: usize, i: usize) -> Reach
 // The place after the cells of the fields among the entries from first to end, once each.
 fn members_end(t: &[u8], b: &[u8], at: usize, first: usize, end: usize) -> Reach
     requires { ⌜ Valid (now t) × (first ≤ end) × (end ≤ length (entries-of (now t))) × (at ≤ length (now b)) ⌝ }
-    ensures { λ r. ⌜ Walked (now (b .entry)) (rest-of (each stored-cell (fields-of (slice first end (entries-of (now (t .entry))))) (drop at (now (b .entry))))) r ⌝ }
+    ensures { λ r. ⌜ Walked (now (b .entry)) (rest-of (each stored-cell (fields-in (slice first end (entries-of (now (t .entry))))) (drop at (now (b .entry))))) r ⌝ }
 {
     let mut p = at;
     let mut i = first;
@@ -148,7 +149,7 @@ fn occurrences_end(
     kept: usize,
 ) -> Reach
     requires { ⌜ Valid (now t) × (first ≤ end) × (end ≤ length (entries-of (now t))) × (at ≤ length (now b)) × (length (now b) ≤ longest-record) × (length (now places) ≡ directory) × (kept + n ≤ greatest-kept) ⌝ }
-    ensures { λ r. ⌜ Walked (now (b .entry)) (rest-of (times n (each stored-cell (fields-of (slice first end (entries-of (now (t .entry)))))) (drop at (now (b .entry))))) r × Keeps (each stored-cell (fields-of (slice first end (entries-of (now (t .entry)))))) (now (b .entry)) at n kept (now (places .entry)) (now (places .exit)) r ⌝ }
+    ensures { λ r. ⌜ Walked (now (b .entry)) (rest-of (times n (each stored-cell (fields-in (slice first end (entries-of (now (t .entry)))))) (drop at (now (b .entry))))) r × Keeps (each stored-cell (fields-in (slice first end (entries-of (now (t .entry)))))) (now (b .entry)) at n kept (now (places .entry)) (now (places .exit)) r ⌝ }
 {
     let mut p = at;
     let mut i = 0;

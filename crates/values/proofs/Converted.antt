@@ -15,7 +15,7 @@ use Rattle.rules.specs.Limits.{longest-alpha, lowest-word, greatest-word}
 use Rattle.rules.specs.Lists.{Bytes, bytes-of, digits, all, but-last, last}
 use Rattle.rules.specs.Values.{Format, alpha, binary, fixed, packed, unpacked, Value, text, number, allowed, strip, halves, decimal, sign-means, accepted-plus, accepted-minus, meaning, normal, conversion, never, every, in-range, converted, converted-bytes}
 use Rattle.rules.specs.Values as Rules
-use Rattle.rules.proofs.Steps.{from-need, done-inj, refused-inj, not-done, T-true}
+use Rattle.rules.proofs.Steps.{from-need, done-inj, refused-inj, not-done, and-left, true-T, T-true}
 use Rattle.fixed.specs.Words.{pick, signed-value, word-of, value-of}
 use Rattle.fixed.specs.declared.Signed.{Signed}
 use Rattle.fixed.specs.declared.Word.the-variants.{Number, Outside}
@@ -24,7 +24,6 @@ use Rattle.decimals.specs.Decimals.{decimal-format}
 use Rattle.decimals.proofs.Normal.{normal-fits, normal-done, converted-value}
 use Rattle.decimals.proofs.Written.{length-written}
 use Rattle.values.specs.Formats.{range-kind}
-use Rattle.values.proofs.Numbered.{and-first}
 use Rattle.values.specs.Fits.{bytes-size, converted-length}
 
 -- A refusal has one number: 8 of a meaning, 9 of a normal form.
@@ -148,7 +147,7 @@ module _ (f g : Format) (n : ℕ) (bs : Bytes) (e : is-done (meaning f bs) ≡ t
   out-of-range h = ranged-done ∙ rw h
 
   pub converted-range : is-done (converted-bytes f g n bs) ≡ true → in-range k (value-of (meaning f bs)) ≡ true
-  converted-range h = and-first (in-range k (value-of (meaning f bs))) _ (sym ranged-done ∙ h)
+  converted-range h = T-true (in-range k (value-of (meaning f bs))) (and-left (in-range k (value-of (meaning f bs))) _ (true-T (sym ranged-done ∙ h)))
 
   pub converted-normal : in-range k (value-of (meaning f bs)) ≡ true → converted-bytes f g n bs ≡ normal g n (value-of (meaning f bs))
   unfolding converted

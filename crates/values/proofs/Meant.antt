@@ -6,7 +6,7 @@ use mathlib.Core.Logic.{_⊎_, ⊎-elim}
 use Prim.Native.Nat.{ℕ, zero, suc, _+_, _-_, _*_, _^_, _<_}
 use native.Mathlib.Nat.{not-suc-le-zero}
 use native.Mathlib.Omega.{arith}
-use lib.Dec.{leb, ltb, lit<}
+use lib.Dec.{leb, ltb, ltb→lt, lit<}
 use lib.ListN.{length, replicate}
 use borrow.Author.Tests.{ltb-true, leb-true}
 use Rattle.rules.specs.Outcome.{done, is-done}
@@ -14,7 +14,7 @@ use Rattle.rules.specs.Characters.{space}
 use Rattle.rules.specs.Limits.{longest-alpha, longest-binary, longest-packed, longest-unpacked}
 use Rattle.rules.specs.Lists.{Bytes, spelled, digits}
 use Rattle.rules.specs.Values.{Format, alpha, binary, fixed, packed, unpacked, Value, text, number, allowed, strip, meaning, normal, null, null-value, content, with-length-byte, in-normal-form, twos-complement, accepted-minus, every, conversion, converts, in-range, converted, converted-bytes}
-use Rattle.rules.proofs.Steps.{from-bind, from-need, done-inj, not-done, T-true}
+use Rattle.rules.proofs.Steps.{from-bind, from-need, done-inj, not-done, and-right, true-T, T-true}
 use Rattle.buffer.proofs.Cases.{by-order}
 use Rattle.rules.proofs.Digits.{Below, length-digits, spelled-digits, spelled-below}
 use Rattle.fixed.proofs.Fixed.{twos-plus, twos-minus}
@@ -23,7 +23,7 @@ use Rattle.decimals.specs.Decimals.{decimal-format, sign-half, is-minus, magnit
 use Rattle.decimals.proofs.Normal.{normal-fits, normal-done}
 use Rattle.decimals.proofs.Sound.{sound}
 use Rattle.rules.proofs.Lists.{strip-space, strip-again}
-use Rattle.values.proofs.Numbered.{either, and-second, from-one}
+use Rattle.values.proofs.Numbered.{either, from-one}
 use Rattle.values.proofs.Nulls.{null-done}
 use Rattle.values.proofs.Written.{written-means}
 
@@ -123,7 +123,7 @@ fixed-meant n x o h =
 
 minus-above : (p : Bool) (bs : Bytes) → is-minus p bs ≡ true → 0 < magnitude-of p bs
 unfolding is-minus
-minus-above p bs e = ltb-true 0 (magnitude-of p bs) (and-second (accepted-minus (sign-half p bs)) (ltb 0 (magnitude-of p bs)) e)
+minus-above p bs e = ltb→lt 0 (magnitude-of p bs) (and-right (accepted-minus (sign-half p bs)) (ltb 0 (magnitude-of p bs)) (true-T e))
 
 decimal-meant : (p : Bool) (bs : Bytes) (v : Value) → meaning (decimal-format p) bs ≡ done v → Meant v
 decimal-meant p bs v e =

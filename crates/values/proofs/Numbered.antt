@@ -4,12 +4,12 @@ use mathlib.Core.Bool.{Bool, true, false, not, _&&_, _||_, false≢true}
 use mathlib.Core.Logic.{_⊎_, inl, inr}
 use Prim.Native.Nat.{ℕ, _<_, _≤_}
 use native.Mathlib.Omega.{arith}
-use lib.Dec.{eqb, leb}
+use lib.Dec.{eqb, leb, leb→le}
 use lib.ListN.{getD}
 use borrow.Author.Tests.{le-leb, lt-leb, leb-true, eqb-true}
 use Rattle.rules.specs.Limits.{formats, longest-alpha, longest-unpacked}
 use Rattle.rules.specs.Values.{Format, alpha, binary, fixed, packed, unpacked, allowed, Kind, never, every, word, natural, conversion, converts}
-use Rattle.rules.proofs.Steps.{by-test}
+use Rattle.rules.proofs.Steps.{by-test, and-left, and-right, true-T}
 use Rattle.decimals.specs.Decimals.{decimal-format}
 use Rattle.value_formats.specs.Formats.{is-every, is-natural}
 use Rattle.values.specs.Formats.{format-at, range-kind}
@@ -34,18 +34,9 @@ at-decimal =
     five (λ k. 3 ≤ k → format-at k ≡ decimal-format (eqb k 3))
     (λ h. absurd (omega arith)) (λ h. absurd (omega arith)) (λ h. absurd (omega arith)) (λ _. refl) (λ _. refl)
 
--- Both sides of a test that passes.
-pub and-first : (a b : Bool) → (a && b) ≡ true → a ≡ true
-and-first true b e = refl
-and-first false b e = e
-
-pub and-second : (a b : Bool) → (a && b) ≡ true → b ≡ true
-and-second true b e = e
-and-second false b e = absurd (false≢true e)
-
 -- A length from 1 on.
 pub from-one : (n m : ℕ) → (leb 1 n && leb n m) ≡ true → 0 < n
-from-one n m e = leb-true 1 n (and-first (leb 1 n) (leb n m) e)
+from-one n m e = leb→le 1 n (and-left (leb 1 n) (leb n m) (true-T e))
 
 -- An allowed length lies within the two of its format.
 module _ (k n : ℕ) (h : k < formats) (a : allowed (format-at k) n ≡ true) where
@@ -53,13 +44,13 @@ module _ (k n : ℕ) (h : k < formats) (a : allowed (format-at k) n ≡ true) wh
   inside = sym (allowed-is k h n) ∙ a
 
   at-least : getD least k 0 ≤ n
-  at-least = leb-true (getD least k 0) n (and-first (leb (getD least k 0) n) (leb n (getD greatest k 0) && not (eqb k 2 && eqb n 3)) inside)
+  at-least = leb→le (getD least k 0) n (and-left (leb (getD least k 0) n) (leb n (getD greatest k 0) && not (eqb k 2 && eqb n 3)) (true-T inside))
 
   at-most : n ≤ getD greatest k 0
   at-most =
-      leb-true n (getD greatest k 0)
-      (and-first (leb n (getD greatest k 0)) (not (eqb k 2 && eqb n 3))
-      (and-second (leb (getD least k 0) n) (leb n (getD greatest k 0) && not (eqb k 2 && eqb n 3)) inside))
+      leb→le n (getD greatest k 0)
+      (and-left (leb n (getD greatest k 0)) (not (eqb k 2 && eqb n 3))
+      (and-right (leb (getD least k 0) n) (leb n (getD greatest k 0) && not (eqb k 2 && eqb n 3)) (true-T inside)))
 
   pub some-size : 0 < k → 0 < n
   some-size p =

@@ -6,7 +6,7 @@ use native.Mathlib.Omega.{arith}
 use lib.Seq.{slice}
 use Rattle.tables.specs.Entries.{entries-of}
 use Rattle.tables.specs.Places.{inside-at, Home}
-use Rattle.records.specs.Where.{fields-of}
+use Rattle.tables.specs.Groups.{fields-in}
 use Rattle.records.specs.Paths.{Wide}
 use Rattle.records.specs.Places.{Piece-of}
 use Rattle.records.proofs.Placed.{home-before}
@@ -32,7 +32,7 @@ piece-inside-requires c κs =
       s .pre .4,
       way .leads,
       inside,
-      subst (λ (j : ℕ). Wide (fields-of (slice j (a .s .end) es)) (a .width)) (sym (way .entry)) (way .wide inside),
+      subst (λ (j : ℕ). Wide (fields-in (slice j (a .s .end) es)) (a .width)) (sym (way .entry)) (way .wide inside),
       s .pre .6,
     )
 

@@ -4,7 +4,7 @@ use native.Mathlib.Omega.{arith}
 use lib.ListN.{length, getD}
 use Rattle.rules.specs.Record.{count-bytes}
 use Rattle.rules.specs.Values.{null}
-use Rattle.tables.specs.Entries.{entries-of, blank, format-at, format-number}
+use Rattle.tables.specs.Entries.{entries-of, blank, group-number, format-at, format-number}
 use Rattle.tables.proofs.Tables.{valid-sound}
 use Rattle.records.proofs.EmptyEntries.{entry-small, entry-allowed, null-short, adds-count, adds-nothing, adds-no-more, adds-no-values, adds-null}
 use borrow.Author.Needs.{needs}
@@ -55,7 +55,7 @@ null-length-requires c κs =
     let a = c .before .before .before .before .before .before .before .before .args in
     let w = getD (entries-of (a .t .now)) (a .i) blank .what in
     let e = c .before .before .before .before .before .before .entry-at .ensures in
-    let h : format-number w ≡ 5 → ⊥ = (λ z. c .before .before .before .before .if1 .left (ap (λ r. r .format) e ∙ z)) in
+    let h : format-number w ≡ group-number → ⊥ = (λ z. c .before .before .before .before .if1 .left (ap (λ r. r .format) e ∙ z)) in
     rw e (entry-small w h, entry-allowed _ w (valid-sound (a .t .now) (c .before .before .before .before .before .before .before .before .pre .0) (a .i) (c .before .before .before .before .before .before .before .before .pre .1)) h)
 
 returns-5 : tie.Need-returns-5
@@ -63,7 +63,7 @@ returns-5 c =
     let a = c .before .before .before .before .before .before .before .before .before .args in
     let w = getD (entries-of (a .t .now)) (a .i) blank .what in
     let e = c .before .before .before .before .before .before .before .entry-at .ensures in
-    let h : format-number w ≡ 5 → ⊥ = (λ z. c .before .before .before .before .before .if1 .left (ap (λ r. r .format) e ∙ z)) in
+    let h : format-number w ≡ group-number → ⊥ = (λ z. c .before .before .before .before .before .if1 .left (ap (λ r. r .format) e ∙ z)) in
     let m = c .null-length .ensures ∙ ap (λ r. length (null (format-at (r .format)) (r .size))) e in
     let l = null-short _ _ (entry-small w h) (entry-allowed _ w (valid-sound (a .t .now) (c .before .before .before .before .before .before .before .before .before .pre .0) (a .i) (c .before .before .before .before .before .before .before .before .before .pre .1)) h) in
     (m ∙ sym (ap length (adds-null (a .inside) w h (c .before .before .before .before .if3 .left) (ap (λ r. r .multiple) (sym e) ∙ c .before .before .before .if4 .left))), omega (arith, m))

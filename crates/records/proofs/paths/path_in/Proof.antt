@@ -5,7 +5,7 @@ use native.Mathlib.Omega.{arith}
 use lib.Seq.{slice}
 use Rattle.tables.specs.Entries.{entries-of}
 use Rattle.tables.proofs.Tables.{valid-most}
-use Rattle.records.specs.Where.{fields-of}
+use Rattle.tables.specs.Groups.{fields-in}
 use Rattle.records.specs.Paths.{Width}
 use Rattle.records.proofs.Entries.{never}
 use borrow.Author.Needs.{needs}
@@ -29,7 +29,7 @@ enum-told c = search needs
 returns : tie.Need-returns
 returns c =
     let s = c .before .before .before .before .before in
-    let w = subst (Width (fields-of (slice (s .args .g + 1) (s .args .i) (entries-of (s .args .t .now)))) (most-entries * greatest-byte)) (c .before .width .given .1) (c .before .before .before .width-of .ensures) in
+    let w = subst (Width (fields-in (slice (s .args .g + 1) (s .args .i) (entries-of (s .args .t .now)))) (most-entries * greatest-byte)) (c .before .width .given .1) (c .before .before .before .width-of .ensures) in
     (refl, record { home = λ z. s .pre .3; outside = λ z. absurd (never z refl); fixed = λ z. w .0 })
 
 returns-2 : tie.Need-returns-2

@@ -3,7 +3,7 @@ use mathlib.Core.Path.{_≡_, sym, ap, _∙_}
 use Prim.Native.Nat.{_≤_}
 use native.Mathlib.Omega.{arith}
 use lib.ListN.{getD}
-use Rattle.tables.specs.Entries.{entries-of, blank, format-number, size-of}
+use Rattle.tables.specs.Entries.{entries-of, blank, group-number, format-number, size-of}
 use Rattle.records.proofs.Widths.{width-group, width-multiple, width-none, width-plain}
 use borrow.Author.Needs.{needs}
 use Rattle.records.proofs.paths.width_at.Statement.{statement}
@@ -30,7 +30,7 @@ returns-3 c =
     let a = c .before .before .before .before .before .before .before .args in
     let e = getD (entries-of (a .t .now)) (a .i) blank in
     let q = c .before .before .before .before .before .entry-at .ensures in
-    let h : format-number (e .what) ≡ 5 → ⊥ = λ z. c .before .before .before .if1 .left (ap (λ r. r .format) q ∙ z) in
+    let h : format-number (e .what) ≡ group-number → ⊥ = λ z. c .before .before .before .if1 .left (ap (λ r. r .format) q ∙ z) in
     width-none (e .name) (e .what) h (ap (λ r. r .multiple) (sym q) ∙ c .before .before .if2 .left) (ap (λ r. r .size) (sym q) ∙ c .if3 .taken)
 
 cast-t5 : tie.Need-cast-t5
@@ -41,7 +41,7 @@ returns-4 c =
     let a = c .before .before .before .before .before .before .before .before .args in
     let e = getD (entries-of (a .t .now)) (a .i) blank in
     let q = c .before .before .before .before .before .before .entry-at .ensures in
-    let h : format-number (e .what) ≡ 5 → ⊥ = λ z. c .before .before .before .before .if1 .left (ap (λ r. r .format) q ∙ z) in
+    let h : format-number (e .what) ≡ group-number → ⊥ = λ z. c .before .before .before .before .if1 .left (ap (λ r. r .format) q ∙ z) in
     let n : size-of (e .what) ≡ 0 → ⊥ = λ z. c .before .if3 .left (ap (λ r. r .size) q ∙ z) in
     let m : c .before .before .before .before .before .before .entry-at .result .size ≤ greatest-byte = omega arith in
     rw q (width-plain (e .name) (e .what) h (ap (λ r. r .multiple) (sym q) ∙ c .before .before .before .if2 .left) (omega (arith, n)) (rw q at m))

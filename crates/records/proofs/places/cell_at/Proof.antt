@@ -6,7 +6,7 @@ use lib.ListN.{length, getD}
 use Rattle.tables.specs.Entries.{entries-of, blank, is-group}
 use Rattle.tables.specs.Places.{inside-at}
 use Rattle.records.specs.Places.{Cell-of}
-use Rattle.records.proofs.Placed.{field-periodic}
+use Rattle.tables.proofs.EntryFields.{field-periodic}
 use Rattle.records.proofs.places.cell_at.Statement.{statement}
 use Rattle.records.proofs.places.cell_at.Tie as tie
 

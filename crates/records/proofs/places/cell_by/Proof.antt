@@ -3,7 +3,8 @@ use native.Mathlib.Omega.{arith}
 use lib.ListN.{getD}
 use Rattle.tables.specs.Entries.{entries-of, blank}
 use Rattle.tables.proofs.Tables.{valid-most, valid-names}
-use Rattle.records.proofs.Placed.{home-before, field-periodic, cell-outside, cell-entered}
+use Rattle.tables.proofs.EntryFields.{field-periodic}
+use Rattle.records.proofs.Placed.{home-before, cell-outside, cell-entered}
 use Rattle.records.proofs.places.cell_by.Statement.{statement}
 use Rattle.records.proofs.places.cell_by.Tie as tie
 

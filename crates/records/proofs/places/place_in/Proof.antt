@@ -6,7 +6,7 @@ use lib.ListN.{drop}
 use lib.Seq.{slice}
 use Rattle.rules.specs.Record.{each, stored-cell}
 use Rattle.tables.specs.Entries.{entries-of}
-use Rattle.records.specs.Where.{fields-of}
+use Rattle.tables.specs.Groups.{fields-in}
 use Rattle.records.specs.Walk.{rest-of, Walked}
 use Rattle.records.specs.declared.Reach.the-variants.{At}
 use Rattle.records.proofs.Skips.{fields-skipped}
@@ -19,7 +19,7 @@ add-result c =
     let s = c .before .before .before .before in
     let a = s .args in
     let wide = s .pre .3 .fixed (c .before .if1 .taken) in
-    let fs = fields-of (slice (a .path .group + 1) (a .path .entry) (entries-of (a .t .now))) in
+    let fs = fields-in (slice (a .path .group + 1) (a .path .entry) (entries-of (a .t .now))) in
     omega (arith, fields-skipped fs (wide .plains) (a .b .now) (a .row) (s .pre .4) (s .pre .5) .place, wide .width)
 
 returns : tie.Need-returns
@@ -27,7 +27,7 @@ returns c =
     let s = c .before .before .before .before in
     let a = s .args in
     let wide = s .pre .3 .fixed (c .before .if1 .taken) in
-    let fs = fields-of (slice (a .path .group + 1) (a .path .entry) (entries-of (a .t .now))) in
+    let fs = fields-in (slice (a .path .group + 1) (a .path .entry) (entries-of (a .t .now))) in
     subst (λ w. Walked (a .b .now) (rest-of (each stored-cell fs (drop (a .row) (a .b .now)))) (At (a .row + w))) (sym (wide .width))
     (fields-skipped fs (wide .plains) (a .b .now) (a .row) (s .pre .4) (s .pre .5))
 

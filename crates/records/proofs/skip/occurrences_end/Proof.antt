@@ -6,7 +6,7 @@ use lib.Seq.{slice}
 use Rattle.rules.specs.Record.{times, each, stored-cell}
 use Rattle.tables.specs.Entries.{entries-of}
 use Rattle.records.specs.Walk.{rest-of}
-use Rattle.records.specs.Where.{fields-of}
+use Rattle.tables.specs.Groups.{fields-in}
 use Rattle.records.proofs.Turns.{Repeating, repeating, repeat-on, repeat-there, repeated}
 use borrow.Author.Needs.{needs}
 use Rattle.records.proofs.skip.occurrences_end.Statement.{statement}
@@ -14,7 +14,7 @@ use Rattle.records.proofs.skip.occurrences_end.Tie as tie
 
 abbrev Inv-loop : tie.InvT-loop
 Inv-loop t b at n first end p₀ i₀ p i =
-    Repeating (each stored-cell (fields-of (slice first end (entries-of t)))) b (rest-of (times n (each stored-cell (fields-of (slice first end (entries-of t)))) (drop at b))) n i p
+    Repeating (each stored-cell (fields-in (slice first end (entries-of t)))) b (rest-of (times n (each stored-cell (fields-in (slice first end (entries-of t)))) (drop at b))) n i p
 
 abbrev μ-loop : tie.MeasureT-loop
 μ-loop t b at n first end p₀ i₀ p i = n - i

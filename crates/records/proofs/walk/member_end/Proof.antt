@@ -1,7 +1,7 @@
 -- `records::walk::member_end` meets its contract: a group has no bytes, and a field has its cell.
 use mathlib.Core.Path.{_≡_, sym, ap, _∙_}
 use lib.ListN.{getD, drop}
-use Rattle.tables.specs.Entries.{entries-of, blank, format-number}
+use Rattle.tables.specs.Entries.{entries-of, blank, group-number, format-number}
 use Rattle.tables.proofs.Tables.{valid-sound}
 use Rattle.records.proofs.EmptyEntries.{entry-small, entry-allowed}
 use Rattle.records.proofs.Walks.{walked-as}
@@ -33,7 +33,7 @@ cell-end-requires c κs =
     let a = s .args in
     let e = getD (entries-of (a .t .now)) (a .i) blank in
     let q = c .before .before .before .before .entry-at .ensures in
-    let h : format-number (e .what) ≡ 5 → ⊥ = λ z. c .before .before .if1 .left (ap (λ r. r .format) q ∙ z) in
+    let h : format-number (e .what) ≡ group-number → ⊥ = λ z. c .before .before .if1 .left (ap (λ r. r .format) q ∙ z) in
     (s .pre .2, rw q (entry-small (e .what) h), rw q (entry-allowed (e .level) (e .what) (valid-sound (a .t .now) (s .pre .0) (a .i) (s .pre .1)) h))
 
 returns-2 : tie.Need-returns-2
@@ -42,7 +42,7 @@ returns-2 c =
     let a = s .args in
     let e = getD (entries-of (a .t .now)) (a .i) blank in
     let q = c .before .before .before .before .before .entry-at .ensures in
-    let h : format-number (e .what) ≡ 5 → ⊥ = λ z. c .before .before .before .if1 .left (ap (λ r. r .format) q ∙ z) in
+    let h : format-number (e .what) ≡ group-number → ⊥ = λ z. c .before .before .before .if1 .left (ap (λ r. r .format) q ∙ z) in
     walked-as (cell-of-field (e .name) (e .what) (drop (a .at) (a .b .now)) h) (rw q at (c .cell-end .ensures))
 
 pub member-end-spec : {M : Type 1} → statement M

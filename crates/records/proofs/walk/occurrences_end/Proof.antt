@@ -7,7 +7,7 @@ use lib.Seq.{slice}
 use Rattle.rules.specs.Record.{times, each, stored-cell}
 use Rattle.tables.specs.Entries.{entries-of}
 use Rattle.records.specs.Walk.{rest-of}
-use Rattle.records.specs.Where.{fields-of}
+use Rattle.tables.specs.Groups.{fields-in}
 use Rattle.records.proofs.Walks.{not-at}
 use Rattle.records.proofs.Turns.{Repeating, repeating, repeat-on, repeat-off, repeated, Keeping, keeping, keep-on, kept-all}
 use borrow.Author.Needs.{needs}
@@ -16,8 +16,8 @@ use Rattle.records.proofs.walk.occurrences_end.Tie as tie
 
 abbrev Inv-loop : tie.InvT-loop
 Inv-loop t b at n first end places₀ kept p₀ i₀ places p i =
-    Repeating (each stored-cell (fields-of (slice first end (entries-of t)))) b (rest-of (times n (each stored-cell (fields-of (slice first end (entries-of t)))) (drop at b))) n i p
-    × Keeping (each stored-cell (fields-of (slice first end (entries-of t)))) b at kept places₀ places i p
+    Repeating (each stored-cell (fields-in (slice first end (entries-of t)))) b (rest-of (times n (each stored-cell (fields-in (slice first end (entries-of t)))) (drop at b))) n i p
+    × Keeping (each stored-cell (fields-in (slice first end (entries-of t)))) b at kept places₀ places i p
 
 abbrev μ-loop : tie.MeasureT-loop
 μ-loop t b at n first end places₀ kept p₀ i₀ places p i = n - i

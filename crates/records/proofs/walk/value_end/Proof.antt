@@ -2,7 +2,8 @@
 use mathlib.Core.Path.{sym, _∙_}
 use native.Mathlib.Omega.{arith}
 use Rattle.tables.specs.Entries.{format-at}
-use Rattle.records.proofs.Normals.{first-at, first-none, value-missing, value-normal, value-other, value-length}
+use Rattle.values.proofs.Cuts.{first-content}
+use Rattle.records.proofs.Normals.{first-at, first-none, value-missing, value-normal, value-other}
 use borrow.Author.Needs.{needs}
 use Rattle.records.proofs.walk.value_end.Statement.{statement}
 use Rattle.records.proofs.walk.value_end.Tie as tie
@@ -29,7 +30,7 @@ is-normal-requires : tie.Need-is-normal-requires
 is-normal-requires c κs =
     let s = c .before .before .before .before .before .before in
     let w = first-at (c .before .before .before .before .first-value .ensures) (c .before .before .first .given .1) in
-    (s .pre .1, s .pre .2, value-length (s .args .size) _ _ _ (w .0))
+    (s .pre .1, s .pre .2, first-content (s .args .size) _ _ _ (w .0))
 
 returns : tie.Need-returns
 returns c =

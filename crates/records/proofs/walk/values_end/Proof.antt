@@ -5,6 +5,7 @@ use native.Mathlib.Nat.{mul-le-mul-right}
 use native.Mathlib.Omega.{arith}
 use lib.ListN.{drop}
 use lib.Seq.{getD-drop}
+use Rattle.rules.specs.Limits.{greatest-count}
 use Rattle.rules.specs.Record.{times, stored-value}
 use Rattle.tables.specs.Entries.{format-at}
 use Rattle.values.proofs.Normals.{any-allowed}
@@ -30,7 +31,7 @@ mul-bytes-end : tie.Need-mul-bytes-end Inv-loop μ-loop
 mul-bytes-end c =
     let s = c .before .before .before .before in
     let a = s .args in
-    let most : a .n ≤ 191 = omega (arith, c .before .before .if1 .taken) in
+    let most : a .n ≤ greatest-count = omega (arith, c .before .before .if1 .taken) in
     omega (arith, mul-le-mul-right (a .size) most, longest-size (a .format) (a .size) (s .pre .1) (s .pre .2))
 
 bytes-end-requires : tie.Need-bytes-end-requires Inv-loop μ-loop
