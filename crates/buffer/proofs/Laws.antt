@@ -4,7 +4,7 @@ use Prim.Native.Nat.{ℕ, zero, suc, _+_, _-_, _≤_, _<_}
 use native.Mathlib.Nat.{le-of-suc-le-suc, not-suc-le-zero, suc-add, zero-add, add-zero}
 use native.Mathlib.Numerals.{add-one}
 use native.Mathlib.Omega.{arith}
-use mathlib.Core.List.{List, [], _∷_, _++_, append-assoc, append-nil}
+use mathlib.Core.List.{List, [], _∷_, _++_, append-nil}
 use lib.ListN.{length, take, drop, getD, set, length-append, length-take, length-drop, take-append-drop, drop-of-length-le}
 use lib.Seq.{take-at, drop-cons, drop-length, take-suc, take-all, length-take-le}
 use Rattle.buffer.specs.Splice.{splice, tabulate}
@@ -132,9 +132,9 @@ pub splice-part : (a n k : ℕ) (bs out ys : List ℕ) (q : ℕ) → ys ≡ spli
     → take a out ++ (ys ++ drop n (drop a out)) ≡ splice q bs out
 splice-part a n k bs out ys q e eq h1 h2 = rw (e, eq) (part-whole a n k bs out h1 h2)
 
--- a part `&s[o..o + k]` that is lent has k elements
-pub length-part : (o k : ℕ) (s : List ℕ) → o + k ≤ length s → length (take (o + k - o) (drop o s)) ≡ k
-length-part o k s h = simp (length-take, length-drop) (omega arith)
+-- how many elements a part `&s[from..to]` has
+pub length-part : (s : List ℕ) (from to : ℕ) → from ≤ to → to ≤ length s → length (take (to - from) (drop from s)) ≡ to - from
+length-part s from to h k = simp (length-take, length-drop) (omega arith)
 
 -- what was written is read back
 pub take-splice : (bs out : List ℕ) (n : ℕ) → n ≡ length bs → take n (splice 0 bs out) ≡ bs

@@ -1,6 +1,6 @@
 -- Tests on bytes, case by case, as the code's branches meet them.
 use mathlib.Core.Path.{_≡_, refl, sym}
-use mathlib.Core.Bool.{Bool, true, false, not, _&&_, _||_, false≢true}
+use mathlib.Core.Bool.{Bool, true, false, not, _&&_, _||_}
 use Prim.Native.Nat.{ℕ}
 use lib.Dec.{eqb}
 use borrow.Author.Tests.{not-true, not-false}
@@ -32,16 +32,3 @@ module _ (a b : ℕ) {t : Bool} (e : t ≡ letter a) where
   pub name-letter : not t ≡ false → {u : Bool} → u ≡ digit b → u ≡ false → letter b ≡ is-name a b
   unfolding is-name
   name-letter h f g = rw (← e, not-false t h, ← f, g) (sym (with-letter (letter b) (eqb a letter-E)))
-
-pub and-true : (a b : Bool) → (a && b) ≡ true → (a ≡ true) × (b ≡ true)
-and-true true true e = (refl, refl)
-and-true true false e = absurd (false≢true e)
-and-true false b e = absurd (false≢true e)
-
-pub and-true-right : (a : Bool) → (a && true) ≡ a
-and-true-right true = refl
-and-true-right false = refl
-
-pub and-false-right : (a : Bool) → (a && false) ≡ false
-and-false-right true = refl
-and-false-right false = refl

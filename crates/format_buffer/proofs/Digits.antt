@@ -1,6 +1,6 @@
 -- Reading a number a digit at a time: what is left to read spells the number as the whole does.
 use mathlib.Core.Path.{_≡_, refl, sym, _∙_}
-use mathlib.Core.Bool.{true, false, _&&_}
+use mathlib.Core.Bool.{true, false, _&&_, and-true, and-false}
 use mathlib.Core.List.{List, [], _∷_}
 use Prim.Native.Nat.{ℕ, suc, _+_, _-_, _*_, _^_, _≤_, _<_}
 use native.Mathlib.Nat.{add-zero, zero-add, lt-of-lt-of-le, pow-le-pow-right}
@@ -13,19 +13,19 @@ use Rattle.rules.specs.Limits.{most-digits}
 use Rattle.rules.specs.Characters.{digit, digit-0, hyphen}
 use Rattle.rules.specs.Lists.{Bytes, spelled, nothing}
 use Rattle.rules.specs.Format.{leading-digits, number-first}
+use Rattle.rules.proofs.Bools.{and-both}
 use Rattle.format_buffer.specs.Part.{part}
 use Rattle.format_buffer.specs.Elements.{number-bound}
 use Rattle.format_buffer.specs.Numbers.{range-end, byte-alone, number-place, Numbered}
 use Rattle.format_buffer.specs.declared.numbers.Number.{Number}
 use Rattle.format_buffer.specs.declared.numbers.Number.the-variants.{Value, Bad}
 use Rattle.format_buffer.proofs.Parts.{part-nil, part-cons}
-use Rattle.characters.proofs.Tests.{and-true, and-true-right, and-false-right}
 use Rattle.buffer.proofs.Cases.{by-order}
 
 pub digit-bounds : (b : ℕ) → digit b ≡ true → (digit-0 ≤ b) × (b ≤ 0xF9)
 unfolding digit
 digit-bounds b e =
-    let h = and-true (leb 0xF0 b) (leb b 0xF9) e in
+    let h = and-both (leb 0xF0 b) (leb b 0xF9) e in
     (leb-true _ _ (h .0), leb-true _ _ (h .1))
 
 -- The number that k digits and those that follow spell, of which the k spell n.
@@ -136,13 +136,13 @@ alone-nil c = refl
 
 alone-more : (c a b : ℕ) (bs : Bytes) → false ≡ byte-alone c (a ∷ b ∷ bs)
 unfolding byte-alone nothing
-alone-more c a b bs = sym (and-false-right (eqb a c))
+alone-more c a b bs = sym (and-false (eqb a c))
 
 -- One byte and nothing more.
 module _ (f : Bytes) (c at upto : ℕ) (k : upto ≤ length f) where
   pub alone-one : upto - at ≡ 1 → eqb (getD f at 0) c ≡ byte-alone c (part f at upto)
   unfolding byte-alone nothing
-  alone-one e = rw (part-cons f at upto (omega arith) k, part-nil f (at + 1) upto (omega arith)) (sym (and-true-right (eqb (getD f at 0) c)))
+  alone-one e = rw (part-cons f at upto (omega arith) k, part-nil f (at + 1) upto (omega arith)) (sym (and-true (eqb (getD f at 0) c)))
 
   pub alone-other : (upto - at ≡ 1 → ⊥) → false ≡ byte-alone c (part f at upto)
   alone-other e = by-order at upto (λ h. more h e) (λ h. none h)

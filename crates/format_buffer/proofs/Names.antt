@@ -1,6 +1,6 @@
 -- The rules of a name and what follows it, step by step as the code takes them.
 use mathlib.Core.Path.{_≡_, refl, ap, _∙_}
-use mathlib.Core.Bool.{true, false, false≢true}
+use mathlib.Core.Bool.{true, false, false≢true, and-true, and-false}
 use mathlib.Core.List.{[], _∷_}
 use mathlib.Core.Option.{none, some}
 use Prim.Native.Nat.{ℕ, _+_, _-_, _≤_, _<_}
@@ -21,7 +21,6 @@ use Rattle.format_buffer.specs.Numbers.{range-end, byte-alone, number-an
 use Rattle.format_buffer.specs.declared.numbers.Number.{Number}
 use Rattle.format_buffer.specs.declared.numbers.Number.the-variants.{Value, Bad}
 use Rattle.format_buffer.proofs.Parts.{part-nil, part-cons}
-use Rattle.characters.proofs.Tests.{and-true-right, and-false-right}
 
 -- What is known once the answer of a reader of numbers is.
 pub numbered-value : {f : Bytes} {at upto : ℕ} {o : Outcome (ℕ × Bytes)} {r : Number} {n p : ℕ} → Numbered f at upto o r → r ≡ Value n p
@@ -103,14 +102,14 @@ module _ (n : ℕ) (f : Bytes) (at upto : ℕ) (k : upto ≤ length f) where
   pub series-two : upto - at ≡ 2 → series-to n (part f at upto) ≡ (need (is-name (getD f at 0) (getD f (at + 1) 0)) 3 >>= λ _. done (series n (name-of (getD f at 0) (getD f (at + 1) 0))))
   unfolding series-to nothing
   series-two e =
-      rw (part-cons f at upto (omega arith) k, part-cons f (at + 1) upto (omega arith) k, part-nil f (at + 1 + 1) upto (omega arith), and-true-right) refl
+      rw (part-cons f at upto (omega arith) k, part-cons f (at + 1) upto (omega arith) k, part-nil f (at + 1 + 1) upto (omega arith), and-true) refl
 
   pub series-other : (upto - at ≡ 2 → ⊥) → series-to n (part f at upto) ≡ refused 3
   unfolding series-to nothing
   series-other e =
       by-order at upto
       (λ h. by-order (at + 1) upto
-      (λ l. rw (part-cons f at upto h k, part-cons f (at + 1) upto l k, part-cons f (at + 1 + 1) upto (omega arith) k, and-false-right) refl)
+      (λ l. rw (part-cons f at upto h k, part-cons f (at + 1) upto l k, part-cons f (at + 1 + 1) upto (omega arith) k, and-false) refl)
       (λ l. rw (part-cons f at upto h k, part-nil f (at + 1) upto l) refl))
       (λ h. rw (part-nil f at upto h) refl)
 

@@ -4,8 +4,9 @@ use mathlib.Core.List.{List, [], _∷_, _++_}
 use Prim.Native.Nat.{ℕ, suc, _+_, _-_, _≤_, _<_}
 use native.Mathlib.Numerals.{add-one}
 use native.Mathlib.Omega.{arith}
-use lib.ListN.{length, drop, getD, length-take, length-drop}
+use lib.ListN.{length, drop, getD, length-drop}
 use lib.Seq.{drop-cons, take-suc, getD-drop}
+use Rattle.buffer.proofs.Laws as laws
 use Rattle.format_buffer.specs.Part.{part}
 
 pub part-nil : (f : List ℕ) (a b : ℕ) → b ≤ a → part f a b ≡ []
@@ -27,4 +28,4 @@ part-snoc f a b h k =
 
 pub length-part : (f : List ℕ) (a b : ℕ) → a ≤ b → b ≤ length f → length (part f a b) ≡ b - a
 unfolding part
-length-part f a b h k = simp (length-take, length-drop) (omega arith)
+length-part = laws.length-part

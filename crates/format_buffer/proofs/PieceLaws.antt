@@ -1,24 +1,24 @@
 -- The rules of a number, of a text and of a piece, step by step as the code takes them.
-use mathlib.Core.Path.{_≡_, refl, sym, ap, _∙_}
-use mathlib.Core.Bool.{Bool, true, false, not, _&&_}
-use mathlib.Core.List.{[], _∷_, _++_}
+use mathlib.Core.Path.{_≡_, refl, sym, _∙_}
+use mathlib.Core.Bool.{Bool, true, false, not, _&&_, and-false}
+use mathlib.Core.List.{[], _∷_}
 use Prim.Native.Nat.{ℕ, _+_, _-_, _≤_, _<_}
 use native.Mathlib.Omega.{arith}
 use lib.Dec.{eqb, leb}
 use lib.ListN.{length, getD}
 use borrow.Author.Tests.{le-leb, lt-leb, ne-eqb, eq-eqb}
-use Rattle.rules.specs.Outcome.{Outcome, done, refused, _>>=_, need}
+use Rattle.rules.specs.Outcome.{done, refused, _>>=_, need}
 use Rattle.rules.specs.Limits.{greatest-length, longest-blanks, longest-text}
 use Rattle.rules.specs.Characters.{digit, digit-0, apostrophe, letter-X}
-use Rattle.rules.specs.Lists.{Bytes, all, last, but-last}
+use Rattle.rules.specs.Lists.{Bytes, all}
 use Rattle.rules.specs.Table.{is-name, name-of}
 use Rattle.rules.specs.Format.{element, length-piece, format-piece, blanks, quoted, after-number, after-name, text-piece, piece, is-override}
-use Rattle.rules.proofs.Steps.{from-need, done-inj}
+use Rattle.rules.proofs.Steps.{from-need, done-inj, still-refused}
+use Rattle.rules.proofs.Lists.{last-snoc, but-last-snoc}
 use Rattle.format_buffer.specs.Part.{part}
 use Rattle.format_buffer.specs.Numbers.{byte-alone}
 use Rattle.format_buffer.specs.Pieces.{no-apostrophe, as-piece, only-element, number-piece}
 use Rattle.format_buffer.proofs.Parts.{part-nil, part-cons, part-snoc, length-part}
-use Rattle.characters.proofs.Tests.{and-false-right}
 
 -- After a number.
 module _ (n : ℕ) (f : Bytes) (at upto : ℕ) where
@@ -37,10 +37,10 @@ module _ (n : ℕ) (f : Bytes) (at upto : ℕ) where
     number-behind = rw (part-cons f at upto h k) refl
 
     pub number-zero : n ≡ 0 → after-number n (part f at upto) ≡ refused 3
-    number-zero e = number-behind ∙ rw e (simp and-false-right)
+    number-zero e = number-behind ∙ rw e (simp and-false)
 
     pub number-long : longest-blanks < n → after-number n (part f at upto) ≡ refused 3
-    number-long e = number-behind ∙ rw (lt-leb _ _ e) (simp and-false-right)
+    number-long e = number-behind ∙ rw (lt-leb _ _ e) (simp and-false)
 
     pub number-blanks : byte-alone letter-X (part f at upto) ≡ true → 1 ≤ n → n ≤ longest-blanks
         → after-number n (part f at upto) ≡ done (element (blanks n))
@@ -68,24 +68,6 @@ module _ (f : Bytes) (i upto : ℕ) (h : i < upto) (k : upto ≤ length f) where
   pub none-stop : getD f i 0 ≡ apostrophe → no-apostrophe (part f i upto) ≡ false
   none-stop e = rw (part-cons f i upto h k) (no-apostrophe-cons _ _ ∙ rw (eq-eqb _ _ e) refl)
 
--- The last byte and those before it.
-last-snoc : (xs : Bytes) (x : ℕ) → last (xs ++ (x ∷ [])) ≡ x
-unfolding last
-last-snoc [] x = refl
-last-snoc (y ∷ []) x = refl
-last-snoc (y ∷ z ∷ zs) x = last-snoc (z ∷ zs) x
-
-but-last-snoc : (xs : Bytes) (x : ℕ) → but-last (xs ++ (x ∷ [])) ≡ xs
-unfolding but-last
-but-last-snoc [] x = refl
-but-last-snoc (y ∷ []) x = refl
-but-last-snoc (y ∷ z ∷ zs) x = ap (λ (l : Bytes). y ∷ l) (but-last-snoc (z ∷ zs) x)
-
--- A test before a refusal of the same number.
-pub still-refused : {A : Type 0} (t : Bool) → _≡_ {A = Outcome A} (need t 3 >>= λ _. refused 3) (refused 3)
-still-refused true = refl
-still-refused false = refl
-
 -- After an apostrophe: the text, up to the last byte.
 module _ (f : Bytes) (at upto : ℕ) (h : at < upto) (k : upto ≤ length f) where
   abbrev closed : Bool
@@ -105,14 +87,14 @@ module _ (f : Bytes) (at upto : ℕ) (h : at < upto) (k : upto ≤ length f) whe
   pub text-empty : upto - 1 ≡ at → text-piece (part f at upto) ≡ refused 3
   text-empty e =
       let z : upto - 1 - at ≡ 0 = omega arith in
-      text-behind ∙ rw z (still-refused closed)
+      text-behind ∙ rw z (still-refused closed 3)
 
   pub text-long : longest-text < upto - 1 - at → text-piece (part f at upto) ≡ refused 3
-  text-long l = text-behind ∙ rw (lt-leb _ _ l, and-false-right) (still-refused closed)
+  text-long l = text-behind ∙ rw (lt-leb _ _ l, and-false) (still-refused closed 3)
 
   module _ (e : getD f (upto - 1) 0 ≡ apostrophe) where
     pub text-broken : no-apostrophe (part f at (upto - 1)) ≡ false → text-piece (part f at upto) ≡ refused 3
-    text-broken t = text-behind ∙ rw (t, and-false-right) refl
+    text-broken t = text-behind ∙ rw (t, and-false) refl
 
     pub text-is : no-apostrophe (part f at (upto - 1)) ≡ true → 1 ≤ upto - 1 - at → upto - 1 - at ≤ longest-text
         → text-piece (part f at upto) ≡ done (element (quoted (part f at (upto - 1))))

@@ -7,11 +7,10 @@ use Prim.Native.Nat.{ℕ}
 use Rattle.rules.specs.Outcome.{Outcome, done, refused, _>>=_, need}
 use Rattle.rules.specs.Lists.{Bytes, absent}
 use Rattle.rules.specs.Format.{Element, element, length-piece, format-piece, Pending, texts, settled, completed, put-before, assembled}
-use Rattle.rules.proofs.Steps.{from-bind, done-inj}
+use Rattle.rules.proofs.Steps.{from-bind, done-inj, still-refused}
 use Rattle.format_buffer.specs.Syntax.{parsed, element-before}
 use Rattle.format_buffer.specs.Texts.{pending, elements-first}
 use Rattle.rules.proofs.Only.{Only, Is}
-use Rattle.format_buffer.proofs.PieceLaws.{still-refused}
 
 -- The elements, where neither a length nor a format stands before them.
 abbrev pub settle : Pending → Outcome (List Element)
@@ -93,7 +92,7 @@ module _ (k : Pending → Outcome (List Element)) where
       → ((m >>= put-before (format-piece b)) >>= k) ≡ refused 3
   unfolding put-before
   put-format-bad b h (done p) w =
-      through (settled p) (both none (some b) (p .elements)) (refused 3) (h (p .elements)) ∙ still-refused (settled p)
+      through (settled p) (both none (some b) (p .elements)) (refused 3) (h (p .elements)) ∙ still-refused (settled p) 3
   put-format-bad b h (refused n) w = ap refused w
 
   pub put-length : (l : ℕ) (x : Pending → Element) → ((p : Pending) → k (both (some l) (p .format) (p .elements)) ≡ done (x p ∷ p .elements))
@@ -107,5 +106,5 @@ module _ (k : Pending → Outcome (List Element)) where
       → ((m >>= put-before (length-piece l)) >>= k) ≡ refused 3
   unfolding put-before
   put-length-bad l h (done p) w =
-      through (absent (p .size)) (both (some l) (p .format) (p .elements)) (refused 3) (h p) ∙ still-refused (absent (p .size))
+      through (absent (p .size)) (both (some l) (p .format) (p .elements)) (refused 3) (h p) ∙ still-refused (absent (p .size)) 3
   put-length-bad l h (refused n) w = ap refused w

@@ -1,7 +1,6 @@
 -- Looking for the end of a text, and for its first and last bytes that are no spaces: the laws of a step and of the end.
 use mathlib.Core.Path.{_≡_, refl}
 use mathlib.Core.Bool.{Bool, true, false, not}
-use mathlib.Core.List.{[], _∷_, _++_}
 use Prim.Native.Nat.{ℕ, suc, _+_, _-_, _≤_, _<_}
 use native.Mathlib.Numerals.{add-one}
 use lib.Dec.{eqb}
@@ -12,6 +11,7 @@ use Rattle.rules.specs.Characters.{space, comma, period, apostrophe}
 use Rattle.rules.specs.Lists.{Bytes}
 use Rattle.rules.specs.Values.{strip}
 use Rattle.rules.specs.Format.{turned, ends, skip-spaces}
+use Rattle.rules.proofs.Lists.{strip-nil, strip-space, strip-other}
 use Rattle.format_buffer.specs.Part.{part}
 use Rattle.format_buffer.specs.Texts.{extent}
 use Rattle.format_buffer.proofs.Parts.{part-nil, part-cons, part-snoc}
@@ -42,29 +42,6 @@ module _ (q : Bool) (i : ℕ) (f : Bytes) where
   extent-go h e = rw (drop-cons f i 0, e, extent, add-one) refl
 
 -- Spaces at the end.
-strip-under : (b : ℕ) (xs ys : Bytes) → strip xs ≡ strip ys → strip (b ∷ xs) ≡ strip (b ∷ ys)
-unfolding strip
-strip-under b xs ys e = rw (e, strip) refl
-
-strip-space : (xs : Bytes) → strip (xs ++ (space ∷ [])) ≡ strip xs
-unfolding strip
-strip-space [] = refl
-strip-space (x ∷ xs) = strip-under x (xs ++ (space ∷ [])) xs (strip-space xs)
-
-strip-keeps : (b c : ℕ) (xs ys : Bytes) → strip xs ≡ c ∷ ys → strip (b ∷ xs) ≡ b ∷ c ∷ ys
-unfolding strip
-strip-keeps b c xs ys e = rw (e, strip) refl
-
-strip-other : (xs : Bytes) (x : ℕ) → (x ≡ space → ⊥) → strip (xs ++ (x ∷ [])) ≡ xs ++ (x ∷ [])
-unfolding strip
-strip-other [] x e = rw (ne-eqb x space e, strip) refl
-strip-other (y ∷ []) x e = strip-keeps y x (x ∷ []) [] (strip-other [] x e)
-strip-other (y ∷ z ∷ zs) x e = strip-keeps y z (z ∷ (zs ++ (x ∷ []))) (zs ++ (x ∷ [])) (strip-other (z ∷ zs) x e)
-
-strip-nil : strip [] ≡ []
-unfolding strip
-strip-nil = refl
-
 pub strip-end : (f : Bytes) (at i : ℕ) → i ≤ at → strip (part f at i) ≡ part f at i
 strip-end f at i h = rw (part-nil f at i h) strip-nil
 

@@ -1,7 +1,7 @@
 -- Numbers and their decimal digits: what a loop over them keeps.
 use mathlib.Core.Path.{_≡_, refl, sym, _∙_, ap}
 use mathlib.Core.Bool.{true, false}
-use mathlib.Core.List.{List, [], _∷_, _++_, map}
+use mathlib.Core.List.{List, [], _∷_, map}
 use mathlib.Core.Option.{none, some}
 use Prim.Native.Nat.{ℕ, zero, suc, _+_, _*_, _-_, _/_, _%_, _^_, _≤_, _<_}
 use native.Mathlib.Nat.{le-of-suc-le-suc, not-suc-le-zero, pow-suc, pow-le-pow-right}
@@ -9,21 +9,18 @@ use native.Mathlib.Numerals.{add-one}
 use native.Mathlib.Omega.{arith}
 use borrow.Author.Tests.{lt-ltb, le-ltb, le-leb, lt-leb}
 use lib.Dec.{lit<}
-use lib.ListN.{length, drop, take, getD, drop-of-length-le, length-append, length-map}
-use lib.Seq.{drop-cons, take-all, take-take, take-at, getD-take, getD-at}
-use Rattle.rules.specs.Lists.{Bytes, spelled, digits}
-use Rattle.hexadecimal.specs.Text.{value, glyph, all-of-base, is-number, spelled-number, number, decimal-places, decimal-word}
+use lib.ListN.{length, take, getD, length-map}
+use lib.Seq.{take-all}
+use Rattle.rules.specs.Lists.{Bytes, digits}
+use Rattle.rules.proofs.Digits.{length-digits, digit-next}
+use Rattle.hexadecimal.specs.Text.{glyph, all-of-base, is-number, spelled-number, number, decimal-places, decimal-word}
 use Rattle.buffer.proofs.Cases.{by-order}
 
--- Reading: what was read and the digits that are left spell the whole.
-module _ (i n : ℕ) (w : Bytes) where
-  pub spelled-turn : i < length w → spelled 10 (map value (drop (i + 1) w)) (n * 10 + value (getD w i 0)) ≡ spelled 10 (map value (drop i w)) n
-  unfolding spelled
-  spelled-turn h = rw (drop-cons w i 0, add-one)
-
-  pub spelled-end : length w ≤ i → spelled 10 (map value (drop i w)) n ≡ n
-  unfolding spelled
-  spelled-end h = rw (drop-of-length-le w h)
+-- What a map gives at a place of the list.
+pub map-at : (f : ℕ → ℕ) (ds : List ℕ) (j : ℕ) → j < length ds → getD (map f ds) j 0 ≡ f (getD ds j 0)
+map-at f [] j h = absurd (not-suc-le-zero h)
+map-at f (d ∷ ds) zero h = refl
+map-at f (d ∷ ds) (suc j) h = map-at f ds j (le-of-suc-le-suc h)
 
 -- What i digits spell is below ten to the power of i, and so below a million.
 pub below-turn : (i n d : ℕ) → n < 10 ^ i → d < 10 → n * 10 + d < 10 ^ (i + 1)
@@ -49,11 +46,6 @@ unfolding number is-number
 number-none w h k e = rw (le-leb 1 (length w) h, le-leb (length w) 6 k, e)
 
 -- Writing: how many digits there are.
-pub length-digits : (b n x : ℕ) → length (digits b n x) ≡ n
-unfolding digits
-length-digits b zero x = refl
-length-digits b (suc n) x = length-append (digits b n (x / b)) _ ∙ (let h = length-digits b n (x / b) in omega arith)
-
 pub length-decimal : (n : ℕ) → length (decimal-word n) ≡ decimal-places n
 unfolding decimal-word
 length-decimal n = length-map (digits 10 (decimal-places n) n) glyph ∙ length-digits 10 (decimal-places n) n
@@ -80,41 +72,23 @@ places-fit n h =
 pub decimal-short : (n : ℕ) → n < 1000000 → length (decimal-word n) ≤ 6
 decimal-short n h = let p = places-fit n h in omega (arith, length-decimal n)
 
-getD-glyph : (ds : List ℕ) (j : ℕ) → j < length ds → getD (map glyph ds) j 0 ≡ glyph (getD ds j 0)
-getD-glyph [] j h = absurd (not-suc-le-zero h)
-getD-glyph (d ∷ ds) zero h = refl
-getD-glyph (d ∷ ds) (suc j) h = getD-glyph ds j (le-of-suc-le-suc h)
-
 -- What is left of a number has the digits that are still to write.
 abbrev pub Left : ℕ → ℕ → ℕ → ℕ → Type 0
 Left n k i rest = (i ≤ k) × (take i (digits 10 k n) ≡ digits 10 i rest)
 
-module _ (n k j rest : ℕ) (l : Left n k (suc j) rest) where
-  last-digit : take (suc j) (digits 10 k n) ≡ digits 10 j (rest / 10) ++ (rest % 10 ∷ [])
-  unfolding digits
-  last-digit = l .1
+module _ (n k i rest : ℕ) (h : 0 < i) (l : Left n k i rest) where
+  pub left-turn : Left n k (i - 1) (rest / 10)
+  left-turn = (omega (arith, l .0), digit-next 10 (digits 10 k n) i rest h (l .1) .1)
 
-  left-before : take j (digits 10 k n) ≡ digits 10 j (rest / 10)
-  left-before =
-      sym (take-take j (suc j) (digits 10 k n) (omega arith))
-      ∙ ap (take j) last-digit ∙ take-at (digits 10 j (rest / 10)) _ j (length-digits 10 j (rest / 10))
-
-  digit-last : getD (digits 10 k n) j 0 ≡ rest % 10
-  digit-last =
-      sym (getD-take (suc j) (digits 10 k n) j 0 (omega arith))
-      ∙ ap (λ (ds : List ℕ). getD ds j 0) last-digit ∙ getD-at (digits 10 j (rest / 10)) (rest % 10) [] 0 j (length-digits 10 j (rest / 10))
-
-pub left-turn : (n k i rest : ℕ) → 0 < i → Left n k i rest → Left n k (i - 1) (rest / 10)
-left-turn n k zero rest h l = absurd (not-suc-le-zero h)
-left-turn n k (suc j) rest h l = let e : suc j - 1 ≡ j = omega arith in rw e (omega arith, left-before n k j rest l)
+  digit-left : rest % 10 ≡ getD (digits 10 k n) (i - 1) 0
+  digit-left = digit-next 10 (digits 10 k n) i rest h (l .1) .0
 
 pub left-digit : (n i rest : ℕ) → 0 < i → Left n (decimal-places n) i rest → glyph (rest % 10) ≡ getD (decimal-word n) (i - 1) 0
 unfolding decimal-word
-left-digit n zero rest h l = absurd (not-suc-le-zero h)
-left-digit n (suc j) rest h l =
+left-digit n i rest h l =
     let z = length-digits 10 (decimal-places n) n in
-    let e : suc j - 1 ≡ j = omega arith in
-    rw e (sym (getD-glyph (digits 10 (decimal-places n) n) j (omega (arith, l .0)) ∙ ap glyph (digit-last n (decimal-places n) j rest l)))
+    ap glyph (digit-left n (decimal-places n) i rest h l)
+    ∙ sym (map-at glyph (digits 10 (decimal-places n) n) (i - 1) (omega (arith, l .0)))
 
 pub left-start : (n : ℕ) → Left n (decimal-places n) (decimal-places n) n
 left-start n = (omega arith, take-all (decimal-places n) (digits 10 (decimal-places n) n) (omega (arith, length-digits 10 (decimal-places n) n)))

@@ -1,6 +1,6 @@
 -- Byte strings as pairs of digits: what stands at each place, and the cases of a word.
-use mathlib.Core.Path.{_≡_, refl}
-use mathlib.Core.Bool.{Bool, true, false, _&&_}
+use mathlib.Core.Path.{_≡_, refl, sym}
+use mathlib.Core.Bool.{true, false, _&&_, and-true, and-false}
 use mathlib.Core.List.{[], _∷_}
 use mathlib.Core.Option.{none, some}
 use Prim.Native.Nat.{ℕ, zero, suc, _+_, _*_, _/_, _%_, _≤_, _<_}
@@ -90,22 +90,14 @@ spelled-bytes-none w e p = rw (e, p)
 pub hyphen-one : (w : Bytes) → length w ≡ 1 → eqb (getD w 0 0) 45 ≡ same w empty-word
 unfolding same
 hyphen-one [] e = absurd (omega arith)
-hyphen-one (c ∷ []) e = one (eqb c 45)
-  where
-    one : (b : Bool) → b ≡ (b && true)
-    one true = refl
-    one false = refl
+hyphen-one (c ∷ []) e = sym (and-true (eqb c 45))
 hyphen-one (c ∷ d ∷ w) e = absurd (omega arith)
 
 pub hyphen-long : (w : Bytes) → (length w ≡ 1 → ⊥) → false ≡ same w empty-word
 unfolding same
 hyphen-long [] e = refl
 hyphen-long (c ∷ []) e = absurd (e refl)
-hyphen-long (c ∷ d ∷ w) e = none (eqb c 45)
-  where
-    none : (b : Bool) → false ≡ (b && false)
-    none true = refl
-    none false = refl
+hyphen-long (c ∷ d ∷ w) e = sym (and-false (eqb c 45))
 
 pub paired-short : (w : Bytes) → length w < 2 → false ≡ is-paired w
 unfolding is-paired

@@ -5,11 +5,11 @@ use Prim.Native.Nat.{ℕ, _+_, _*_, _-_, _≤_, _<_}
 use native.Mathlib.Nat.{add-zero}
 use native.Mathlib.Omega.{arith}
 use borrow.Author.Tests.{le-leb, lt-leb}
-use lib.ListN.{length, take, drop, length-take, length-drop}
+use lib.ListN.{length, take, drop, length-drop}
 use lib.Seq.{take-all}
 use Rattle.rules.specs.Lists.{Bytes, same}
 use Rattle.rules.proofs.Steps.{by-test, by-option, some-inj, not-some}
-use Rattle.buffer.proofs.Laws.{splice-nil}
+use Rattle.buffer.proofs.Laws.{splice-nil, length-part}
 use Rattle.buffer.specs.Search.{upto-first}
 use Rattle.hexadecimal.specs.Text.{empty-word, is-paired, spelled-bytes, number}
 use Rattle.hexadecimal.specs.Lines.{word-at, word-bytes, place-after, next-at, number-at}
@@ -76,7 +76,7 @@ module _ (line : Bytes) (at stop start : ℕ) (out out′ : Bytes) (h : at ≤ l
   takes-some r end l q d =
       from-upto start (spelled-bytes (take (stop - at) (drop at line))) end (sym q ∙ d .answer) λ bs e f.
       let b = bytes-are ∙ e in
-      let z : length (take (stop - at) (drop at line)) ≡ stop - at = simp (length-take, length-drop) (omega arith) in
+      let z : length (take (stop - at) (drop at line)) ≡ stop - at = length-part line at stop (omega arith) l in
       let m = spelled-bytes-half _ bs e in
       record {
         end = rw b f;

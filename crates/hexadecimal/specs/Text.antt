@@ -1,11 +1,11 @@
 -- Text of one line: digits, byte strings as pairs of hexadecimal digits and numbers in decimal. The characters are ASCII.
-use mathlib.Core.Bool.{Bool, true, cond, _&&_}
+use mathlib.Core.Bool.{Bool, cond, _&&_}
 use mathlib.Core.List.{[], _∷_, map}
 use mathlib.Core.Option.{Option, none, some}
 use Prim.Native.Nat.{ℕ, _+_, _*_, _-_, _/_, _%_}
 use lib.Dec.{eqb, leb, ltb}
 use lib.ListN.{length}
-use Rattle.rules.specs.Lists.{Bytes, same, spelled, digits}
+use Rattle.rules.specs.Lists.{Bytes, all, same, spelled, digits}
 
 abbrev pub between : ℕ → ℕ → ℕ → Bool
 between low high c = leb low c && leb c high
@@ -19,9 +19,8 @@ unfoldable pub glyph : ℕ → ℕ
 glyph d = cond (ltb d 10) (48 + d) (87 + d)
 
 -- Only digits of a base that is 16 at most.
-unfoldable pub all-of-base : ℕ → Bytes → Bool
-all-of-base base [] = true
-all-of-base base (c ∷ w) = ltb (value c) base && all-of-base base w
+abbrev pub all-of-base : ℕ → Bytes → Bool
+all-of-base base = all (λ c. ltb (value c) base)
 
 -- The word for the empty byte string.
 abbrev pub empty-word : Bytes

@@ -1,6 +1,6 @@
 -- A row of fields as they are stored is put in one piece: each field has one value, converted to its own format and length it is itself, and they stand one after the other.
 use mathlib.Core.Path.{_≡_, refl, sym, _∙_, ap, subst}
-use mathlib.Core.Bool.{Bool, true, false}
+use mathlib.Core.Bool.{Bool, true, false, false≢true}
 use mathlib.Core.List.{List, [], _∷_, _++_, map, map-map, append-nil}
 use Prim.Native.Nat.{ℕ, zero, suc, _+_, _-_, _≤_, _<_}
 use native.Mathlib.Omega.{arith}
@@ -20,7 +20,6 @@ use Rattle.values.proofs.Meant.{converted-itself}
 use Rattle.tables.specs.Entries.{blank, is-group, is-multiple}
 use Rattle.tables.specs.Groups.{field-at, fields-in}
 use Rattle.tables.specs.Places.{Home}
-use Rattle.tables.proofs.Bools.{clash}
 use Rattle.format_buffer.specs.Elements.{range}
 use Rattle.uses.specs.Meant.{fields-from, Good-span}
 use Rattle.uses.specs.declared.Span.{Span}
@@ -41,7 +40,7 @@ use Rattle.reading.proofs.SpanItems.{stored-items, row-once, each-field
 use Rattle.tables.proofs.EntryFields.{name-at}
 
 multiple-group : (w : What) → is-group w ≡ true → is-multiple w ≡ false
-multiple-group (field f s m) e = clash (sym e)
+multiple-group (field f s m) e = absurd (false≢true e)
 multiple-group (group p) e = refl
 
 module _ (es : List Entry) where

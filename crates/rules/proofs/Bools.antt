@@ -15,6 +15,17 @@ beq-false true false e = refl
 beq-false false true e = refl
 beq-false false false e = absurd (false≢true (sym e))
 
+pub and-both : (a b : Bool) → (a && b) ≡ true → (a ≡ true) × (b ≡ true)
+and-both true b e = (refl, e)
+and-both false b e = absurd (false≢true e)
+
+pub and-four : (a b c d : Bool) → (a && b && c && d) ≡ true → (a ≡ true) × (b ≡ true) × (c ≡ true) × (d ≡ true)
+and-four a b c d e =
+    let x = and-both (a && b && c) d e in
+    let y = and-both (a && b) c (x .0) in
+    let z = and-both a b (y .0) in
+    (z .0, z .1, y .1, x .1)
+
 pub and-regrouped : (a b c d : Bool) → (a && (b && c) && d) ≡ (a && b && (c && d))
 and-regrouped true true c d = refl
 and-regrouped true false c d = refl

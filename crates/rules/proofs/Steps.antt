@@ -114,6 +114,11 @@ pub need-true : (t : Bool) (n : ℕ) → T t → need t n ≡ done tt
 need-true true n h = refl
 need-true false n h = absurd h
 
+-- A test before a refusal of the same number.
+pub still-refused : {A : Type 0} (t : Bool) (n : ℕ) → _≡_ {A = Outcome A} (need t n >>= λ _. refused n) (refused n)
+still-refused true n = refl
+still-refused false n = refl
+
 pub same-same : (xs : List ℕ) → same xs xs ≡ true
 unfolding same
 same-same [] = refl

@@ -1,7 +1,6 @@
 -- A table's entries six bytes at a time: what `entries` answers of the first six, and what a done one says of entry i.
---
 use mathlib.Core.Path.{_≡_, refl, sym, ap, subst, _∙_}
-use mathlib.Core.Bool.{Bool, true, false, _&&_, _||_}
+use mathlib.Core.Bool.{Bool, true, false, _&&_, _||_, or-false}
 use mathlib.Core.List.{List, [], _∷_}
 use mathlib.Core.Option.{none, some}
 use Prim.Native.Nat.{ℕ, zero, suc, _+_, _*_, _/_, _%_, _-_, _≤_, _<_}
@@ -17,8 +16,8 @@ use Rattle.rules.specs.Lists.{Bytes, look-up}
 use Rattle.rules.specs.Characters.{space, letter}
 use Rattle.rules.specs.Values.{Format, allowed}
 use Rattle.rules.specs.Table.{What, field, group, Entry, format-of, format-letters, is-name, name-of, what-of, entries}
-use Rattle.tables.proofs.Bools.{or-false}
 use Rattle.rules.proofs.Steps.{from-bind, from-need, done-inj, not-done, by-test, by-option, T-true, and-left, and-right}
+use Rattle.rules.proofs.Done.{is-done-then}
 use Rattle.tables.specs.Entries.{blank, entry-place, letter-number, decoded, entry-of-bytes, group-letter, is-group, format-number, size-of, is-multiple, is-periodic, bytes-at}
 use Rattle.tables.specs.Validity.{right-of}
 use Rattle.value_formats.proofs.Letters.{number-small, letter-some, letter-none}
@@ -205,10 +204,6 @@ entry-made (suc n) bs es (suc i) p h =
     rw (x .is, e, ← drop-drop (i * entry-size) entry-size bs) (entry-made n (drop entry-size bs) (x .rest) i (x .behind) (le-of-suc-le-suc h))
 
 -- ---- a turn of the loop over the entries
-
-pub is-done-then : {A B : Type 0} (m : Outcome A) (f : A → B) → is-done (m >>= λ a. done (f a)) ≡ is-done m
-is-done-then (done a) f = refl
-is-done-then (refused n) f = refl
 
 is-done-both : {A B : Type 0} (t : Bool) (n : ℕ) (m : Outcome A) (k : A → Outcome B) (d : Bool)
     → ((a : A) → is-done (k a) ≡ d)

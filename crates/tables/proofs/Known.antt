@@ -1,6 +1,6 @@
 -- What a valid table says of its entries, as callers have it: a table's bytes, and entry numbers.
 use mathlib.Core.Path.{_≡_, refl, ap, subst, _∙_}
-use mathlib.Core.Bool.{Bool, true, false}
+use mathlib.Core.Bool.{Bool, true, false, true≢false}
 use mathlib.Core.List.{_∷_}
 use Prim.Native.Nat.{ℕ, suc, _+_, _≤_, _<_}
 use lib.ListN.{length, getD, drop}
@@ -18,13 +18,12 @@ use Rattle.tables.proofs.Nesting.{level-range, group-next}
 use Rattle.tables.proofs.Partings.{parts-periodic, parts-members}
 use Rattle.value_formats.proofs.Letters.{number-back, number-small}
 use Rattle.tables.proofs.EntryBytes.{Sound}
-use Rattle.tables.proofs.Bools.{clash}
 use Rattle.tables.proofs.Tables.{valid-levels, valid-names, valid-sound}
 
 field-numbers : (l : ℕ) (w : What) → is-group w ≡ false → Sound l w
     → (format-number w < formats) × (allowed (format-at (format-number w)) (size-of w) ≡ true)
 field-numbers l (field f s m) e k = (number-small f, ap (λ (g : Format). allowed g s) (number-back f) ∙ k)
-field-numbers l (group p) e k = clash e
+field-numbers l (group p) e k = absurd (true≢false e)
 
 module _ (t : Bytes) (v : Valid t) where
   -- entries of one name are one entry

@@ -1,4 +1,3 @@
-pub mod Bools
 pub mod EntryBytes
 pub mod EntryFields
 pub mod Levels

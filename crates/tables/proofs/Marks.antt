@@ -1,7 +1,7 @@
 -- The names of entries by their marks: equal names have equal marks, so a name whose mark is not set is new, and names of which each
 -- is new differ.
 use mathlib.Core.Path.{_≡_, sym, subst, _∙_}
-use mathlib.Core.Bool.{Bool, true, false}
+use mathlib.Core.Bool.{Bool, true, false, true≢false}
 use mathlib.Core.List.{List, [], _∷_}
 use Prim.Native.Nat.{ℕ, suc, _+_, _*_, _/_, _%_, _<_, _≤_}
 use native.Mathlib.Omega.{arith}
@@ -15,7 +15,6 @@ use Rattle.rules.specs.Table.{Entry, name-of, differ, names}
 use Rattle.rules.proofs.Steps.{by-test}
 use Rattle.tables.specs.Entries.{blank}
 use Rattle.tables.specs.Validity.{read-entries, Right, unused, mark-of, Named-before}
-use Rattle.tables.proofs.Bools.{clash}
 use Rattle.tables.proofs.Levels.{unused-nil, unused-cons, differ-nil, differ-cons}
 use Rattle.tables.proofs.Names.{one-name}
 use Rattle.tables.proofs.Tables.{read-count, read-name}
@@ -68,7 +67,7 @@ module _ {es : List Entry} {s : List Bool} {i : ℕ} (w : Marked es s i) where
   module _ (m : ℕ) (z : m ≡ mark-of (getD es i blank .name)) where
     -- a name whose mark is not set is new
     pub unmarked-new : getD s m false ≡ false → New es i
-    unmarked-new f j h q = clash (sym (w .noted j h) ∙ rw (q, ← z) f)
+    unmarked-new f j h q = absurd (true≢false (sym (w .noted j h) ∙ rw (q, ← z) f))
 
     pub marked-turn : New es i → Marked es (set s m true) (i + 1)
     marked-turn f =

@@ -13,11 +13,11 @@ use lib.Seq.{drop-cons}
 use Rattle.rules.specs.Outcome.{done, refused}
 use Rattle.rules.specs.Table.{Entry, differ, names, is-inside}
 use Rattle.rules.specs.Use.{find, find-from}
+use Rattle.rules.proofs.Bools.{and-both}
 use Rattle.tables.specs.Entries.{blank}
 use Rattle.tables.specs.Validity.{unused}
 use Rattle.tables.specs.Places.{inside-before, inside-at, found-at}
 use Rattle.tables.proofs.Levels.{unused-cons, differ-cons}
-use Rattle.tables.proofs.Bools.{and-both}
 
 unused-other : (n : ℕ) (es : List Entry) → unused n es ≡ true → (i : ℕ) → i < length es → getD es i blank .name ≡ n → ⊥
 unused-other n [] u i h q = not-suc-le-zero h

@@ -1,6 +1,6 @@
 -- Levels by entry number, and the run of entries below a group: its length, its fields' numbers, and that it lies in a periodic group where the group does.
 use mathlib.Core.Path.{_≡_, refl, sym, ap, subst, _∙_}
-use mathlib.Core.Bool.{Bool, true, false, _||_}
+use mathlib.Core.Bool.{Bool, true, false, _||_, and-true, and-false, or-false, true≢false, false≢true}
 use mathlib.Core.List.{List, [], _∷_, _++_, map}
 use Prim.Native.Nat.{ℕ, zero, suc, _+_, _-_, _≤_, _<_}
 use native.Mathlib.Nat.{le-of-suc-le-suc, not-suc-le-zero, add-zero, suc-add}
@@ -13,6 +13,7 @@ use lib.Seq.{drop-drop, getD-drop}
 use Rattle.rules.specs.Limits.{deepest-level}
 use Rattle.rules.specs.Table.{What, field, group, Field, Entry, levels, inside-of, fields-below}
 use Rattle.rules.proofs.Steps.{by-test}
+use Rattle.rules.proofs.Bools.{and-both}
 use Rattle.buffer.proofs.Cases.{by-order}
 use Rattle.tables.specs.Entries.{blank, is-group, is-periodic}
 use Rattle.tables.specs.Validity.{follows}
@@ -20,7 +21,6 @@ use Rattle.tables.specs.Places.{inside-before, inside-at}
 use Rattle.tables.specs.Groups.{run-below, group-end, numbers-below, with-number, with-field, field-by, field-at}
 use Rattle.tables.proofs.EntryFields.{rest-at}
 use Rattle.tables.proofs.Levels.{mark, levels-cons, levels-nil}
-use Rattle.tables.proofs.Bools.{clash, and-true, and-false, or-false, and-both}
 use Rattle.tables.proofs.EntryBytes.{Sound}
 
 -- ---- levels
@@ -53,9 +53,9 @@ range-from g l (e ∷ es) h v (suc i) k =
     range-from (is-group (e .what)) (e .level) es (follows-range l (e .level) g h (x .0) .1) (x .1) i (le-of-suc-le-suc k)
 
 next-of : (g : Bool) (l : ℕ) (es : List Entry) → g ≡ true → levels (mark g) l es ≡ true → (0 < length es) × (getD es 0 blank .level ≡ suc l)
-next-of true l [] e v = clash (sym v ∙ levels-nil true l)
+next-of true l [] e v = absurd (true≢false (sym v ∙ levels-nil true l))
 next-of true l (x ∷ es) e v = (omega arith, follows-deeper l (x .level) (first-of true l x es v .0))
-next-of false l es e v = clash (sym e)
+next-of false l es e v = absurd (false≢true e)
 
 next-from : (g : Bool) (l : ℕ) (es : List Entry) → levels (mark g) l es ≡ true
     → (i : ℕ) → i < length es → is-group (getD es i blank .what) ≡ true → (suc i < length es) × (getD es (suc i) blank .level ≡ suc (getD es i blank .level))
@@ -104,7 +104,7 @@ module _ (es : List Entry) (i : ℕ) where
   inside-one h = inside-top (inside-before es i) (getD es i blank .level) (getD es i blank .what) h
 
 pub periodic-what : (w : What) → is-periodic w ≡ true → w ≡ group true
-periodic-what (field f n m) e = clash (sym e)
+periodic-what (field f n m) e = absurd (false≢true e)
 periodic-what (group p) e = ap group e
 
 -- ---- the run below a level
@@ -203,7 +203,7 @@ module _ (es : List Entry) (l i : ℕ) where
     where
       with-field-number : (w : What) → is-group w ≡ false → (at : ℕ) (ns : List ℕ) → with-number w at ns ≡ at ∷ ns
       with-field-number (field f s m) e at ns = refl
-      with-field-number (group p) e at ns = clash e
+      with-field-number (group p) e at ns = absurd (true≢false e)
 
   pub numbers-group : i < length es → l < getD es i blank .level → is-group (getD es i blank .what) ≡ true
       → numbers-below l i (drop i es) ≡ numbers-below l (i + 1) (drop (i + 1) es)
@@ -211,7 +211,7 @@ module _ (es : List Entry) (l i : ℕ) where
     where
       with-group-number : (w : What) → is-group w ≡ true → (at : ℕ) (ns : List ℕ) → with-number w at ns ≡ ns
       with-group-number (group p) e at ns = refl
-      with-group-number (field f s m) e at ns = clash (sym e)
+      with-group-number (field f s m) e at ns = absurd (false≢true e)
 
 module _ (es : List Entry) (l deep i next : ℕ) (h : l ≤ deep) (e : next ≡ i + run-below deep (drop i es)) where
   pub run-then : run-below l (drop i es) ≡ run-below deep (drop i es) + run-below l (drop next es)

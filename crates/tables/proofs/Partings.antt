@@ -1,4 +1,4 @@
--- The parts of a table from entry i on: a periodic group with its members, a field alone, another group nothing.
+-- The parts of a table from a periodic group on: its own, and those that start after its members.
 use mathlib.Core.Path.{_≡_, refl, sym, ap, subst, _∙_}
 use mathlib.Core.Bool.{Bool, true, false}
 use mathlib.Core.List.{List, [], _∷_}
@@ -6,13 +6,11 @@ use Prim.Native.Nat.{ℕ, suc, _+_, _≤_, _<_}
 use native.Mathlib.Numerals.{add-one}
 use native.Mathlib.Omega.{arith}
 use borrow.Author.Tests.{lt-ltb, le-ltb}
-use lib.ListN.{length, getD, drop, drop-of-length-le, length-drop}
+use lib.ListN.{length, getD, drop, length-drop}
 use lib.Seq.{drop-cons, drop-drop, getD-drop}
-use Rattle.rules.specs.Values.{Format}
-use Rattle.rules.specs.Table.{What, field, group, Entry, alone, inside-of, fields-below, part-of, parts-from}
+use Rattle.rules.specs.Table.{What, field, group, Entry, inside-of, fields-below, part-of, parts-from}
 use Rattle.buffer.proofs.Cases.{by-order}
 use Rattle.tables.specs.Entries.{blank}
-use Rattle.tables.specs.Places.{inside-before, inside-at}
 use Rattle.tables.specs.Groups.{run-below, group-end}
 use Rattle.tables.proofs.EntryBytes.{Sound}
 use Rattle.tables.proofs.Nesting.{end-start, run-nil, run-deeper, run-ends}
@@ -21,23 +19,11 @@ parts-nil : (b : Bool) → parts-from b [] ≡ []
 unfolding parts-from
 parts-nil b = refl
 
--- ---- the first entry, by what it is
-module _ (n l : ℕ) (es : List Entry) where
-  first-periodic : (b : Bool)
-      → parts-from b (record { name = n; level = l; what = group true } ∷ es)
-      ≡ record { name = n; periodic = true; members = fields-below 1 es } ∷ parts-from true es
-  unfolding parts-from part-of inside-of
-  first-periodic b = refl
-
-  first-group : parts-from false (record { name = n; level = l; what = group false } ∷ es) ≡ parts-from false es
-  unfolding parts-from part-of inside-of
-  first-group = refl
-
-  first-field : (f : Format) (s : ℕ) (m : Bool)
-      → parts-from false (record { name = n; level = l; what = field f s m } ∷ es)
-      ≡ alone (record { name = n; format = f; size = s; multiple = m }) ∷ parts-from false es
-  unfolding parts-from part-of inside-of
-  first-field f s m = refl
+first-periodic : (b : Bool) (n l : ℕ) (es : List Entry)
+    → parts-from b (record { name = n; level = l; what = group true } ∷ es)
+    ≡ record { name = n; periodic = true; members = fields-below 1 es } ∷ parts-from true es
+unfolding parts-from part-of inside-of
+first-periodic b n l es = refl
 
 -- a member of a periodic group starts no part
 member-of : (n l : ℕ) (w : What) (es : List Entry) → 1 < l → Sound l w
@@ -55,14 +41,6 @@ leaves n l (field f s m) es h = rw (le-ltb 1 l h)
 leaves n l (group true) es h = refl
 leaves n l (group false) es h = rw (le-ltb 1 l h)
 
--- an entry that is not inside starts what it starts outside
-outside : (b : Bool) (n l : ℕ) (w : What) (es : List Entry) → inside-of b l w ≡ false
-    → parts-from b (record { name = n; level = l; what = w } ∷ es) ≡ parts-from false (record { name = n; level = l; what = w } ∷ es)
-unfolding parts-from part-of inside-of
-outside b n l (field f s m) es e = rw e
-outside b n l (group true) es e = refl
-outside b n l (group false) es e = rw e
-
 members-pass : (es : List Entry) → ((k : ℕ) → k < length es → Sound (getD es k blank .level) (getD es k blank .what))
     → parts-from true es ≡ parts-from false (drop (run-below 1 es) es)
 members-pass [] s = rw (run-nil 1, parts-nil true) (sym (parts-nil false))
@@ -70,44 +48,21 @@ members-pass (e ∷ es) s = by-order 1 (e .level)
     (λ h. rw (run-deeper 1 e es h) (member-of (e .name) (e .level) (e .what) es h (s 0 (omega arith)) ∙ members-pass es (λ k q. s (suc k) (omega arith))))
     (λ h. rw (run-ends 1 e es h) (leaves (e .name) (e .level) (e .what) es h))
 
--- ---- the same at entry i
-module _ (es : List Entry) (i : ℕ) where
-  pub parts-end : (b : Bool) → length es ≤ i → parts-from b (drop i es) ≡ []
-  parts-end b h = rw (drop-of-length-le es h) (parts-nil b)
+module _ (es : List Entry) (i : ℕ) (h : i < length es) where
+  -- a periodic group: its part, with its members
+  pub parts-periodic : (b : Bool) → getD es i blank .what ≡ group true
+      → parts-from b (drop i es)
+      ≡ record { name = getD es i blank .name; periodic = true; members = fields-below 1 (drop (i + 1) es) } ∷ parts-from true (drop (i + 1) es)
+  parts-periodic b e =
+      rw (add-one, drop-cons es i blank h)
+      (ap (λ (v : What). parts-from b (record { name = getD es i blank .name; level = getD es i blank .level; what = v } ∷ drop (suc i) es)) e
+      ∙ first-periodic b (getD es i blank .name) (getD es i blank .level) (drop (suc i) es))
 
-  module _ (h : i < length es) where
-    starts : (b : Bool) (w : What) → getD es i blank .what ≡ w
-        → parts-from b (drop i es) ≡ parts-from b (record { name = getD es i blank .name; level = getD es i blank .level; what = w } ∷ drop (i + 1) es)
-    starts b w e = rw (add-one, drop-cons es i blank h) (ap (λ (v : What). parts-from b (record { name = getD es i blank .name; level = getD es i blank .level; what = v } ∷ drop (suc i) es)) e)
-
-    -- where entry i is outside periodic groups, it does not matter whether the entry before it is
-    pub parts-outside : inside-at es i ≡ false → parts-from (inside-before es i) (drop i es) ≡ parts-from false (drop i es)
-    unfolding inside-at inside-before
-    parts-outside e =
-        rw (drop-cons es i blank h)
-        (outside (inside-before es i) (getD es i blank .name) (getD es i blank .level) (getD es i blank .what) (drop (suc i) es) e)
-
-    -- a periodic group: its part, with its members
-    pub parts-periodic : (b : Bool) → getD es i blank .what ≡ group true
-        → parts-from b (drop i es)
-        ≡ record { name = getD es i blank .name; periodic = true; members = fields-below 1 (drop (i + 1) es) } ∷ parts-from true (drop (i + 1) es)
-    parts-periodic b e = starts b (group true) e ∙ first-periodic (getD es i blank .name) (getD es i blank .level) (drop (i + 1) es) b
-
-    -- nothing inside it starts a part
-    pub parts-members : ((k : ℕ) → k < length es → Sound (getD es k blank .level) (getD es k blank .what)) → getD es i blank .level ≡ 1
-        → parts-from true (drop (i + 1) es) ≡ parts-from false (drop (group-end es i) es)
-    parts-members s l =
-        let rest = drop (i + 1) es in
-        members-pass rest
-        (λ k q. subst (λ (e : Entry). Sound (e .level) (e .what)) (sym (getD-drop (i + 1) es k blank)) (s (i + 1 + k) (omega (arith, q, length-drop (i + 1) es))))
-        ∙ ap (parts-from false) (drop-drop (run-below 1 rest) (i + 1) es ∙ ap (λ (n : ℕ). drop n es) (end-start es 1 i (sym l)))
-
-    -- a field outside periodic groups stands alone
-    pub parts-alone : (f : Format) (s : ℕ) (m : Bool) → getD es i blank .what ≡ field f s m
-        → parts-from false (drop i es)
-        ≡ alone (record { name = getD es i blank .name; format = f; size = s; multiple = m }) ∷ parts-from false (drop (i + 1) es)
-    parts-alone f s m e = starts false (field f s m) e ∙ first-field (getD es i blank .name) (getD es i blank .level) (drop (i + 1) es) f s m
-
-    -- "Another group adds no bytes."
-    pub parts-group : getD es i blank .what ≡ group false → parts-from false (drop i es) ≡ parts-from false (drop (i + 1) es)
-    parts-group e = starts false (group false) e ∙ first-group (getD es i blank .name) (getD es i blank .level) (drop (i + 1) es)
+  -- nothing inside it starts a part
+  pub parts-members : ((k : ℕ) → k < length es → Sound (getD es k blank .level) (getD es k blank .what)) → getD es i blank .level ≡ 1
+      → parts-from true (drop (i + 1) es) ≡ parts-from false (drop (group-end es i) es)
+  parts-members s l =
+      let rest = drop (i + 1) es in
+      members-pass rest
+      (λ k q. subst (λ (e : Entry). Sound (e .level) (e .what)) (sym (getD-drop (i + 1) es k blank)) (s (i + 1 + k) (omega (arith, q, length-drop (i + 1) es))))
+      ∙ ap (parts-from false) (drop-drop (run-below 1 rest) (i + 1) es ∙ ap (λ (n : ℕ). drop n es) (end-start es 1 i (sym l)))

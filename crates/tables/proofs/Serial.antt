@@ -1,7 +1,7 @@
 -- A series, an entry at a time: when `fields-to` is done, and that its fields are those from the first entry to the last.
 --
 use mathlib.Core.Path.{_≡_, refl, sym, ap, subst, _∙_}
-use mathlib.Core.Bool.{Bool, true, false, not}
+use mathlib.Core.Bool.{Bool, true, false, not, true≢false, false≢true}
 use mathlib.Core.List.{List, [], _∷_}
 use Prim.Native.Nat.{ℕ, suc, _+_, _-_, _≤_, _<_}
 use native.Mathlib.Numerals.{add-one}
@@ -15,12 +15,11 @@ use Rattle.rules.specs.Values.{Format}
 use Rattle.rules.specs.Table.{What, field, group, Field, Entry, differ, names}
 use Rattle.rules.specs.Use.{fields-to}
 use Rattle.rules.proofs.Steps.{by-test, from-bind, from-is-done, done-inj, not-done}
+use Rattle.rules.proofs.Done.{is-done-then}
 use Rattle.tables.specs.Entries.{blank, is-group, is-multiple, is-periodic}
 use Rattle.tables.specs.Groups.{with-field, fields-in, Spanned}
-use Rattle.tables.proofs.Bools.{clash}
 use Rattle.tables.proofs.EntryFields.{no-fields, first-field}
 use Rattle.tables.proofs.Names.{one-name}
-use Rattle.tables.proofs.EntryBytes.{is-done-then}
 
 -- ---- the first entry of those of a series, by what it is
 module _ (n m l : ℕ) (es : List Entry) where
@@ -55,26 +54,26 @@ module _ (n m l : ℕ) (es : List Entry) where
 module _ (n m l : ℕ) (es : List Entry) where
   multiple-stops : (w : What) → is-multiple w ≡ true → is-done (fields-to n (record { name = m; level = l; what = w } ∷ es)) ≡ false
   multiple-stops (field f s true) e = ap is-done (to-multiple n m l es f s)
-  multiple-stops (field f s false) e = clash (sym e)
-  multiple-stops (group p) e = clash (sym e)
+  multiple-stops (field f s false) e = absurd (false≢true e)
+  multiple-stops (group p) e = absurd (false≢true e)
 
   periodic-stops : (w : What) → is-periodic w ≡ true → is-done (fields-to n (record { name = m; level = l; what = w } ∷ es)) ≡ false
-  periodic-stops (field f s mu) e = clash (sym e)
+  periodic-stops (field f s mu) e = absurd (false≢true e)
   periodic-stops (group true) e = ap is-done (to-periodic n m l es)
-  periodic-stops (group false) e = clash (sym e)
+  periodic-stops (group false) e = absurd (false≢true e)
 
   name-ends : (w : What) → is-multiple w ≡ false → is-periodic w ≡ false → m ≡ n
       → is-done (fields-to n (record { name = m; level = l; what = w } ∷ es)) ≡ not (is-group w)
-  name-ends (field f s true) e p q = clash e
+  name-ends (field f s true) e p q = absurd (true≢false e)
   name-ends (field f s false) e p q = ap is-done (to-last n m l es f s (eq-eqb m n q))
-  name-ends (group true) e p q = clash p
+  name-ends (group true) e p q = absurd (true≢false p)
   name-ends (group false) e p q = ap is-done (to-group-last n m l es (eq-eqb m n q))
 
   other-goes-on : (w : What) → is-multiple w ≡ false → is-periodic w ≡ false → (m ≡ n → ⊥)
       → is-done (fields-to n (record { name = m; level = l; what = w } ∷ es)) ≡ is-done (fields-to n es)
-  other-goes-on (field f s true) e p q = clash e
+  other-goes-on (field f s true) e p q = absurd (true≢false e)
   other-goes-on (field f s false) e p q = ap is-done (to-more n m l es f s (ne-eqb m n q)) ∙ is-done-then (fields-to n es) _
-  other-goes-on (group true) e p q = clash p
+  other-goes-on (group true) e p q = absurd (true≢false p)
   other-goes-on (group false) e p q = ap is-done (to-group n m l es (ne-eqb m n q))
 
 -- ---- the same at entry i

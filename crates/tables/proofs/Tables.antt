@@ -1,6 +1,6 @@
 -- What a table's being valid means, and what it says of its entries.
 use mathlib.Core.Path.{_≡_, refl, sym, ap, subst, _∙_}
-use mathlib.Core.Bool.{Bool, true, false, _&&_}
+use mathlib.Core.Bool.{Bool, true, false, _&&_, and-true, false≢true}
 use mathlib.Core.List.{List}
 use Prim.Native.Nat.{ℕ, _+_, _*_, _≤_, _<_}
 use native.Mathlib.Omega.{arith}
@@ -14,15 +14,16 @@ use Rattle.rules.specs.Lists.{Bytes, same}
 use Rattle.rules.specs.Values.{alpha, binary, fixed, packed, unpacked}
 use Rattle.rules.specs.Table.{What, field, group, Entry, entries, levels, differ, names, table-head, table}
 use Rattle.rules.proofs.Steps.{by-test, from-bind, from-need}
+use Rattle.rules.proofs.Done.{is-done-after}
+use Rattle.rules.proofs.Bools.{and-both, and-four}
 use Rattle.tables.specs.Entries.{listed, entry-place, Has-entry, Valid, entries-of, blank, format-number, decoded, entry-of-bytes, bytes-at, group-number, is-group}
 use Rattle.tables.specs.Validity.{read-entries, Right, headed}
-use Rattle.tables.proofs.Bools.{clash, and-true, and-both, and-four}
 use Rattle.tables.specs.declared.Entry.{Entry as Decoded}
 use Rattle.tables.proofs.EntryBytes.{Sound, Made, entries-length, entry-made}
 
 done-listed : (m : Outcome (List Entry)) → is-done m ≡ true → m ≡ done (listed m)
 done-listed (done es) e = refl
-done-listed (refused n) e = clash (sym e)
+done-listed (refused n) e = absurd (false≢true e)
 
 -- ---- entries that are right by themselves
 module _ (n : ℕ) (t : Bytes) (v : Right n t) where
@@ -60,13 +61,9 @@ is-group-number (group p) = refl
 
 -- ---- the table as its tests
 
-need-then : {A : Type 0} (b : Bool) (n : ℕ) (m : Outcome A) → is-done (need b n >>= λ (_ : Unit {0}). m) ≡ (b && is-done m)
-need-then true n m = refl
-need-then false n m = refl
-
 then-need : (m : Outcome (List Entry)) (f : List Entry → Bool) (n : ℕ)
     → is-done (m >>= λ es. need (f es) n >>= λ (_ : Unit {0}). done es) ≡ (is-done m && f (listed m))
-then-need (done es) f n = need-then (f es) n (done es) ∙ and-true (f es)
+then-need (done es) f n = is-done-after (f es) n (λ _. done es) ∙ and-true (f es)
 then-need (refused k) f n = refl
 
 abbrev right-names : List Entry → Bool
@@ -79,9 +76,9 @@ module _ (t : Bytes) where
       && (is-done (entries (getD t 5 0) (drop table-head-size t)) && right-names (read-entries (getD t 5 0) t))))
   unfolding table read-entries
   table-tests =
-      need-then (same (take 5 t) table-head) 1 _
+      is-done-after (same (take 5 t) table-head) 1 _
       ∙ ap (λ b. same (take 5 t) table-head && b)
-      (need-then (leb 1 (getD t 5 0) && leb (getD t 5 0) most-entries) 1 _
+      (is-done-after (leb 1 (getD t 5 0) && leb (getD t 5 0) most-entries) 1 _
       ∙ ap (λ b. (leb 1 (getD t 5 0) && leb (getD t 5 0) most-entries) && b) (then-need (entries (getD t 5 0) (drop table-head-size t)) right-names 1))
 
 -- ---- what a valid table is

@@ -13,7 +13,7 @@ use Rattle.rules.specs.Use.{format-in-effect, length-in-effect, Asked, asked}
 use Rattle.value_formats.specs.Formats.{format-at, letter-number, number-of}
 use Rattle.value_formats.proofs.Letters.{number-back, number-small, letter-some, letter-none}
 use Rattle.rules.proofs.Steps.{by-option, from-need, done-inj, not-done, T-true}
-use Rattle.tables.proofs.Bools.{and-both}
+use Rattle.rules.proofs.Bools.{and-both}
 use Rattle.uses.specs.Effect.{numbered}
 
 pub numbered-known : (k : ℕ) → k < formats → numbered k ≡ some (format-at k)

@@ -1,6 +1,6 @@
 -- An entry as a field, the fields of a group by the entries after it, and those of a series.
 use mathlib.Core.Path.{_≡_, refl, sym, ap, _∙_}
-use mathlib.Core.Bool.{Bool, true, false, not, _&&_}
+use mathlib.Core.Bool.{Bool, true, false, not, _&&_, true≢false}
 use mathlib.Core.List.{List, [], _∷_, map}
 use Prim.Native.Nat.{ℕ, suc, _+_, _-_, _<_, _≤_}
 use native.Mathlib.Numerals.{add-one}
@@ -18,7 +18,6 @@ use Rattle.rules.proofs.Uses.{by-what, Single, plain-single, to-picked}
 use Rattle.value_formats.specs.Formats.{format-at}
 use Rattle.tables.specs.Entries.{blank, is-group, is-multiple, size-of, format-number}
 use Rattle.tables.specs.Groups.{run-below, group-end, field-by, field-at, with-field, fields-in}
-use Rattle.tables.proofs.Bools.{clash}
 use Rattle.tables.proofs.EntryFields.{no-fields, first-field}
 use Rattle.tables.proofs.Nesting.{below-deeper, below-ends, below-nil, run-nil, run-deeper, run-ends, run-short}
 use Rattle.uses.specs.Meant.{fields-from}
@@ -38,7 +37,7 @@ size-by n (group p) = refl
 format-by : (n : ℕ) (w : What) → is-group w ≡ false → (field-by n w .format ≡ format-at (format-number w)) × (format-number w < formats)
 unfolding field-by
 format-by n (field f s m) e = (sym (number-back f), number-small f)
-format-by n (group p) e = clash e
+format-by n (group p) e = absurd (true≢false e)
 
 module _ (es : List Entry) (i : ℕ) where
   pub multiple-at : field-at es i .multiple ≡ is-multiple (getD es i blank .what)
@@ -97,7 +96,7 @@ five-need true o h = h
 five-need false o h = λ e. refl
 
 five-then : {A B : Type 0} (o : Outcome A) (g : A → B) → Five o → Five (o >>= λ a. done (g a))
-five-then (done a) g h = λ e. clash e
+five-then (done a) g h = λ e. absurd (true≢false e)
 five-then (refused k) g h = λ e. let p = h refl in cc
 
 pub series-five : (n : ℕ) (es : List Entry) → is-done (fields-to n es) ≡ false → fields-to n es ≡ refused 5
@@ -106,6 +105,6 @@ series-five n [] = λ e. refl
 series-five n (x ∷ es) =
     by-what (x .what)
     (λ f s m q. rw (q, fields-to) (five-need (not m) _ (by-test (eqb (x .name) n)
-    (λ t. rw t (λ e. clash e))
+    (λ t. rw t (λ e. absurd (true≢false e)))
     (λ t. rw t (five-then (fields-to n es) _ (series-five n es))))))
     (λ p q. rw (q, fields-to) (five-need (not p && not (eqb (x .name) n)) (fields-to n es) (series-five n es)))

@@ -1,6 +1,6 @@
 -- What an element means, by the entries that its names find.
 use mathlib.Core.Path.{_≡_, refl, sym, _∙_}
-use mathlib.Core.Bool.{Bool, true, false}
+use mathlib.Core.Bool.{Bool, true, false, true≢false, false≢true}
 use mathlib.Core.List.{List, [], _∷_}
 use mathlib.Core.Option.{Option}
 use Prim.Native.Nat.{ℕ, _<_, _≤_}
@@ -19,7 +19,6 @@ use Rattle.rules.proofs.Steps.{by-test, done-inj, not-done}
 use Rattle.tables.specs.Entries.{blank, is-group}
 use Rattle.tables.specs.Places.{inside-at, found-at}
 use Rattle.tables.specs.Groups.{field-by, field-at}
-use Rattle.tables.proofs.Bools.{clash}
 use Rattle.format_buffer.specs.declared.Named.{Named}
 use Rattle.format_buffer.specs.declared.Count.{Count}
 use Rattle.format_buffer.specs.declared.Element.the-variants as element
@@ -49,7 +48,7 @@ module _ (n : ℕ) (es : List Entry) where
 
     group-of : (w : What) (a : Outcome Use) (b : Format → ℕ → Bool → Outcome Use) → is-group w ≡ true
         → _≡_ {A = Outcome Use} (elim w [ group p ↦ a | field f s mu ↦ b f s mu ]) a
-    group-of (field f s m) a b e = clash (sym e)
+    group-of (field f s m) a b e = absurd (false≢true e)
     group-of (group p) a b e = refl
 
     field-of : (w : What) (inside : Bool) (last : ℕ) (a : Outcome Use) → is-group w ≡ false
@@ -58,7 +57,7 @@ module _ (n : ℕ) (es : List Entry) where
         (use-of-field (field-by n w) inside last os vs l g)
     unfolding field-by
     field-of (field f s m) inside last a e = refl
-    field-of (group p) inside last a e = clash e
+    field-of (group p) inside last a e = absurd (true≢false e)
 
     named-group : (i : ℕ) → find n es ≡ done (found-at es i) → is-group (getD es i blank .what) ≡ true
         → use-of es ls (rules.named n os vs l g) ≡ use-of-group (found-at es i) os vs l g

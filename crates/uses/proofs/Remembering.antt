@@ -1,6 +1,6 @@
 -- The last index so far of each entry, after a span.
 use mathlib.Core.Path.{_≡_, refl, sym, ap, _∙_}
-use mathlib.Core.Bool.{Bool, true, false}
+use mathlib.Core.Bool.{Bool, true, false, true≢false, false≢true}
 use mathlib.Core.List.{List, [], _∷_, map}
 use Prim.Native.Nat.{ℕ, _<_, _≤_}
 use native.Mathlib.Omega.{arith}
@@ -15,7 +15,6 @@ use Rattle.rules.proofs.Steps.{by-test}
 use Rattle.tables.specs.Entries.{blank}
 use Rattle.tables.specs.Groups.{field-at}
 use Rattle.tables.proofs.EntryFields.{name-at}
-use Rattle.tables.proofs.Bools.{clash}
 use Rattle.uses.specs.Meant.{use-meant, asked-by, Good-span, Remembers, Remembered}
 use Rattle.uses.specs.declared.Span.{Span}
 use Rattle.uses.specs.declared.Use.{Use}
@@ -28,16 +27,16 @@ marks v fs = map (λ a. (a .field .name, v)) (filter (λ a. a .field .multiple) 
 module _ (es : List Entry) (s : Span) (v : ℕ) where
   stored-marks : Good-span es s → (b : Bool) → b ≡ s .standard → b ≡ true → marks v (asked-by es b s) ≡ []
   stored-marks h true e q = rw (h .single (sym e))
-  stored-marks h false e q = clash (sym q)
+  stored-marks h false e q = absurd (false≢true q)
 
   no-marks : (b : Bool) → b ≡ false → field-at es (s .first) .multiple ≡ false → marks v (asked-by es b s) ≡ []
   unfolding filter
-  no-marks true q m = clash q
+  no-marks true q m = absurd (true≢false q)
   no-marks false q m = rw (m, filter)
 
   one-mark : (b : Bool) → b ≡ false → field-at es (s .first) .multiple ≡ true → marks v (asked-by es b s) ≡ (getD es (s .first) blank .name, v) ∷ []
   unfolding filter
-  one-mark true q m = clash q
+  one-mark true q m = absurd (true≢false q)
   one-mark false q m = rw (m, filter) (ap (λ n. (n, v) ∷ []) (name-at es (s .first)))
 
 -- What is kept, and what is set.

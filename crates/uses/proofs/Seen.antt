@@ -1,6 +1,6 @@
 -- A format read once: an occurrence is named twice where an element that is left meets a span kept, or one that is left as well.
 use mathlib.Core.Path.{_≡_, refl, sym, ap, _∙_}
-use mathlib.Core.Bool.{Bool, true, false, _||_}
+use mathlib.Core.Bool.{Bool, true, false, _||_, or-false, or-true}
 use mathlib.Core.List.{List, [], _∷_}
 use Prim.Native.Nat.{ℕ, _*_, _<_, _≤_}
 use native.Mathlib.Omega.{arith}
@@ -13,8 +13,8 @@ use Rattle.rules.specs.Table.{Entry}
 use Rattle.rules.specs.Format.{Element, elements}
 use Rattle.rules.specs.Use.{Use as Meaning}
 use Rattle.rules.specs.Update.{name-alike, named-twice}
+use Rattle.rules.proofs.Bools.{or-crossed}
 use Rattle.rules.proofs.Steps.{from-bind, from-need}
-use Rattle.tables.proofs.Bools.{or-false, or-true}
 use Rattle.uses.specs.Meant.{use-meant, indexes-kept, uses-of}
 use Rattle.uses.specs.Ahead.{Ahead, Nexts}
 use Rattle.uses.specs.Twice.{met-before, Kept-ends, Met, Keeps-use, Named-twice}
@@ -24,12 +24,7 @@ use Rattle.uses.proofs.Testing.{span-known}
 use Rattle.uses.proofs.Ahead.{uses-all}
 use Rattle.uses.proofs.Keeping.{met-none}
 
--- Four tests joined by or, in another order; and three.
-or-four : (a b c d : Bool) → ((a || b) || (c || d)) ≡ ((a || c) || (b || d))
-or-four true b c d = refl
-or-four false true c d = sym (or-true c)
-or-four false false c d = refl
-
+-- Three tests joined by or, in another order.
 or-three : (a b c : Bool) → ((a || b) || c) ≡ (b || (a || c))
 or-three true b c = sym (or-true b)
 or-three false b c = refl
@@ -43,7 +38,7 @@ module _ {A : Type 0} where
   any-either : (m p q : A → Bool) → ((x : A) → m x ≡ (p x || q x)) → (xs : List A) → any m xs ≡ (any p xs || any q xs)
   unfolding any
   any-either m p q e [] = refl
-  any-either m p q e (x ∷ xs) = rw (e x, any-either m p q e xs) (or-four (p x) (q x) (any p xs) (any q xs))
+  any-either m p q e (x ∷ xs) = rw (e x, any-either m p q e xs) (or-crossed (p x) (q x) (any p xs) (any q xs))
 
 -- Whether one of some uses meets an earlier one, by a test for those before all of them.
 pub twice-after : (Meaning → Bool) → List Meaning → Bool

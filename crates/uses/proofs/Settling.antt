@@ -1,6 +1,6 @@
 -- The use rules of fields, groups, counts and series, by the tests that the code makes.
 use mathlib.Core.Path.{_≡_, refl, sym, ap, _∙_}
-use mathlib.Core.Bool.{Bool, true, false}
+use mathlib.Core.Bool.{Bool, true, false, true≢false, false≢true}
 use mathlib.Core.List.{List, [], _∷_, map}
 use mathlib.Core.Option.{Option, none, some}
 use Prim.Native.Nat.{ℕ, suc, _+_, _-_, _<_, _≤_}
@@ -23,7 +23,6 @@ use Rattle.rules.proofs.Uses.{spread-in-order}
 use Rattle.tables.specs.Entries.{Valid, entries-of, blank, is-group, is-multiple, is-periodic}
 use Rattle.tables.specs.Places.{inside-at, found-at}
 use Rattle.tables.specs.Groups.{field-at, fields-in, group-end}
-use Rattle.tables.proofs.Bools.{clash}
 use Rattle.tables.proofs.EntryFields.{field-periodic}
 use Rattle.format_buffer.specs.declared.Named.{Named}
 use Rattle.uses.specs.Spread.{occurrences, bracket, spread-of}
@@ -86,12 +85,12 @@ module _ (x : Found) (os vs : Option Range) where
 module _ (n : ℕ) where
   pub count-group : (w : What) (b : Bool) → is-periodic w ≡ true → use-of-count n w b none ≡ done (one (group-count n))
   unfolding use-of-count absent
-  count-group (field f s m) b e = clash (sym e)
+  count-group (field f s m) b e = absurd (false≢true e)
   count-group (group p) b e = rw e
 
   pub count-group-indexed : (w : What) (b : Bool) (i : ℕ) → is-periodic w ≡ true → use-of-count n w b (some i) ≡ refused 5
   unfolding use-of-count absent
-  count-group-indexed (field f s m) b i e = clash (sym e)
+  count-group-indexed (field f s m) b i e = absurd (false≢true e)
   count-group-indexed (group p) b i e = rw e
 
   pub count-neither : (w : What) (b : Bool) (i : Option ℕ) → is-multiple w ≡ false → is-periodic w ≡ false → use-of-count n w b i ≡ refused 5
@@ -104,39 +103,39 @@ module _ (n : ℕ) where
   pub count-outside : (w : What) → is-multiple w ≡ true → use-of-count n w false none ≡ done (one (value-count n 1))
   unfolding use-of-count
   count-outside (field f s m) e = rw e
-  count-outside (group p) e = clash (sym e)
+  count-outside (group p) e = absurd (false≢true e)
 
   pub count-outside-indexed : (w : What) (i : ℕ) → is-multiple w ≡ true → use-of-count n w false (some i) ≡ refused 5
   unfolding use-of-count
   count-outside-indexed (field f s m) i e = rw e
-  count-outside-indexed (group p) i e = clash (sym e)
+  count-outside-indexed (group p) i e = absurd (false≢true e)
 
   pub count-inside-bare : (w : What) → is-multiple w ≡ true → use-of-count n w true none ≡ refused 5
   unfolding use-of-count
   count-inside-bare (field f s m) e = rw e
-  count-inside-bare (group p) e = clash (sym e)
+  count-inside-bare (group p) e = absurd (false≢true e)
 
   pub count-inside : (w : What) (i : ℕ) → is-multiple w ≡ true → in-order (just i) ≡ true
       → use-of-count n w true (some i) ≡ done (one (value-count n i))
   unfolding use-of-count
   count-inside (field f s m) i e o = rw (e, o)
-  count-inside (group p) i e o = clash (sym e)
+  count-inside (group p) i e o = absurd (false≢true e)
 
   pub count-inside-broken : (w : What) (i : ℕ) → is-multiple w ≡ true → in-order (just i) ≡ false → use-of-count n w true (some i) ≡ refused 5
   unfolding use-of-count
   count-inside-broken (field f s m) i e o = rw (e, o)
-  count-inside-broken (group p) i e o = clash (sym e)
+  count-inside-broken (group p) i e o = absurd (false≢true e)
 
 -- A series.
 first-group : {A : Type 0} (w : What) (o : Outcome A) → is-group w ≡ true
     → _≡_ {A = Outcome A} (elim w [ group p ↦ refused 5 | field f s mu ↦ o ]) (refused 5)
-first-group (field f s m) o e = clash (sym e)
+first-group (field f s m) o e = absurd (false≢true e)
 first-group (group p) o e = refl
 
 first-field : {A : Type 0} (w : What) (o : Outcome A) → is-group w ≡ false
     → _≡_ {A = Outcome A} (elim w [ group p ↦ refused 5 | field f s mu ↦ o ]) o
 first-field (field f s m) o e = refl
-first-field (group p) o e = clash e
+first-field (group p) o e = absurd (true≢false e)
 
 module _ (x : Found) (n : ℕ) where
   pub series-group : is-group (x .entry .what) ≡ true → use-of-series x n ≡ refused 5
@@ -174,14 +173,14 @@ module _ (es : List Entry) (i last : ℕ) (n : Named) (h : i < length es) (g : i
           upto = omega arith;
           occurrences = T-true _ (o .0);
           values = T-true _ (o .1);
-          single = λ e. clash (sym e);
+          single = λ e. absurd (false≢true e);
           alone = λ e. record { next = refl; field = g; format = b; allowed = a .0; converts = a .1 };
           only = λ j low high e. let z : j ≡ i = omega arith in upto-one (inside-at es i) (field-at es i .multiple) last (occurrences n) (bracket n) _ (sym p) (rw z at e);
           begins = field-periodic (getD es i blank .what) g;
-          once = λ e. clash (sym e);
-          one-group = λ e. clash (sym e);
-          outside = λ e. clash (sym e);
-          grouped = λ e. clash (sym e);
+          once = λ e. absurd (false≢true e);
+          one-group = λ e. absurd (false≢true e);
+          outside = λ e. absurd (false≢true e);
+          grouped = λ e. absurd (false≢true e);
         };
       }
 
@@ -205,7 +204,7 @@ module _ (t : Bytes) (v : Valid t) (i : ℕ) (n : Named) (h : i < length (entrie
           occurrences = T-true _ (o .0);
           values = T-true _ (o .1);
           single = λ e. rw (← fs) (plain-none-multiple _ a);
-          alone = λ e. clash e;
+          alone = λ e. absurd (true≢false e);
           only = λ j low high e. upto-one (inside-at es i) false 0 (occurrences n) (bracket n) _ (sym p) (sym (group-inside t v i h g j (omega arith) high) ∙ e);
           begins = group-begins t v i h g;
           once = λ e. let one = value-one (inside-at es i) 0 (occurrences n) (bracket n) _ (sym p) in (ap (λ (x : Range). x .from) one, ap (λ (x : Range). x .upto) one);
@@ -237,13 +236,13 @@ module _ (t : Bytes) (v : Valid t) (i j : ℕ) (h : i < length (entries-of t)) (
           occurrences = one-ordered;
           values = one-ordered;
           single = λ e. series-none-multiple _ _ _ d;
-          alone = λ e. clash e;
+          alone = λ e. absurd (true≢false e);
           only = λ k low high e. refl;
           begins = field-periodic (getD entries i blank .what) g;
           once = λ e. (refl, refl);
-          one-group = λ e m home. clash (sym (home .inside) ∙ o);
+          one-group = λ e m home. absurd (true≢false (sym (home .inside) ∙ o));
           outside = λ e out m low high. series-outside t v i j h k o _ d m low (omega arith);
-          grouped = λ e inside. clash (sym inside ∙ o);
+          grouped = λ e inside. absurd (true≢false (sym inside ∙ o));
         };
       })
 

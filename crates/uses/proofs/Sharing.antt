@@ -1,6 +1,6 @@
 -- Two spans of entries have a field in common where one entry of both is a field: names differ.
 use mathlib.Core.Path.{_≡_, refl, sym, ap, subst, _∙_}
-use mathlib.Core.Bool.{Bool, true, false, _&&_, _||_}
+use mathlib.Core.Bool.{Bool, true, false, _&&_, _||_, and-true, and-false, or-true, true≢false}
 use mathlib.Core.List.{List, [], _∷_}
 use Prim.Native.Nat.{ℕ, zero, suc, _+_, _-_, _<_, _≤_, max, min}
 use native.Mathlib.Omega.{arith}
@@ -16,7 +16,6 @@ use Rattle.buffer.proofs.Cases.{by-order}
 use Rattle.tables.specs.Entries.{blank, is-group}
 use Rattle.tables.specs.Groups.{field-at}
 use Rattle.tables.proofs.EntryFields.{name-at}
-use Rattle.tables.proofs.Bools.{clash, and-true, and-false, or-true}
 use Rattle.format_buffer.specs.Elements.{range}
 use Rattle.uses.specs.Meant.{fields-from, asked-of, use-meant, Good-span}
 use Rattle.uses.specs.Twice.{stored-fields, numbered-use, kept-use, Kept-alike}
@@ -32,12 +31,6 @@ stored-name es k = name-at es k
 from-or : {C : Type 0} (a b : Bool) → (a || b) ≡ true → (a ≡ true → C) → (b ≡ true → C) → C
 from-or true b e k l = k refl
 from-or false b e k l = l e
-
-or-left : (a b : Bool) → a ≡ true → (a || b) ≡ true
-or-left a b e = rw e
-
-or-right : (a b : Bool) → b ≡ true → (a || b) ≡ true
-or-right a b e = rw e (or-true a)
 
 any-none : {A : Type 0} (p : A → Bool) → any p [] ≡ false
 unfolding any
@@ -61,7 +54,7 @@ module _ (es : List Entry) (p : Asked → Bool) where
   -- A field that meets a test is one of the entries; and one of the entries that does, is a field that does.
   from-any : {C : Type 0} (n k end : ℕ) → end ≤ k + n → end ≤ length es → any p (stored-fields es k end) ≡ true
       → ((i : ℕ) → k ≤ i → i < end → is-group (getD es i blank .what) ≡ false → p (as-stored (field-at es i)) ≡ true → C) → C
-  from-any zero k end s l e c = clash (sym e ∙ none-stored k end (omega arith))
+  from-any zero k end s l e c = absurd (true≢false (sym e ∙ none-stored k end (omega arith)))
   from-any (suc n) k end s l e c =
       by-order k end
       (λ h. by-test (is-group (getD es k blank .what))
@@ -69,18 +62,18 @@ module _ (es : List Entry) (p : Asked → Bool) where
       (λ g. from-or _ _ (sym (field-stored k end h l g) ∙ e)
       (λ t. c k (omega arith) h g t)
       (λ t. from-any n (k + 1) end (omega arith) l t (λ i a. c i (omega arith)))))
-      (λ h. clash (sym e ∙ none-stored k end h))
+      (λ h. absurd (true≢false (sym e ∙ none-stored k end h)))
 
   any-at : (n k end i : ℕ) → i ≡ k + n → i < end → end ≤ length es → is-group (getD es i blank .what) ≡ false → p (as-stored (field-at es i)) ≡ true
       → any p (stored-fields es k end) ≡ true
   any-at zero k end i s h l g t =
       let e : i ≡ k = omega arith in
-      subst (λ j. any p (stored-fields es j end) ≡ true) e (field-stored i end h l g ∙ or-left _ (any p (stored-fields es (i + 1) end)) t)
+      subst (λ j. any p (stored-fields es j end) ≡ true) e (field-stored i end h l g ∙ rw t)
   any-at (suc n) k end i s h l g t =
       let r = any-at n (k + 1) end i (omega arith) h l g t in
       by-test (is-group (getD es k blank .what))
       (λ q. group-stored k end (omega arith) l q ∙ r)
-      (λ q. field-stored k end (omega arith) l q ∙ or-right (p (as-stored (field-at es k))) _ r)
+      (λ q. field-stored k end (omega arith) l q ∙ rw r (or-true (p (as-stored (field-at es k)))))
 
 share-any : (fs gs : List Asked) → share fs gs ≡ any (λ a. any (λ b. eqb (a .field .name) (b .field .name)) gs) fs
 unfolding share
@@ -119,7 +112,7 @@ module _ {es : List Entry} {first low i : ℕ} (w : Apart es first low i) where
         (λ t. from-any es _ end first end (omega arith) l (sym (share-any _ _) ∙ t) λ j a b g u.
         from-any es _ high low high (omega arith) m u λ k c d q v.
         let e : j ≡ k = one j k (omega arith) (omega arith) (sym (stored-name es j) ∙ eqb→eq _ _ (true-T v) ∙ stored-name es k) in
-        clash (sym (w .groups j a (omega arith) (omega arith)) ∙ g))
+        absurd (true≢false (sym (w .groups j a (omega arith) (omega arith)) ∙ g)))
         (λ t. t)
 
 -- A span that is one field is that entry alone, and its field is compared by its name.

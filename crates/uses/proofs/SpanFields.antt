@@ -1,6 +1,6 @@
 -- The items of a span, for code that walks them: its fields an entry at a time. The laws of ranges in `rules` do the rest.
-use mathlib.Core.Path.{_≡_, refl, sym, _∙_}
-use mathlib.Core.Bool.{Bool, true, false}
+use mathlib.Core.Path.{_≡_, refl, _∙_}
+use mathlib.Core.Bool.{Bool, true, false, true≢false, false≢true}
 use mathlib.Core.List.{List, [], _∷_, map}
 use Prim.Native.Nat.{ℕ, suc, _+_, _-_, _<_, _≤_}
 use native.Mathlib.Numerals.{add-one}
@@ -12,7 +12,6 @@ use Rattle.rules.specs.Table.{What, field, group, Field, Entry}
 use Rattle.rules.specs.Use.{as-stored, value-items, items-of}
 use Rattle.tables.specs.Entries.{blank, is-group}
 use Rattle.tables.specs.Groups.{field-by, field-at, with-field}
-use Rattle.tables.proofs.Bools.{clash}
 use Rattle.format_buffer.specs.Elements.{range}
 use Rattle.uses.specs.Meant.{asked-by, asked-of, fields-from, use-meant}
 use Rattle.uses.specs.declared.Span.{Span}
@@ -34,10 +33,10 @@ asked-stored es s b e = rw e
 with-its-field : (n : ℕ) (w : What) (fs : List Field) → is-group w ≡ false → with-field n w fs ≡ field-by n w ∷ fs
 unfolding field-by
 with-its-field n (field f s m) fs e = refl
-with-its-field n (group p) fs e = clash e
+with-its-field n (group p) fs e = absurd (true≢false e)
 
 with-no-field : (n : ℕ) (w : What) (fs : List Field) → is-group w ≡ true → with-field n w fs ≡ fs
-with-no-field n (field f s m) fs e = clash (sym e)
+with-no-field n (field f s m) fs e = absurd (false≢true e)
 with-no-field n (group p) fs e = refl
 
 module _ (es : List Entry) (k end : ℕ) where

@@ -1,6 +1,6 @@
 -- The use rules of indexes, by the tests that the code makes.
 use mathlib.Core.Path.{_≡_, refl, ap}
-use mathlib.Core.Bool.{Bool, true, false, _&&_}
+use mathlib.Core.Bool.{Bool, true, false, _&&_, and-true}
 use mathlib.Core.Option.{Option, none, some}
 use Prim.Native.Nat.{ℕ, suc, _≤_}
 use borrow.Author.Tests.{leb-true}
@@ -10,7 +10,7 @@ use Rattle.rules.specs.Limits.{highest-index}
 use Rattle.rules.specs.Format.{Range}
 use Rattle.rules.specs.Use.{Spread, just, in-order, spread}
 use Rattle.rules.proofs.Steps.{from-need, done-inj, not-done}
-use Rattle.tables.proofs.Bools.{and-true, and-both}
+use Rattle.rules.proofs.Bools.{and-both}
 use Rattle.uses.specs.Spread.{ranged}
 
 -- Two ranges are in order, or one of them is not.

@@ -6,8 +6,6 @@ use lib.ListN.{replicate, length-replicate, getD-replicate}
 use Rattle.buffer.proofs.Loops.{Up, up-start, up-turn, up-end}
 use Rattle.buffer.proofs.fill.Statement.{statement}
 use Rattle.buffer.proofs.fill.Tie as tie
-use Rattle.buffer.proofs.fill.Reads as reads
-use Rattle.buffer.proofs.fill.Lts as lts
 
 abbrev Inv-loop : tie.InvT-loop
 Inv-loop out₀ at n b i₀ out i = Up at n (replicate n b) out₀ out i

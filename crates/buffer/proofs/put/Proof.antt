@@ -1,14 +1,11 @@
 -- `buffer::put` meets its contract: the list that it writes is src itself.
 use Prim.Native.Nat.{_-_}
-use native.Mathlib.Omega.{arith}
-use mathlib.Core.Path.{refl, sym}
+use mathlib.Core.Path.{refl}
 use borrow.Author.Needs.{needs}
 use lib.ListN.{length}
 use Rattle.buffer.proofs.Loops.{Up, up-start, up-turn, up-end}
 use Rattle.buffer.proofs.put.Statement.{statement}
 use Rattle.buffer.proofs.put.Tie as tie
-use Rattle.buffer.proofs.put.Reads as reads
-use Rattle.buffer.proofs.put.Lts as lts
 
 abbrev Inv-loop : tie.InvT-loop
 Inv-loop src out₀ at i₀ out i = Up at (length src) src out₀ out i

@@ -2,15 +2,13 @@
 use Prim.Native.Nat.{_+_, _-_, _≤_}
 use native.Mathlib.Omega.{arith}
 use native.Mathlib.Nat.{add-zero, sub-zero}
-use mathlib.Core.Path.{_≡_, refl, sym, _∙_}
+use mathlib.Core.Path.{_≡_, sym, _∙_}
 use borrow.Author.Needs.{needs}
 use lib.ListN.{length, take, drop}
 use Rattle.rules.specs.Lists.{same}
 use Rattle.buffer.proofs.Compared.{same-turn, same-stop, same-end}
 use Rattle.buffer.proofs.stands_at.Statement.{statement}
 use Rattle.buffer.proofs.stands_at.Tie as tie
-use Rattle.buffer.proofs.stands_at.Reads as reads
-use Rattle.buffer.proofs.stands_at.Lts as lts
 
 abbrev Inv-loop : tie.InvT-loop
 Inv-loop s at t i₀ i = (i ≤ length t) × (same (take (length t - i) (drop (at + i) s)) (drop i t) ≡ same (take (length t) (drop at s)) t)

@@ -1,22 +1,24 @@
 -- `hexadecimal::has_digits` meets its contract: what is left of the word answers as the whole.
-use Prim.Native.Nat.{_-_, _≤_}
-use mathlib.Core.Path.{_≡_, refl, sym, _∙_}
+use Prim.Native.Nat.{_-_}
 use native.Mathlib.Omega.{arith}
-use lib.ListN.{length, drop}
-use Rattle.hexadecimal.specs.Text.{all-of-base}
-use Rattle.hexadecimal.proofs.Scanning.{digits-end, digits-stop, digits-turn}
+use borrow.Author.Tests.{lt-ltb, le-ltb}
+use lib.Dec.{ltb}
+use lib.ListN.{length, getD}
+use lib.Seq.{take-length}
+use Rattle.buffer.proofs.Loops.{Scan, scan-start, scan-turn, scan-stop, scan-end}
+use Rattle.hexadecimal.specs.Text.{value}
 use borrow.Author.Needs.{needs}
 use Rattle.hexadecimal.proofs.has_digits.Statement.{statement}
 use Rattle.hexadecimal.proofs.has_digits.Tie as tie
 
 abbrev Inv-loop : tie.InvT-loop
-Inv-loop base w i₀ i = (i ≤ length w) × (all-of-base base (drop i w) ≡ all-of-base base w)
+Inv-loop base w i₀ i = Scan (λ c. ltb (value c) base) (length w) w i
 
 abbrev μ-loop : tie.MeasureT-loop
 μ-loop base w i₀ i = length w - i
 
 loop-holds : tie.Need-loop-holds Inv-loop μ-loop
-loop-holds c = (search needs, refl)
+loop-holds c = scan-start (omega arith)
 
 shared-slice-read-value-of : tie.Need-shared-slice-read-value-of Inv-loop μ-loop
 shared-slice-read-value-of c = search needs
@@ -35,20 +37,18 @@ loop-again c =
     let l = c .before .before .before .before in
     let a = l .before .before .args in
     let e = c .before .value-of .ensures in
-    (omega arith, digits-turn (a .base) (l .loop .i) (a .w .now) (omega arith) (omega arith) ∙ l .loop .inv .1)
+    scan-turn (l .loop .inv) (omega arith) (lt-ltb (value (getD (a .w .now) (l .loop .i) 0)) (a .base) (omega arith))
 
 returns : tie.Need-returns Inv-loop μ-loop
 returns c =
     let l = c .before .before .before .before in
     let a = l .before .before .args in
     let e = c .before .value-of .ensures in
-    sym (digits-stop (a .base) (l .loop .i) (a .w .now) (omega arith) (omega arith)) ∙ l .loop .inv .1
+    rw take-length at (scan-stop (l .loop .inv) (omega arith) (le-ltb (value (getD (a .w .now) (l .loop .i) 0)) (a .base) (omega arith)))
 
 returns-2 : tie.Need-returns-2 Inv-loop μ-loop
 returns-2 c =
-    let l = c .before in
-    let a = l .before .before .args in
-    sym (digits-end (a .base) (l .loop .i) (a .w .now) (c .loop-test .left)) ∙ l .loop .inv .1
+    rw take-length at (scan-end (c .before .loop .inv) (c .loop-test .left))
 
 pub has-digits-spec : {M : Type 1} → statement M
 has-digits-spec =

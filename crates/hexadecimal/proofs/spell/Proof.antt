@@ -3,18 +3,19 @@ use Prim.Native.Nat.{_-_, _≤_, _<_, _^_}
 use mathlib.Core.Path.{_≡_, refl, sym, _∙_}
 use mathlib.Core.List.{map}
 use native.Mathlib.Omega.{arith}
-use lib.ListN.{length, drop}
+use lib.ListN.{length, drop, length-map}
 use Rattle.rules.specs.Lists.{spelled}
+use Rattle.rules.proofs.Digits.{spelled-turn, spelled-end}
 use Rattle.rules.proofs.Steps.{true-T}
 use Rattle.hexadecimal.specs.Text.{value, spelled-number}
 use Rattle.hexadecimal.proofs.Scanning.{digit-at}
-use Rattle.hexadecimal.proofs.Numbers.{spelled-turn, spelled-end, below-turn, below-million}
+use Rattle.hexadecimal.proofs.Numbers.{map-at, below-turn, below-million}
 use borrow.Author.Needs.{needs}
 use Rattle.hexadecimal.proofs.spell.Statement.{statement}
 use Rattle.hexadecimal.proofs.spell.Tie as tie
 
 abbrev Inv-loop : tie.InvT-loop
-Inv-loop w n₀ i₀ n i = (i ≤ length w) × (n < 10 ^ i) × (spelled 10 (map value (drop i w)) n ≡ spelled-number w)
+Inv-loop w n₀ i₀ n i = (i ≤ length w) × (n < 10 ^ i) × (spelled 10 (drop i (map value w)) n ≡ spelled-number w)
 
 abbrev μ-loop : tie.MeasureT-loop
 μ-loop w n₀ i₀ n i = length w - i
@@ -53,12 +54,18 @@ loop-again c =
     let s = l .before .before in
     let d = digit-at 10 (l .loop .i) (s .args .w .now) (true-T (s .pre .1)) (omega arith) in
     let v = c .wide .ensures ∙ c .before .value-of .ensures in
-    (omega arith, rw v (below-turn (l .loop .i) (l .loop .n) _ (l .loop .inv .1) d), rw v (spelled-turn (l .loop .i) (l .loop .n) (s .args .w .now) (omega arith) ∙ l .loop .inv .2))
+    let w = s .args .w .now in
+    let m = map-at value w (l .loop .i) (omega arith) in (
+      omega arith,
+      rw v (below-turn (l .loop .i) (l .loop .n) _ (l .loop .inv .1) d),
+      rw (v, ← m) (spelled-turn 10 (map value w) (l .loop .i) (l .loop .n) (omega (arith, length-map w value)) ∙ l .loop .inv .2),
+    )
 
 returns : tie.Need-returns Inv-loop μ-loop
 returns c =
     let l = c .before in
-    sym (spelled-end (l .loop .i) (l .loop .n) (l .before .before .args .w .now) (c .loop-test .left)) ∙ l .loop .inv .2
+    let w = l .before .before .args .w .now in
+    sym (spelled-end 10 (map value w) (l .loop .i) (l .loop .n) (omega (arith, length-map w value))) ∙ l .loop .inv .2
 
 pub spell-spec : {M : Type 1} → statement M
 spell-spec =

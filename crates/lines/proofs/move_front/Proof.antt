@@ -4,7 +4,8 @@ use Prim.Native.Nat.{_-_}
 use mathlib.Core.Path.{_≡_, refl, sym}
 use lib.ListN.{take, drop}
 use Rattle.buffer.proofs.Loops.{Up, up-start, up-turn, up-end}
-use Rattle.lines.proofs.Moving.{move-none, length-moved, move-turn}
+use Rattle.buffer.proofs.Laws.{length-part}
+use Rattle.lines.proofs.Moving.{move-none, move-turn}
 use borrow.Author.Needs.{needs}
 use Rattle.lines.proofs.move_front.Statement.{statement}
 use Rattle.lines.proofs.move_front.Tie as tie
@@ -26,7 +27,7 @@ sub-n c = search needs
 loop-holds : tie.Need-loop-holds Inv-loop μ-loop
 loop-holds c =
     let s = c .before in
-    (refl, up-start (length-moved (s .args .s .now) (s .args .from) (s .args .to) (s .pre .0) (s .pre .1)) (search needs))
+    (refl, up-start (length-part (s .args .s .now) (s .args .from) (s .args .to) (s .pre .0) (s .pre .1)) (search needs))
 
 add-s : tie.Need-add-s Inv-loop μ-loop
 add-s c = search needs

@@ -1,11 +1,11 @@
 -- `reading::spans::width` meets its contract: the fields have a width, or are not all plain.
 use mathlib.Core.Path.{sym, _∙_, subst}
+use mathlib.Core.Bool.{true≢false}
 use Prim.Native.Nat.{_*_}
 use native.Mathlib.Omega.{arith}
 use lib.Seq.{slice}
 use Rattle.rules.specs.Limits.{most-entries}
 use Rattle.tables.specs.Entries.{entries-of}
-use Rattle.tables.proofs.Bools.{clash}
 use Rattle.records.specs.Counts.{greatest-byte}
 use Rattle.tables.specs.Groups.{fields-in}
 use Rattle.records.specs.Paths.{Width}
@@ -30,7 +30,7 @@ returns c p =
 returns-2 : tie.Need-returns-2
 returns-2 c p =
     let a = c .before .before .before .before .args in
-    clash (sym p ∙ subst (Width (fields-in (slice (a .s .first) (a .s .end) (entries-of (a .t .now)))) (most-entries * greatest-byte)) (c .enum-told .given .1) (c .before .before .width-of .ensures))
+    absurd (true≢false (sym p ∙ subst (Width (fields-in (slice (a .s .first) (a .s .end) (entries-of (a .t .now)))) (most-entries * greatest-byte)) (c .enum-told .given .1) (c .before .before .width-of .ensures)))
 
 pub width-spec : {M : Type 1} → statement M
 width-spec = tie.close (tie.spec width-of-requires enum-known-found enum-told returns returns-2)

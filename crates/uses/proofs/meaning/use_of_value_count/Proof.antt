@@ -1,9 +1,9 @@
 -- `uses::meaning::use_of_value_count` meets its contract: the tests that led to each return settle the rule.
 use mathlib.Core.Path.{refl, sym, _∙_}
+use mathlib.Core.Bool.{true≢false}
 use native.Mathlib.Omega.{arith}
 use Rattle.format_buffer.specs.Elements.{range}
 use Rattle.rules.specs.Use.{in-order}
-use Rattle.tables.proofs.Bools.{clash}
 use Rattle.uses.proofs.Spreading.{ordered-within}
 use Rattle.uses.proofs.Settling.{refuse, count-outside, count-outside-indexed, count-inside, count-inside-bare, count-inside-broken}
 use borrow.Author.Needs.{needs}
@@ -27,7 +27,7 @@ returns c =
     record {
       answer = λ f. rw (i, c .before .before .before .if2 .taken, ← c .before .before .wide .ensures)
           (sym (count-inside _ _ _ (s .pre .2) o));
-      held = λ f. let w = ordered-within (range (c .before .before .wide .result) (c .before .before .wide .result)) o in (s .pre .1, s .pre .2, w .0, w .2, λ e. clash (sym i ∙ e));
+      held = λ f. let w = ordered-within (range (c .before .before .wide .result) (c .before .before .wide .result)) o in (s .pre .1, s .pre .2, w .0, w .2, λ e. absurd (true≢false (sym i ∙ e)));
     }
 
 returns-2 : tie.Need-returns-2
