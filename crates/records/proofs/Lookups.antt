@@ -13,8 +13,9 @@ use Rattle.rules.specs.Lists.{Bytes}
 use Rattle.rules.specs.Values.{Format}
 use Rattle.rules.specs.Table.{field, group, Entry, Field, Part, fields-below, alone, part-of, parts-from, member}
 use Rattle.rules.specs.Record.{Occurrence, Record, each, stored-cell, stored-part, cell-of, values-at, group-count-at}
+use Rattle.tables.specs.Places.{inside-from}
 use Rattle.records.specs.Walk.{start-of}
-use Rattle.records.specs.Where.{inside-from, First, Deeper}
+use Rattle.records.specs.Where.{First, Deeper}
 use Rattle.records.proofs.Cells.{each-first, counted-once}
 use Rattle.records.proofs.Groups.{member-below}
 use Rattle.records.proofs.Entries.{never, first-within, first-name}

@@ -13,8 +13,9 @@ use Rattle.rules.specs.Table.{What, field, group, Entry, Field, Part, is-inside
 use Rattle.rules.specs.Record.{Record, each, stored-part, values-at, group-count-at}
 use Rattle.rules.proofs.Steps.{by-test}
 use Rattle.tables.specs.Entries.{is-periodic}
+use Rattle.tables.specs.Places.{inside-from}
 use Rattle.records.specs.Walk.{rest-of, behind, start-of}
-use Rattle.records.specs.Where.{inside-from, First, field-of}
+use Rattle.records.specs.Where.{First, field-of}
 use Rattle.records.proofs.Cells.{each-first}
 use Rattle.records.proofs.EmptyEntries.{inside-periodic, inside-deeper}
 

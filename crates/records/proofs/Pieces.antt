@@ -18,9 +18,10 @@ use Rattle.rules.proofs.Readers.{value-sound}
 use Rattle.buffer.proofs.Cases.{by-order}
 use Rattle.tables.specs.Entries.{blank, is-group, is-multiple, is-periodic}
 use Rattle.tables.specs.Groups.{field-at, fields-in}
-use Rattle.tables.specs.Places.{inside-at, inside-before}
+use Rattle.tables.specs.Places.{inside-from, inside-at}
+use Rattle.tables.proofs.Periodic.{inside-by}
 use Rattle.records.specs.Walk.{rest-of, bytes-left, behind, start-of}
-use Rattle.records.specs.Where.{inside-from, field-of}
+use Rattle.records.specs.Where.{field-of}
 use Rattle.records.specs.Places.{Is-record, values-of, Outside, Celled, Piece-of}
 use Rattle.records.specs.declared.places.Extent.the-variants.{At}
 use Rattle.records.proofs.Entries.{never}
@@ -28,7 +29,7 @@ use Rattle.records.proofs.Cells.{counted-once}
 use Rattle.records.proofs.Ends.{each-single, behind-outside}
 use Rattle.records.proofs.Groups.{fields-first}
 use Rattle.records.proofs.Passing.{reach}
-use Rattle.records.proofs.Placed.{whole-body, field-is, inside-same, cell-outside}
+use Rattle.records.proofs.Placed.{whole-body, field-is, cell-outside}
 
 -- What stands from the next entry on, and after the last.
 start-next : (before : Bool) (es : List Entry) (d : Entry) (bs : Bytes) (j : ℕ) → suc j < length es
@@ -58,8 +59,8 @@ values-append es r o (x ∷ xs) ys = ap (λ (bs : Bytes). join (values-at (parts
     ∙ sym (append-assoc (join (values-at (parts es) r (x .name) o)) (values-of es r o xs) (values-of es r o ys))
 
 pub inside-group : (es : List Entry) (j : ℕ) → getD es j blank .what ≡ group true → inside-at es j ≡ true
-unfolding inside-at inside-before inside-of
-inside-group es j q = ap (inside-of (inside-before es j) (getD es j blank .level)) q
+unfolding inside-of
+inside-group es j q = inside-by false es j λ b e. e ∙ ap (inside-of b (getD es j blank .level)) q
 
 module _ {es : List Entry} {b : Bytes} {places : List ℕ} {r : Record} (held : Is-record es b places r) (named : differ (names es) ≡ true) where
   abbrev from : ℕ → Bytes
@@ -67,7 +68,7 @@ module _ {es : List Entry} {b : Bytes} {places : List ℕ} {r : Record} (held : 
 
   module _ (j : ℕ) (less : j < length es) where
     abbrev left : Outcome Bytes
-    left = behind (inside-from false es j) (getD es j blank) (drop (suc j) es) (from j)
+    left = behind (inside-at es j) (getD es j blank) (drop (suc j) es) (from j)
 
     last-left : length es ≤ suc j → {mid : Bytes} → left ≡ done mid → mid ≡ []
     unfolding parts parts-from behind
@@ -88,12 +89,12 @@ module _ {es : List Entry} {b : Bytes} {places : List ℕ} {r : Record} (held : 
         let own : Field = record { name = getD es j blank .name; format = f; size = s; multiple = mu } in
         let vs = values-at (parts es) r (getD es j blank .name) 1 in
         let d : stored-cell own (from j) ≡ done (vs, mid) = rw (field-is es j f s mu q) at (ap (stored-cell (field-at es j)) (sym (held .starts j less .1)) ∙ c) in
-        let e = behind-outside (inside-from false es j) (getD es j blank) (drop (suc j) es) (from j) (ap is-periodic q) (inside-same es j less ∙ out)
+        let e = behind-outside (inside-at es j) (getD es j blank) (drop (suc j) es) (from j) (ap is-periodic q) out
         ∙ ap (λ (w : What). rest-of (each stored-cell (field-of (getD es j blank .name) w) (from j))) q ∙ each-single stored-cell own (from j) ∙ ap rest-of d in
         once-bytes mu f s (from j) m d ∙ rw (append-nil (join vs), next-left e) refl
     step-by out (group true) q m = absurd (never out (inside-group es j q))
     step-by out (group false) q m = sym (next-left
-        (behind-outside (inside-from false es j) (getD es j blank) (drop (suc j) es) (from j) (ap is-periodic q) (inside-same es j less ∙ out)
+        (behind-outside (inside-at es j) (getD es j blank) (drop (suc j) es) (from j) (ap is-periodic q) out
         ∙ ap (λ (w : What). rest-of (each stored-cell (field-of (getD es j blank .name) w) (from j))) q))
 
   chain : (n first end : ℕ) → first + n ≡ end → end ≤ length es → Outside es first end → from first ≡ values-of es r 1 (fields-in (slice first end es)) ++ from end

@@ -2,7 +2,7 @@
 use mathlib.Core.Path.{_≡_, refl, sym, _∙_, ap}
 use mathlib.Core.Bool.{Bool, true, false}
 use mathlib.Core.List.{List, []}
-use Prim.Native.Nat.{ℕ, zero, suc, _+_, _-_, _≤_, _<_}
+use Prim.Native.Nat.{ℕ, suc, _+_, _-_, _≤_, _<_}
 use native.Mathlib.Numerals.{add-one}
 use native.Mathlib.Omega.{arith}
 use lib.Dec.{leb}
@@ -12,24 +12,24 @@ use Rattle.rules.specs.Outcome.{done, is-done}
 use Rattle.rules.specs.Limits.{longest-record, record-head-size}
 use Rattle.rules.specs.Lists.{Bytes, same, nothing}
 use Rattle.rules.specs.Values.{Format}
-use Rattle.rules.specs.Table.{What, field, group, Entry, Part, is-inside, fields-below, names, differ, parts}
+use Rattle.rules.specs.Table.{What, field, group, Entry, Part, fields-below, names, differ, parts}
 use Rattle.rules.specs.Record.{Record, Occurrence, record-head, times, counted, each, stored-value, stored-cell, stored-part, stored, group-count-at, values-at, value-count-at}
 use Rattle.rules.proofs.Steps.{from-bind, from-need, nothing-eq, done-inj, not-done, true-T, by-outcome}
 use Rattle.buffer.proofs.Cases.{by-order}
 use Rattle.tables.specs.Entries.{blank, is-group, is-multiple, is-periodic, size-of, format-at, format-number}
-use Rattle.tables.specs.Places.{inside-at, inside-before, Home}
+use Rattle.tables.specs.Places.{inside-at, Home}
 use Rattle.tables.specs.Groups.{group-end, field-by, field-at, fields-in}
 use Rattle.value_formats.proofs.Letters.{number-back}
 use Rattle.tables.proofs.EntryFields.{field-periodic}
 use Rattle.tables.proofs.Nesting.{run-levels}
 use Rattle.records.specs.Walk.{rest-of, Walked, Ends, firsts, directory, occurrence, Checked}
-use Rattle.records.specs.Where.{inside-from, First, Deeper}
+use Rattle.records.specs.Where.{First, Deeper}
 use Rattle.records.specs.Places.{Is-record, Has-record, Entered, Cell-of}
 use Rattle.records.specs.declared.Reach.the-variants as S
 use Rattle.records.specs.declared.places.Cell.{Cell}
 use Rattle.records.specs.declared.places.Cell.the-variants.{At, Nothing}
 use Rattle.records.proofs.Cells.{cell-many, byte-there, times-at}
-use Rattle.records.proofs.Entries.{never, differ-first, inside-first, inside-next}
+use Rattle.records.proofs.Entries.{never, differ-first}
 use Rattle.records.proofs.Ends.{group-fields, group-within, rows-some}
 use Rattle.records.proofs.Checking.{each-off}
 use Rattle.records.proofs.Groups.{fields-split}
@@ -72,12 +72,6 @@ pub cell-numbers : (es : List Entry) (i : ℕ) (bs : Bytes) → is-group (getD e
 unfolding stored-cell
 cell-numbers es i bs h = by-field (getD es i blank .what) h λ f s mu w. rw (field-is es i f s mu w, w, number-back f) refl
 
--- Both ways to say that an entry lies in a periodic group.
-pub inside-same : (es : List Entry) (i : ℕ) → i < length es → inside-from false es i ≡ inside-at es i
-unfolding inside-at inside-before
-inside-same es zero h = inside-first false es blank h
-inside-same es (suc i) h = inside-next false es blank i h ∙ ap (λ (p : Bool). is-inside p (getD es (suc i) blank)) (inside-same es i (omega arith))
-
 home-deeper : (es : List Entry) (i g : ℕ) → Home es i g → Deeper es blank g i
 home-deeper es i g home k p q =
     let z : suc g + (k - suc g) ≡ k = omega arith in
@@ -103,7 +97,7 @@ module _ {es : List Entry} {b : Bytes} {places : List ℕ} {r : Record} (held : 
   cell-outside i o less what out one =
       body (parts es) b r (held .stands) λ rest h.
       by-field (getD es i blank .what) what λ f s mu w.
-      outside false es (drop record-head-size b) r rest h blank (getD es i blank .name) i f s mu (own-name i less) (inside-same es i less ∙ out) w λ mid q.
+      outside false es (drop record-head-size b) r rest h blank (getD es i blank .name) i f s mu (own-name i less) out w λ mid q.
       let p = held .starts i less in
       (p .0, mid, rw (field-is es i f s mu w, p .1, one) q)
 

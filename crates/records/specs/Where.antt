@@ -1,18 +1,12 @@
--- Which entry a name stands for, and which entries lie in a periodic group, by their numbers in the table.
+-- Which entry a name stands for, and which entries lie in a group, by their numbers in the table.
 use mathlib.Core.Path.{_≡_}
-use mathlib.Core.Bool.{Bool, true, false}
+use mathlib.Core.Bool.{true, false}
 use mathlib.Core.List.{List, [], _∷_}
 use Prim.Native.Nat.{ℕ, zero, suc, _≤_, _<_}
 use lib.Dec.{eqb}
 use lib.ListN.{getD}
-use Rattle.rules.specs.Table.{What, Entry, Field, is-inside}
+use Rattle.rules.specs.Table.{What, Entry, Field}
 use Rattle.tables.specs.Groups.{with-field}
-
--- Whether entry j is a periodic group or lies in one.
-unfoldable pub inside-from : Bool → List Entry → ℕ → Bool
-inside-from before [] j = false
-inside-from before (e ∷ es) zero = is-inside before e
-inside-from before (e ∷ es) (suc j) = inside-from (is-inside before e) es j
 
 -- Entry j is the first with the name n.
 abbrev pub First : ℕ → List Entry → ℕ → Type 0

@@ -12,7 +12,8 @@ use Rattle.tables.specs.Entries.{blank, is-periodic}
 use Rattle.tables.specs.Places.{inside-at, Home}
 use Rattle.tables.specs.Groups.{run-below}
 use Rattle.tables.proofs.EntryBytes.{Sound}
-use Rattle.tables.proofs.Nesting.{run-more, inside-up, inside-one, periodic-what, first-level}
+use Rattle.tables.proofs.Periodic.{inside-up, inside-one}
+use Rattle.tables.proofs.Nesting.{run-more, periodic-what, first-level}
 
 pub record Climb (es : List Entry) (i j : ℕ) : Type 0 where
   pub upto : j ≤ i

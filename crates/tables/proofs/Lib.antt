@@ -4,6 +4,7 @@ pub mod Levels
 pub mod Marks
 pub mod Tables
 pub mod Names
+pub mod Periodic
 pub mod Nesting
 pub mod Walks
 pub mod Climbs

@@ -1,6 +1,6 @@
 -- Levels by entry number, and the run of entries below a group: its length, its fields' numbers, and that it lies in a periodic group where the group does.
 use mathlib.Core.Path.{_≡_, refl, sym, ap, subst, _∙_}
-use mathlib.Core.Bool.{Bool, true, false, _||_, and-true, and-false, or-false, true≢false, false≢true}
+use mathlib.Core.Bool.{Bool, true, false, true≢false, false≢true}
 use mathlib.Core.List.{List, [], _∷_, _++_, map}
 use Prim.Native.Nat.{ℕ, zero, suc, _+_, _-_, _≤_, _<_}
 use native.Mathlib.Nat.{le-of-suc-le-suc, not-suc-le-zero, add-zero, suc-add}
@@ -11,17 +11,18 @@ use lib.Dec.{eqb, leb}
 use lib.ListN.{length, getD, drop, drop-of-length-le, length-drop}
 use lib.Seq.{drop-drop, getD-drop}
 use Rattle.rules.specs.Limits.{deepest-level}
-use Rattle.rules.specs.Table.{What, field, group, Field, Entry, levels, inside-of, fields-below}
+use Rattle.rules.specs.Table.{What, field, group, Field, Entry, levels, fields-below}
 use Rattle.rules.proofs.Steps.{by-test}
 use Rattle.rules.proofs.Bools.{and-both}
 use Rattle.buffer.proofs.Cases.{by-order}
 use Rattle.tables.specs.Entries.{blank, is-group, is-periodic}
 use Rattle.tables.specs.Validity.{follows}
-use Rattle.tables.specs.Places.{inside-before, inside-at}
+use Rattle.tables.specs.Places.{inside-at}
 use Rattle.tables.specs.Groups.{run-below, group-end, numbers-below, with-number, with-field, field-by, field-at}
 use Rattle.tables.proofs.EntryFields.{rest-at}
 use Rattle.tables.proofs.Levels.{mark, levels-cons, levels-nil}
 use Rattle.tables.proofs.EntryBytes.{Sound}
+use Rattle.tables.proofs.Periodic.{inside-up}
 
 -- ---- levels
 
@@ -80,28 +81,6 @@ module _ (es : List Entry) (v : levels (group false) 0 es ≡ true) where
   pub group-next : (i : ℕ) → i < length es → is-group (getD es i blank .what) ≡ true
       → (suc i < length es) × (getD es (suc i) blank .level ≡ suc (getD es i blank .level))
   group-next = next-from true 0 es v
-
--- ---- inside a periodic group
-
-inside-deeper : (b : Bool) (l : ℕ) (w : What) → 1 < l → Sound l w → inside-of b l w ≡ b
-unfolding inside-of
-inside-deeper b l (field f n m) h s = rw (lt-ltb 1 l h) (and-true b)
-inside-deeper b l (group true) h s = absurd (omega (arith, s refl))
-inside-deeper b l (group false) h s = rw (lt-ltb 1 l h) (and-true b)
-
-inside-top : (b : Bool) (l : ℕ) (w : What) → l ≤ 1 → inside-of b l w ≡ is-periodic w
-unfolding inside-of
-inside-top b l (field f n m) h = rw (le-ltb 1 l h) (and-false b)
-inside-top b l (group p) h = rw (le-ltb 1 l h) (ap (λ c. p || c) (and-false b) ∙ or-false p)
-
-module _ (es : List Entry) (i : ℕ) where
-  pub inside-up : 1 < getD es (suc i) blank .level → Sound (getD es (suc i) blank .level) (getD es (suc i) blank .what) → inside-at es (suc i) ≡ inside-at es i
-  unfolding inside-at inside-before
-  inside-up h s = inside-deeper (inside-before es (suc i)) (getD es (suc i) blank .level) (getD es (suc i) blank .what) h s
-
-  pub inside-one : getD es i blank .level ≤ 1 → inside-at es i ≡ is-periodic (getD es i blank .what)
-  unfolding inside-at inside-before
-  inside-one h = inside-top (inside-before es i) (getD es i blank .level) (getD es i blank .what) h
 
 pub periodic-what : (w : What) → is-periodic w ≡ true → w ≡ group true
 periodic-what (field f n m) e = absurd (false≢true e)

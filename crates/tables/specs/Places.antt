@@ -1,7 +1,7 @@
 -- An entry by its number: whether it is a periodic group or in one, and what a look-up of its name finds.
 use mathlib.Core.Path.{_≡_}
 use mathlib.Core.Bool.{Bool, true, false}
-use mathlib.Core.List.{List}
+use mathlib.Core.List.{List, [], _∷_}
 use Prim.Native.Nat.{ℕ, zero, suc, _+_, _<_, _≤_}
 use lib.ListN.{length, getD, drop}
 use Rattle.rules.specs.Outcome.{done, refused}
@@ -15,14 +15,15 @@ use Rattle.tables.specs.Groups.{run-below}
 use Rattle.tables.specs.declared.Found.{Found}
 use Rattle.tables.specs.declared.Found.the-variants.{At, Nothing}
 
--- Whether the entry before entry i is a periodic group or in one.
-unfoldable pub inside-before : List Entry → ℕ → Bool
-inside-before es zero = false
-inside-before es (suc i) = is-inside (inside-before es i) (getD es i blank)
+-- Whether entry i is a periodic group or in one, where the entry before the first is, or is not.
+unfoldable pub inside-from : Bool → List Entry → ℕ → Bool
+inside-from before [] i = false
+inside-from before (e ∷ es) zero = is-inside before e
+inside-from before (e ∷ es) (suc i) = inside-from (is-inside before e) es i
 
--- Whether entry i is.
-unfoldable pub inside-at : List Entry → ℕ → Bool
-inside-at es i = inside-before es (suc i)
+-- Whether entry i of a table is.
+abbrev pub inside-at : List Entry → ℕ → Bool
+inside-at es i = inside-from false es i
 
 unfoldable pub found-at : List Entry → ℕ → Use.Found
 found-at es i = record { entry = getD es i blank; inside = inside-at es i; behind = drop (suc i) es }

@@ -18,10 +18,11 @@ use Rattle.rules.proofs.Steps.{from-bind, from-need, by-test}
 use Rattle.rules.proofs.Uses.{by-what}
 use Rattle.buffer.proofs.Cases.{by-order}
 use Rattle.tables.specs.Entries.{Valid, entries-of, blank, is-group, is-periodic}
-use Rattle.tables.specs.Places.{inside-at, inside-before, Home}
+use Rattle.tables.specs.Places.{inside-at, Home}
 use Rattle.tables.specs.Groups.{run-below, group-end}
 use Rattle.tables.proofs.Tables.{valid-sound}
 use Rattle.tables.proofs.Known.{level-known, member-next, one-entry, periodic-level}
+use Rattle.tables.proofs.Periodic.{inside-next}
 use Rattle.tables.proofs.Nesting.{members-inside, periodic-what, run-nil, run-deeper, run-ends, run-more, run-then}
 
 -- A run, and what is left of it further on.
@@ -94,12 +95,11 @@ stays-outside l (group p) e = rw e refl
 
 module _ (es : List Entry) where
   outside-on : (i m : ℕ) → inside-at es i ≡ false → ((k : ℕ) → k ≤ m → is-periodic (getD es (i + k) blank .what) ≡ false) → inside-at es (i + m) ≡ false
-  unfolding inside-at inside-before
   outside-on i zero o p = rw (add-zero i) o
   outside-on i (suc m) o p =
       let z : i + suc m ≡ suc (i + m) = omega arith in
       let x = rw z at (p (suc m) (omega arith)) in
-      rw (z, outside-on i m o (λ k l. p k (omega arith))) (stays-outside (getD es (suc (i + m)) blank .level) (getD es (suc (i + m)) blank .what) x)
+      rw (z, inside-next false es (i + m), outside-on i m o (λ k l. p k (omega arith))) (stays-outside (getD es (suc (i + m)) blank .level) (getD es (suc (i + m)) blank .what) x)
 
 module _ (t : Bytes) (v : Valid t) (i j : ℕ) (h : i < length (entries-of t)) (k : j < length (entries-of t)) (o : inside-at (entries-of t) i ≡ false) (fs : List Field) where
   pub series-outside : fields-to (getD (entries-of t) j blank .name) (drop i (entries-of t)) ≡ done fs → (m : ℕ) → i ≤ m → m ≤ j → inside-at (entries-of t) m ≡ false

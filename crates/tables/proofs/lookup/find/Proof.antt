@@ -1,14 +1,13 @@
--- `tables::lookup::find` meets its contract: what is left of the entries finds the same as the whole.
+-- `tables::lookup::find` meets its contract: no entry before the one that the loop stands at has the name.
 use mathlib.Core.Path.{_≡_, sym, ap, _∙_}
+use native.Mathlib.Nat.{not-suc-le-zero}
 use native.Mathlib.Omega.{arith}
 use Prim.Native.Nat.{_≤_, _-_}
 use borrow.Author.Tests.{eqb-true, eqb-false}
-use lib.ListN.{length, drop}
-use Rattle.rules.specs.Use.{find, find-from}
+use lib.ListN.{length}
 use Rattle.tables.specs.Entries.{entries-of}
-use Rattle.tables.specs.Places.{inside-before}
 use Rattle.tables.specs.declared.Entry.{Entry}
-use Rattle.tables.proofs.Names.{find-start, find-here, find-next, find-none}
+use Rattle.tables.proofs.Names.{None-before, none-next, find-here, find-none}
 use Rattle.tables.proofs.EntryBytes.{name-bytes}
 use Rattle.tables.proofs.Tables.{valid-reach, valid-decoded}
 use borrow.Author.Needs.{needs}
@@ -16,7 +15,7 @@ use Rattle.tables.proofs.lookup.find.Statement.{statement}
 use Rattle.tables.proofs.lookup.find.Tie as tie
 
 abbrev Inv-loop : tie.InvT-loop
-Inv-loop t name n a b i₀ i = (n ≡ length (entries-of t)) × (i ≤ n) × (find-from (inside-before (entries-of t) i) name (drop i (entries-of t)) ≡ find name (entries-of t))
+Inv-loop t name n a b i₀ i = (n ≡ length (entries-of t)) × (i ≤ n) × None-before name (entries-of t) i
 
 abbrev μ-loop : tie.MeasureT-loop
 μ-loop t name n a b i₀ i = n - i
@@ -31,7 +30,7 @@ cast-b : tie.Need-cast-b Inv-loop μ-loop
 cast-b c = omega arith
 
 loop-holds : tie.Need-loop-holds Inv-loop μ-loop
-loop-holds c = (c .count .ensures, omega arith, find-start _ _ 0)
+loop-holds c = (c .count .ensures, omega arith, λ k l q. not-suc-le-zero l)
 
 named-in-requires : tie.Need-named-in-requires Inv-loop μ-loop
 named-in-requires c κs = let s = c .before .before .before .before in valid-reach (s .args .t .now) (s .pre) (c .before .loop .i) (omega arith)
@@ -42,7 +41,7 @@ returns c =
     let s = l .before .before .before in
     let q = valid-decoded (s .args .t .now) (s .pre) (l .loop .i) (omega arith) in (
       omega arith,
-      sym (l .loop .inv .2) ∙ find-here (entries-of (s .args .t .now)) _ (l .loop .i) (omega arith) (sym (ap (λ (r : Entry). r .name) q) ∙ eqb-true _ _ (sym (c .before .named-in .ensures) ∙ c .if1 .taken) ∙ name-bytes (s .args .name)),
+      find-here _ (entries-of (s .args .t .now)) (l .loop .i) (omega arith) (l .loop .inv .2) (sym (ap (λ (r : Entry). r .name) q) ∙ eqb-true _ _ (sym (c .before .named-in .ensures) ∙ c .if1 .taken) ∙ name-bytes (s .args .name)),
     )
 
 add-i : tie.Need-add-i Inv-loop μ-loop
@@ -56,13 +55,13 @@ loop-again c =
     let l = c .before .before .before in
     let s = l .before .before .before in
     let q = ap (λ (r : Entry). r .name) (valid-decoded (s .args .t .now) (s .pre) (l .loop .i) (omega arith)) in
-    (l .loop .inv .0, omega arith, find-next (entries-of (s .args .t .now)) _ (l .loop .i) (omega arith) (λ e. eqb-false _ _ (sym (c .before .named-in .ensures) ∙ c .if1 .left) (q ∙ e ∙ sym (name-bytes (s .args .name)))) ∙ l .loop .inv .2)
+    (l .loop .inv .0, omega arith, none-next _ (entries-of (s .args .t .now)) (l .loop .i) (l .loop .inv .2) (λ e. eqb-false _ _ (sym (c .before .named-in .ensures) ∙ c .if1 .left) (q ∙ e ∙ sym (name-bytes (s .args .name)))))
 
 returns-2 : tie.Need-returns-2 Inv-loop μ-loop
 returns-2 c =
     let l = c .before in
     let s = l .before .before .before in
-    sym (l .loop .inv .2) ∙ find-none (entries-of (s .args .t .now)) _ (l .loop .i) (omega arith)
+    find-none _ (entries-of (s .args .t .now)) (λ k less. l .loop .inv .2 k (omega arith))
 
 pub find-spec : {M : Type 1} → statement M
 find-spec =
