@@ -11,6 +11,10 @@ use borrow.Author.Needs.{needs}
 use Rattle.records.proofs.empty.empty_size.Statement.{statement}
 use Rattle.records.proofs.empty.empty_size.Tie as tie
 
+-- Where the function begins, seen from where the entry is known to add null.
+abbrev start : tie.After-struct-known3 → tie.Start
+start c = c .before .before .before .before .before .before .before .before
+
 entry-at-requires : tie.Need-entry-at-requires
 entry-at-requires c κs = search needs
 
@@ -52,20 +56,22 @@ cast-null-length-2 c = search needs
 
 null-length-requires : tie.Need-null-length-requires
 null-length-requires c κs =
-    let a = c .before .before .before .before .before .before .before .before .args in
+    let s = start c in
+    let a = s .args in
     let w = getD (entries-of (a .t .now)) (a .i) blank .what in
     let e = c .before .before .before .before .before .before .entry-at .ensures in
     let h : format-number w ≡ group-number → ⊥ = (λ z. c .before .before .before .before .if1 .left (ap (λ r. r .format) e ∙ z)) in
-    rw e (entry-small w h, entry-allowed _ w (valid-sound (a .t .now) (c .before .before .before .before .before .before .before .before .pre .0) (a .i) (c .before .before .before .before .before .before .before .before .pre .1)) h)
+    rw e (entry-small w h, entry-allowed _ w (valid-sound (a .t .now) (s .pre .0) (a .i) (s .pre .1)) h)
 
 returns-5 : tie.Need-returns-5
 returns-5 c =
-    let a = c .before .before .before .before .before .before .before .before .before .args in
+    let s = start (c .before) in
+    let a = s .args in
     let w = getD (entries-of (a .t .now)) (a .i) blank .what in
     let e = c .before .before .before .before .before .before .before .entry-at .ensures in
     let h : format-number w ≡ group-number → ⊥ = (λ z. c .before .before .before .before .before .if1 .left (ap (λ r. r .format) e ∙ z)) in
     let m = c .null-length .ensures ∙ ap (λ r. length (null (format-at (r .format)) (r .size))) e in
-    let l = null-short _ _ (entry-small w h) (entry-allowed _ w (valid-sound (a .t .now) (c .before .before .before .before .before .before .before .before .before .pre .0) (a .i) (c .before .before .before .before .before .before .before .before .before .pre .1)) h) in
+    let l = null-short _ _ (entry-small w h) (entry-allowed _ w (valid-sound (a .t .now) (s .pre .0) (a .i) (s .pre .1)) h) in
     (m ∙ sym (ap length (adds-null (a .inside) w h (c .before .before .before .before .if3 .left) (ap (λ r. r .multiple) (sym e) ∙ c .before .before .before .if4 .left))), omega (arith, m))
 
 pub empty-size-spec : {M : Type 1} → statement M

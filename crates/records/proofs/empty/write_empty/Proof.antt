@@ -19,6 +19,10 @@ Inv-loop t out₀ n at₀ inside₀ i₀ out at inside i = (n ≡ length (entrie
 abbrev μ-loop : tie.MeasureT-loop
 μ-loop t out₀ n at₀ inside₀ i₀ out at inside i = n - i
 
+-- Where the function begins, seen from after the record's head is put.
+abbrev start : tie.After-slice-known2 Inv-loop μ-loop → tie.Start Inv-loop μ-loop
+start c = c .before .before .before .before .before .before .before
+
 count-requires : tie.Need-count-requires Inv-loop μ-loop
 count-requires c κs = c .before .before .pre .0
 
@@ -28,7 +32,7 @@ put-head-requires c κs = let s = c .before .before .before .before in omega (ar
 loop-holds : tie.Need-loop-holds Inv-loop μ-loop
 unfolding record-head
 loop-holds c =
-    let s = c .before .before .before .before .before .before .before in
+    let s = start c in
     let p = c .before .before .put-head .ensures in
     let l = ap length (p .1) ∙ length-splice 0 record-head (s .args .out .now) (omega (arith, s .pre .1)) in
     (c .before .before .before .before .count .ensures, record { same = refl; room = omega (arith, s .pre .1, p .0); rest = refl })
@@ -36,13 +40,13 @@ loop-holds c =
 inside-next-requires : tie.Need-inside-next-requires Inv-loop μ-loop
 inside-next-requires c κs =
     let l = c .before in
-    (l .before .before .before .before .before .before .before .before .pre .0, omega (arith, l .loop .inv .0))
+    (start (l .before) .pre .0, omega (arith, l .loop .inv .0))
 
 write-entry-requires : tie.Need-write-entry-requires Inv-loop μ-loop
 write-entry-requires c κs =
     let l = c .before .before .before in
-    let h : l .loop .i < length (entries-of (l .before .before .before .before .before .before .before .before .args .t .now)) = omega (arith, l .loop .inv .0) in
-    (l .before .before .before .before .before .before .before .before .pre .0, h, writing-room (l .loop .inv .1) h _ (c .before .inside-next .ensures))
+    let h : l .loop .i < length (entries-of (start (l .before) .args .t .now)) = omega (arith, l .loop .inv .0) in
+    (start (l .before) .pre .0, h, writing-room (l .loop .inv .1) h _ (c .before .inside-next .ensures))
 
 add-i : tie.Need-add-i Inv-loop μ-loop
 add-i c = search needs
@@ -59,14 +63,14 @@ loop-again c =
 same-length : tie.Need-same-length Inv-loop μ-loop
 unfolding record-head
 same-length c =
-    let s = c .before .before .before .before .before .before .before .before .before in
+    let s = start (c .before .before) in
     let p = c .before .before .before .before .put-head .ensures in
     c .before .loop .inv .1 .same ∙ ap length (p .1) ∙ length-splice 0 record-head (s .args .out .now) (omega (arith, s .pre .1))
 
 returns : tie.Need-returns Inv-loop μ-loop
 unfolding record-head
 returns c =
-    let s = c .before .before .before .before .before .before .before .before .before in
+    let s = start (c .before .before) in
     let p = c .before .before .before .before .put-head .ensures in
     splice-chain 0 record-head (empty-from false (entries-of (s .args .t .now))) (s .args .out .now) _ _ _ (p .1)
     (writing-end (c .before .loop .inv .1) (omega (arith, c .before .loop .inv .0))) (p .0) (omega (arith, s .pre .1))

@@ -16,6 +16,10 @@ use borrow.Author.Needs.{needs}
 use Rattle.records.proofs.empty.write_entry.Statement.{statement}
 use Rattle.records.proofs.empty.write_entry.Tie as tie
 
+-- Where the function begins, seen from where it is known whether the entry adds null.
+abbrev start : tie.After-adds-null → tie.Start
+start c = c .before .before .before .before .before
+
 empty-size-requires : tie.Need-empty-size-requires
 empty-size-requires c κs = search needs
 
@@ -33,10 +37,11 @@ cast-write-null-2 c = search needs
 
 write-null-requires : tie.Need-write-null-requires
 write-null-requires c κs =
-    let s = c .before .before .before .before .before .before .before .before .before in
+    let d = c .before .before .before .before in
+    let s = start d in
     let x = getD (entries-of (s .args .t .now)) (s .args .i) blank in
-    let e = c .before .before .before .before .before .entry-at .ensures in
-    let t : null-entry (s .args .inside) (decoded x) ≡ true = ap (null-entry (s .args .inside)) (sym e) ∙ sym (c .before .before .before .before .adds-null .ensures) ∙ c .before .before .before .if1 .taken in
+    let e = d .before .entry-at .ensures in
+    let t : null-entry (s .args .inside) (decoded x) ≡ true = ap (null-entry (s .args .inside)) (sym e) ∙ sym (d .adds-null .ensures) ∙ c .before .before .before .if1 .taken in
     let y = null-adds (s .args .inside) x t in
     let l = ap length (y .1) in
     rw e (entry-small (x .what) (y .0), entry-allowed _ (x .what) (valid-sound (s .args .t .now) (s .pre .0) (s .args .i) (s .pre .1)) (y .0), omega (arith, s .pre .2))
@@ -49,34 +54,35 @@ same-length c = search needs
 
 returns : tie.Need-returns
 returns c =
-    let s = c .before .before .before .before .before .before .before .before .before .before .before .before in
+    let d = c .before .before .before .before .before .before .before in
+    let s = start d in
     let x = getD (entries-of (s .args .t .now)) (s .args .i) blank in
-    let e = c .before .before .before .before .before .before .before .before .entry-at .ensures in
-    let t : null-entry (s .args .inside) (decoded x) ≡ true = ap (null-entry (s .args .inside)) (sym e) ∙ sym (c .before .before .before .before .before .before .before .adds-null .ensures) ∙ c .before .before .before .before .before .before .if1 .taken in
+    let e = d .before .entry-at .ensures in
+    let t : null-entry (s .args .inside) (decoded x) ≡ true = ap (null-entry (s .args .inside)) (sym e) ∙ sym (d .adds-null .ensures) ∙ c .before .before .before .before .before .before .if1 .taken in
     let y = null-adds (s .args .inside) x t in
-    let z = c .before .before .before .before .before .before .before .before .before .empty-size .ensures .0 in
+    let z = d .before .before .empty-size .ensures .0 in
     (ap (λ n. s .args .at + n) z, c .before .before .write-null .ensures ∙ ap (λ bs. splice (s .args .at) bs (s .args .out .now)) (ap (λ r. null (format-at (r .format)) (r .size)) e ∙ sym (y .1)))
 
 -- The entry adds no null.
-no-null : (c : tie.Else1) → null-entry (c .before .before .before .before .before .before .args .inside) (decoded (getD (entries-of (c .before .before .before .before .before .before .args .t .now)) (c .before .before .before .before .before .before .args .i) blank)) ≡ false
-no-null c = ap (null-entry (c .before .before .before .before .before .before .args .inside)) (sym (c .before .before .entry-at .ensures)) ∙ sym (c .before .adds-null .ensures) ∙ c .if1 .left
+no-null : (c : tie.Else1) → null-entry (start (c .before) .args .inside) (decoded (getD (entries-of (start (c .before) .args .t .now)) (start (c .before) .args .i) blank)) ≡ false
+no-null c = ap (null-entry (start (c .before) .args .inside)) (sym (c .before .before .entry-at .ensures)) ∙ sym (c .before .adds-null .ensures) ∙ c .if1 .left
 
 returns-2 : tie.Need-returns-2
 returns-2 c =
-    let s = c .before .before .before .before .before .before .before in
+    let s = start (c .before .before) in
     let z = c .before .before .before .before .empty-size .ensures .0 in
     let e = nothing-added (s .args .inside) (getD (entries-of (s .args .t .now)) (s .args .i) blank) (sym z ∙ c .if2 .taken) in
     (omega (arith, z, c .if2 .taken), rw e (sym (splice-nil (s .args .at) (s .args .out .now))))
 
 -- It adds a count, where it adds something.
-count-there : (c : tie.Else2) → empty-entry (c .before .before .before .before .before .before .before .args .inside) (getD (entries-of (c .before .before .before .before .before .before .before .args .t .now)) (c .before .before .before .before .before .before .before .args .i) blank .what) ≡ count-bytes 0
+count-there : (c : tie.Else2) → empty-entry (start (c .before .before) .args .inside) (getD (entries-of (start (c .before .before) .args .t .now)) (start (c .before .before) .args .i) blank .what) ≡ count-bytes 0
 count-there c =
-    let a = c .before .before .before .before .before .before .before .args in
+    let a = start (c .before .before) .args in
     count-added (a .inside) (getD (entries-of (a .t .now)) (a .i) blank) (no-null (c .before)) (λ z. c .if2 .left (c .before .before .before .before .empty-size .ensures .0 ∙ z))
 
 put-count-requires : tie.Need-put-count-requires
 unfolding count-bytes
-put-count-requires c κs = let s = c .before .before .before .before .before .before .before .before in (omega arith, omega (arith, s .pre .2, ap length (count-there (c .before))))
+put-count-requires c κs = let s = start (c .before .before .before) in (omega arith, omega (arith, s .pre .2, ap length (count-there (c .before))))
 
 same-length-2 : tie.Need-same-length-2
 same-length-2 c = search needs

@@ -10,6 +10,10 @@ use Rattle.records.proofs.paths.width_at.Statement.{statement}
 use Rattle.records.specs.Counts.{greatest-byte}
 use Rattle.records.proofs.paths.width_at.Tie as tie
 
+-- Where the entry is read, seen from where it is known to be a field of one value.
+abbrev entry : tie.After-struct-known2 → tie.After-entry-at
+entry c = c .before .before .before .before
+
 entry-at-requires : tie.Need-entry-at-requires
 entry-at-requires c κs = search needs
 
@@ -27,9 +31,10 @@ returns-2 c =
 
 returns-3 : tie.Need-returns-3
 returns-3 c =
-    let a = c .before .before .before .before .before .before .before .args in
+    let x = entry (c .before) in
+    let a = x .before .before .args in
     let e = getD (entries-of (a .t .now)) (a .i) blank in
-    let q = c .before .before .before .before .before .entry-at .ensures in
+    let q = x .entry-at .ensures in
     let h : format-number (e .what) ≡ group-number → ⊥ = λ z. c .before .before .before .if1 .left (ap (λ r. r .format) q ∙ z) in
     width-none (e .name) (e .what) h (ap (λ r. r .multiple) (sym q) ∙ c .before .before .if2 .left) (ap (λ r. r .size) (sym q) ∙ c .if3 .taken)
 
@@ -38,12 +43,13 @@ cast-t5 c = search needs
 
 returns-4 : tie.Need-returns-4
 returns-4 c =
-    let a = c .before .before .before .before .before .before .before .before .args in
+    let x = entry (c .before .before) in
+    let a = x .before .before .args in
     let e = getD (entries-of (a .t .now)) (a .i) blank in
-    let q = c .before .before .before .before .before .before .entry-at .ensures in
+    let q = x .entry-at .ensures in
     let h : format-number (e .what) ≡ group-number → ⊥ = λ z. c .before .before .before .before .if1 .left (ap (λ r. r .format) q ∙ z) in
     let n : size-of (e .what) ≡ 0 → ⊥ = λ z. c .before .if3 .left (ap (λ r. r .size) q ∙ z) in
-    let m : c .before .before .before .before .before .before .entry-at .result .size ≤ greatest-byte = omega arith in
+    let m : x .entry-at .result .size ≤ greatest-byte = omega arith in
     rw q (width-plain (e .name) (e .what) h (ap (λ r. r .multiple) (sym q) ∙ c .before .before .before .if2 .left) (omega (arith, n)) (rw q at m))
 
 pub width-at-spec : {M : Type 1} → statement M

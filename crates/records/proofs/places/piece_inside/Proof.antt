@@ -11,6 +11,10 @@ use borrow.Author.Needs.{needs}
 use Rattle.records.proofs.places.piece_inside.Statement.{statement}
 use Rattle.records.proofs.places.piece_inside.Tie as tie
 
+-- Where the function begins, seen from where the entry is found.
+abbrev start : tie.After-known-told → tie.Start
+start c = c .before .before .before .before .before .before
+
 entry-in-requires : tie.Need-entry-in-requires
 entry-in-requires c κs =
     let s = c .before .before in
@@ -24,11 +28,11 @@ enum-known-first : tie.Need-enum-known-first
 enum-known-first c = search needs
 
 found : (c : tie.After-known-told) (r : Record)
-    → Is-record (entries-of (c .before .before .before .before .before .before .args .t .now)) (c .before .before .before .before .before .before .args .b .now) (c .before .before .before .before .before .before .args .places .now) r
-    → Piece-of (entries-of (c .before .before .before .before .before .before .args .t .now)) (c .before .before .before .before .before .before .args .b .now) (c .before .before .before .before .before .before .args .path .entry) (c .before .before .before .before .before .before .args .end) (c .before .before .before .before .before .before .args .o) r
-    (At (c .before .first .given .0 .0) (c .before .first .given .0 .0 + c .before .before .before .before .before .before .args .width))
+    → Is-record (entries-of (start c .args .t .now)) (start c .args .b .now) (start c .args .places .now) r
+    → Piece-of (entries-of (start c .args .t .now)) (start c .args .b .now) (start c .args .path .entry) (start c .args .end) (start c .args .o) r
+    (At (c .before .first .given .0 .0) (c .before .first .given .0 .0 + start c .args .width))
 found c r held =
-    let s = c .before .before .before .before .before .before in
+    let s = start c in
     let a = s .args in
     let es = entries-of (a .t .now) in
     let g = a .path .group in
@@ -41,7 +45,7 @@ found c r held =
     (a .path .entry) (a .end) q (omega (arith, s .pre .2)) (s .pre .1) (s .pre .4) (wide .plains) (e .1 .before))
 
 add-t11 : tie.Need-add-t11
-add-t11 c = let h = c .before .before .before .before .before .before .pre .9 in omega (arith, found c (h .0) (h .1) .1)
+add-t11 c = let h = start c .pre .9 in omega (arith, found c (h .0) (h .1) .1)
 
 returns : tie.Need-returns
 returns c r held =

@@ -11,6 +11,10 @@ use borrow.Author.Needs.{needs}
 use Rattle.records.proofs.places.value_count.Statement.{statement}
 use Rattle.records.proofs.places.value_count.Tie as tie
 
+-- Where the function begins, seen from where the cell is found.
+abbrev start : tie.After-known-told → tie.Start
+start c = c .before .before .before .before .before .before
+
 cell-at-requires : tie.Need-cell-at-requires
 cell-at-requires c κs =
     let s = c .before .before in
@@ -20,15 +24,15 @@ enum-known-cell : tie.Need-enum-known-cell
 enum-known-cell c = search needs
 
 -- The cell of the field in a record.
-cell : (c : tie.After-known-told) (r : Record) → Is-record (entries-of (c .before .before .before .before .before .before .args .t .now)) (c .before .before .before .before .before .before .args .b .now) (c .before .before .before .before .before .before .args .places .now) r
-    → Cell-of (entries-of (c .before .before .before .before .before .before .args .t .now)) (c .before .before .before .before .before .before .args .b .now) (c .before .before .before .before .before .before .args .i) (c .before .before .before .before .before .before .args .o) r (At (c .before .cell .given .0 .0))
+cell : (c : tie.After-known-told) (r : Record) → Is-record (entries-of (start c .args .t .now)) (start c .args .b .now) (start c .args .places .now) r
+    → Cell-of (entries-of (start c .args .t .now)) (start c .args .b .now) (start c .args .i) (start c .args .o) r (At (c .before .cell .given .0 .0))
 cell c r held =
-    let a = c .before .before .before .before .before .before .args in
+    let a = start c .args in
     subst (Cell-of (entries-of (a .t .now)) (a .b .now) (a .i) (a .o) r) (c .before .cell .given .1) (c .before .before .before .cell-at .ensures r held)
 
 count-at-requires : tie.Need-count-at-requires
 count-at-requires c κs =
-    let s = c .before .before .before .before .before .before in
+    let s = start c in
     values-counted (entries-of (s .args .t .now)) (s .args .b .now) (s .args .i) (s .args .o) (s .pre .5 .0) (s .pre .2) _ (cell c (s .pre .5 .0) (s .pre .5 .1)) .0
 
 enum-told : tie.Need-enum-told
@@ -36,7 +40,7 @@ enum-told c = search needs
 
 returns : tie.Need-returns
 returns c =
-    let s = c .before .before .before .before .before .before .before in
+    let s = start (c .before) in
     let n = c .count-at .ensures in
     (n .1, λ r held. n .0 ∙ values-counted (entries-of (s .args .t .now)) (s .args .b .now) (s .args .i) (s .args .o) r (s .pre .2) _ (cell (c .before) r held) .1)
 

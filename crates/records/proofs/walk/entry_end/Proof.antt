@@ -16,6 +16,10 @@ use borrow.Author.Needs.{needs}
 use Rattle.records.proofs.walk.entry_end.Statement.{statement}
 use Rattle.records.proofs.walk.entry_end.Tie as tie
 
+-- Where the function begins, seen from where it is known whether a count stands there.
+abbrev start : tie.After-has-count → tie.Start
+start c = c .before .before .before .before .before
+
 periodic-at-requires : tie.Need-periodic-at-requires
 periodic-at-requires c κs = search needs
 
@@ -23,8 +27,8 @@ has-count-requires : tie.Need-has-count-requires
 has-count-requires c κs = search needs
 
 -- A count stands there, and is not over its limit.
-counted : (c : tie.Then2) → (c .before .before .before .before .before .before .args .at < length (c .before .before .before .before .before .before .args .b .now)) × (count-at (c .before .before .before .before .before .before .args .b .now) (c .before .before .before .before .before .before .args .at) ≤ greatest-count)
-counted c = let a = c .before .before .before .before .before .before .args in count-some (a .b .now) (a .at) (sym (c .before .has-count .ensures) ∙ c .if2 .taken)
+counted : (c : tie.Then2) → (start (c .before) .args .at < length (start (c .before) .args .b .now)) × (count-at (start (c .before) .args .b .now) (start (c .before) .args .at) ≤ greatest-count)
+counted c = let a = start (c .before) .args in count-some (a .b .now) (a .at) (sym (c .before .has-count .ensures) ∙ c .if2 .taken)
 
 count-at-requires : tie.Need-count-at-requires
 count-at-requires c κs = counted c .0
@@ -36,11 +40,11 @@ group-end-requires : tie.Need-group-end-requires
 group-end-requires c κs = search needs
 
 add-occurrences-end : tie.Need-add-occurrences-end
-add-occurrences-end c = let s = c .before .before .before .before .before .before .before .before .before in omega (arith, valid-most (s .args .t .now) (s .pre .0), s .pre .1)
+add-occurrences-end c = let s = start (c .before .before .before .before) in omega (arith, valid-most (s .args .t .now) (s .pre .0), s .pre .1)
 
 occurrences-end-requires : tie.Need-occurrences-end-requires
 occurrences-end-requires c κs =
-    let s = c .before .before .before .before .before .before .before .before .before .before in
+    let s = start (c .before .before .before .before .before) in
     let k = counted (c .before .before .before .before) in
     let w = group-within (entries-of (s .args .t .now)) (s .args .i) (s .pre .1) in
     let g = c .before .group-end .ensures in
@@ -48,21 +52,22 @@ occurrences-end-requires c κs =
 
 returns : tie.Need-returns
 returns c =
-    let s = c .before .before .before .before .before .before .before .before .before .before .before in
+    let k = c .before .before .before .before .before in
+    let s = start (k .before) in
     let a = s .args in
     let es = entries-of (a .t .now) in
     let e = getD es (a .i) blank in
-    let p : is-periodic (e .what) ≡ true = sym (c .before .before .before .before .before .before .before .before .periodic-at .ensures) ∙ c .before .before .before .before .before .before .before .if1 .taken in
+    let p : is-periodic (e .what) ≡ true = sym (k .before .before .before .periodic-at .ensures) ∙ k .before .before .if1 .taken in
     let l = periodic-level (a .t .now) (s .pre .0) (a .i) (s .pre .1) (periodic-what (e .what) p) in
     let o = rw (c .before .before .before .after-count .ensures, c .before .before .before .before .count-at .ensures .0) at (c .occurrences-end .ensures) in
     let g = c .before .before .group-end .ensures in (
-      walked-as (behind-counted (a .inside) es (a .i) (a .b .now) (a .at) p (sym (c .before .before .before .before .before .before .has-count .ensures) ∙ c .before .before .before .before .before .if2 .taken) l _ g) (o .0),
+      walked-as (behind-counted (a .inside) es (a .i) (a .b .now) (a .at) p (sym (k .before .has-count .ensures) ∙ k .if2 .taken) l _ g) (o .0),
       λ x q. kept-rows es (a .i) p g (o .1 x q),
     )
 
 returns-2 : tie.Need-returns-2
 returns-2 c =
-    let a = c .before .before .before .before .before .before .args in
+    let a = start (c .before) .args in
     let e = getD (entries-of (a .t .now)) (a .i) blank in
     let p : is-periodic (e .what) ≡ true = sym (c .before .before .before .periodic-at .ensures) ∙ c .before .before .if1 .taken in
     (record { answer = sym (behind-countless (a .inside) (entries-of (a .t .now)) (a .i) (a .b .now) (a .at) p (sym (c .before .has-count .ensures) ∙ c .if2 .left)); place = tt }, λ x q. absurd (not-at q))

@@ -8,6 +8,10 @@ use borrow.Author.Needs.{needs}
 use Rattle.records.proofs.walk.value_end.Statement.{statement}
 use Rattle.records.proofs.walk.value_end.Tie as tie
 
+-- Where the function begins, seen from where the content is found.
+abbrev start : tie.After-known-told → tie.Start
+start c = c .before .before .before .before .before
+
 first-value-requires : tie.Need-first-value-requires
 first-value-requires c κs = search needs
 
@@ -28,7 +32,7 @@ part-is-normal-end c = let w = first-at (c .before .before .before .first-value 
 
 is-normal-requires : tie.Need-is-normal-requires
 is-normal-requires c κs =
-    let s = c .before .before .before .before .before .before in
+    let s = start (c .before) in
     let w = first-at (c .before .before .before .before .first-value .ensures) (c .before .before .first .given .1) in
     (s .pre .1, s .pre .2, first-content (s .args .size) _ _ _ (w .0))
 
@@ -39,14 +43,16 @@ returns c =
 
 returns-2 : tie.Need-returns-2
 returns-2 c =
-    let s = c .before .before .before .before .before .before .before .before in
-    let w = first-at (c .before .before .before .before .before .before .first-value .ensures) (c .before .before .before .before .first .given .1) in
+    let k = c .before .before .before in
+    let s = start k in
+    let w = first-at (k .before .before .before .first-value .ensures) (k .before .first .given .1) in
     record { answer = sym (value-normal (format-at (s .args .format)) (s .args .size) _ (w .0) (sym (c .before .is-normal .ensures) ∙ c .if1 .taken)); place = w .2 }
 
 returns-3 : tie.Need-returns-3
 returns-3 c =
-    let s = c .before .before .before .before .before .before .before .before in
-    let w = first-at (c .before .before .before .before .before .before .first-value .ensures) (c .before .before .before .before .first .given .1) in
+    let k = c .before .before .before in
+    let s = start k in
+    let w = first-at (k .before .before .before .first-value .ensures) (k .before .first .given .1) in
     record { answer = sym (value-other (format-at (s .args .format)) (s .args .size) _ (w .0) (sym (c .before .is-normal .ensures) ∙ c .if1 .left)); place = tt }
 
 pub value-end-spec : {M : Type 1} → statement M
