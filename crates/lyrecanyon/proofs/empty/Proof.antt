@@ -14,12 +14,16 @@ use borrow.Author.Needs.{needs}
 use Rattle.lyrecanyon.proofs.empty.Statement.{statement}
 use Rattle.lyrecanyon.proofs.empty.Tie as tie
 
+-- Where the function begins, seen from where the table is valid.
+abbrev start : tie.Else1 → tie.Start
+start c = c .before .before .before .before
+
 -- What is known after the test of the table, and once the record's length is computed.
-is-table : (c : tie.Else1) → Valid (c .before .before .before .before .args .table .now)
+is-table : (c : tie.Else1) → Valid (start c .args .table .now)
 is-table c = sym (c .before .valid .ensures) ∙ not-false (c .before .valid .result) (c .if1 .left)
 
-size-is : (c : tie.After-empty-length) → c .empty-length .result ≡ length (empty-bytes (c .before .before .before .before .before .args .table .now))
-size-is c = c .empty-length .ensures ∙ sym (empty-size (c .before .before .before .before .before .args .table .now))
+size-is : (c : tie.After-empty-length) → c .empty-length .result ≡ length (empty-bytes (start (c .before) .args .table .now))
+size-is c = c .empty-length .ensures ∙ sym (empty-size (start (c .before) .args .table .now))
 
 valid-requires : tie.Need-valid-requires
 valid-requires c κs = search needs
@@ -34,12 +38,12 @@ empty-length-requires c κs = is-table c
 
 returns-2 : tie.Need-returns-2
 returns-2 c =
-    let a = c .before .before .before .before .before .before .args in
+    let a = start (c .before .before) .args in
     settled-refused _ (a .room .now) NoRoom (empty-over (a .table .now) (length (a .room .now)) (is-table (c .before .before)) (omega (arith, size-is (c .before))))
 
 returns-3 : tie.Need-returns-3
 returns-3 c =
-    let a = c .before .before .before .before .before .before .before .args in
+    let a = start (c .before .before .before) .args in
     settled-refused _ (a .room .now) NoRoom (empty-cramped (a .table .now) (length (a .room .now)) (is-table (c .before .before .before)) (omega (arith, size-is (c .before .before))))
 
 slice-aggregate-write-empty : tie.Need-slice-aggregate-write-empty
@@ -63,12 +67,14 @@ same-length c = search needs
 returns-4 : tie.Need-returns-4
 unfolding empty-bytes
 returns-4 c =
-    let a = c .before .before .before .before .before .before .before .before .before .before .before .before .before .before .before .args in
-    let n = c .before .before .before .before .before .before .before .before .before .before .empty-length .result in
-    let z = size-is (c .before .before .before .before .before .before .before .before .before .before) in
-    let w = ap (take n) (c .before .before .before .before .before .before .write-empty .ensures) ∙ take-splice (empty-bytes (a .table .now)) _ n z in
+    let v = c .before .before .before .before .before .before in
+    let e = v .before .before .before .before in
+    let a = start (e .before) .args in
+    let n = e .empty-length .result in
+    let z = size-is e in
+    let w = ap (take n) (v .write-empty .ensures) ∙ take-splice (empty-bytes (a .table .now)) _ n z in
     settled-done _ (empty-bytes (a .table .now)) (a .room .now) _ _
-    (empty-done (a .table .now) (length (a .room .now)) (is-table (c .before .before .before .before .before .before .before .before .before .before .before)) (omega (arith, z, c .before .before .before .before .before .before .before .before .before .if2 .left)) (omega (arith, z, c .before .before .before .before .before .before .before .before .if3 .left))) z
+    (empty-done (a .table .now) (length (a .room .now)) (is-table (e .before)) (omega (arith, z, v .before .before .before .if2 .left)) (omega (arith, z, v .before .before .if3 .left))) z
     (c .before .before .put .ensures .1 ∙ ap (λ bs. splice 0 bs (a .room .now)) w)
 
 pub empty-spec : {M : Type 1} → statement M

@@ -11,7 +11,11 @@ use borrow.Author.Needs.{needs}
 use Rattle.lyrecanyon.proofs.read.Statement.{statement}
 use Rattle.lyrecanyon.proofs.read.Tie as tie
 
-is-table : (c : tie.Else1) → Valid (c .before .before .before .before .before .before .args .table .now)
+-- Where the function begins, seen from after its test of the table.
+abbrev start : tie.After-valid → tie.Start
+start c = c .before .before .before .before .before
+
+is-table : (c : tie.Else1) → Valid (start (c .before) .args .table .now)
 is-table c = sym (c .before .valid .ensures) ∙ not-false (c .before .valid .result) (c .if1 .left)
 
 valid-requires : tie.Need-valid-requires
@@ -19,7 +23,7 @@ valid-requires c κs = search needs
 
 returns : tie.Need-returns
 returns c =
-    let a = c .before .before .before .before .before .before .args in
+    let a = start (c .before) .args in
     settled-refused _ (a .buffer .now) BadTable
     (read-no-table (a .table .now) (a .stored .now) (a .format .now) (length (a .buffer .now)) (sym (c .before .valid .ensures) ∙ not-true (c .before .valid .result) (c .if1 .taken)))
 
@@ -28,7 +32,7 @@ check-requires c κs = (is-table (c .before), search needs)
 
 returns-2 : tie.Need-returns-2
 returns-2 c =
-    let a = c .before .before .before .before .before .before .before .before .before .args in
+    let a = start (c .before .before .before .before) .args in
     settled-refused _ (a .buffer .now) BadRecord
     (read-no-record (a .table .now) (a .stored .now) (a .format .now) (length (a .buffer .now)) (is-table (c .before .before .before))
     (sym (c .before .check .ensures .answer) ∙ not-true (c .before .check .result) (c .if2 .taken)))

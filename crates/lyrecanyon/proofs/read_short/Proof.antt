@@ -8,9 +8,12 @@ use borrow.Author.Needs.{needs}
 use Rattle.lyrecanyon.proofs.read_short.Statement.{statement}
 use Rattle.lyrecanyon.proofs.read_short.Tie as tie
 
--- Where the function begins, seen from after its pass over the format.
+-- Where the function begins, seen from after its pass over the format; and that place, seen from where the answers of the pass part.
 abbrev start : tie.After-scan → tie.Start
 start c = c .before .before .before .before .before .before .before .before .before
+
+abbrev passed : tie.After-slice-known3 → tie.After-scan
+passed c = c .before .before
 
 ready : (c : tie.After-scan)
     → Ready (start c .args .table .now) (start c .args .stored .now) (start c .args .places .now) (start c .args .format .now) (start c .args .buffer .now) (c .before .before .before .least .result)
@@ -51,7 +54,7 @@ enum-known-next-2 c = search needs
 
 slice-reshare-prefix-put : tie.Need-slice-reshare-prefix-put
 slice-reshare-prefix-put c =
-    let s = c .before .before .before .before .before in
+    let s = passed (c .before .before .before) in
     omega (arith, made-within (ready s) _ (s .scan .ensures) (c .before .next2 .given .1), s .before .before .least2 .ensures, c .before .before .before .before .area .given)
 
 slice-aggregate-put : tie.Need-slice-aggregate-put
@@ -59,7 +62,7 @@ slice-aggregate-put c = sym (length-take-le _ _ (slice-reshare-prefix-put (c .be
 
 put-requires : tie.Need-put-requires
 put-requires c κs =
-    let s = c .before .before .before .before .before .before .before in
+    let s = passed (c .before .before .before .before .before) in
     omega (arith, slice-aggregate-put (c .before), made-within (ready s) _ (s .scan .ensures) (c .before .before .before .next2 .given .1), less s, ready s .room)
 
 same-length-3 : tie.Need-same-length-3
@@ -68,15 +71,16 @@ same-length-3 c = search needs
 -- The area is as long as the buffer has room.
 returns-2 : tie.Need-returns-2
 returns-2 c =
-    let s = c .before .before .before .before .before .before .before .before in
-    all-refused (ready s) _ (s .scan .ensures) (c .before .before .before .before .next .given .1) (omega (arith, less s, c .if1 .left))
+    let n = c .before .before .before .before in
+    let s = passed (n .before .before) in
+    all-refused (ready s) _ (s .scan .ensures) (n .next .given .1) (omega (arith, less s, c .if1 .left))
 
 same-length-4 : tie.Need-same-length-4
 same-length-4 c = search needs
 
 returns-3 : tie.Need-returns-3
 returns-3 c =
-    let s = c .before .before .before .before .before .before in
+    let s = passed (c .before .before .before .before) in
     less-refused (ready s) _ (s .scan .ensures) (c .before .before .next .given .1) (less s) (not-beyond (c .before .before .next .given .0 .0) (c .match2 .keys2))
 
 same-length-5 : tie.Need-same-length-5
@@ -87,8 +91,9 @@ same-length-6 c = search needs
 
 returns-4 : tie.Need-returns-4
 returns-4 c =
-    let s = c .before .before .before .before .before .before .before .before .before .before in
-    short-read (ready s) _ (s .scan .ensures) (c .before .before .before .before .before .before .next2 .given .1) (less s) (c .before .before .put .ensures .1)
+    let n = c .before .before .before .before .before .before in
+    let s = passed (n .before .before) in
+    short-read (ready s) _ (s .scan .ensures) (n .next2 .given .1) (less s) (c .before .before .put .ensures .1)
 
 pub read-short-spec : {M : Type 1} → statement M
 read-short-spec =

@@ -10,9 +10,12 @@ use borrow.Author.Needs.{needs}
 use Rattle.reading.proofs.put_element.Statement.{statement}
 use Rattle.reading.proofs.put_element.Tie as tie
 
--- Where the function starts, before what the element means; and that it means it.
+-- Where the function starts, before what the element means; where that was found, seen from where it is remembered; and that it means it.
 abbrev start : tie.After-u → tie.Start
 start c = c .before .before .before .before .before .before .before .before .before .before
+
+abbrev meant : tie.After-remember → tie.After-u
+meant c = c .before .before .before
 
 means : (c : tie.After-u) → Means (entries-of (start c .args .t .now)) (start c .args .last .now) (start c .args .e) (As (c .u .given .0 .0))
 means c = means-as (c .u .given .1) (c .before .before .use-of .ensures)
@@ -43,7 +46,7 @@ enum-known-state c = search needs
 
 put-use-requires : tie.Need-put-use-requires
 put-use-requires c κs =
-    let u = c .before .before .before .before .before .before .before in
+    let u = meant (c .before .before .before .before) in
     let s = start u in
     (s .pre .0, means u .held (s .args .f .now) (s .pre .1), s .pre .3, (at-fits (c .before .before .state .given .1) (s .pre .4 .0), s .pre .4 .1))
 
@@ -67,16 +70,16 @@ same-length c = search needs
 returns-3 : tie.Need-returns-3
 returns-3 c =
     let at = c .before .before .before .before .before .before in
-    let u = at .before .before .before .before .before in
+    let u = meant (at .before .before) in
     let s = start u in
     puts-as (at .state .given .1) (c .after-items .ensures) (puts-items (means u) (at .before .before .remember .ensures) _ _ (c .before .before .before .put-use .ensures) (s .pre .3) (at-fits (at .state .given .1) (s .pre .4 .0)) (s .pre .4 .1))
 
 returns-4 : tie.Need-returns-4
-returns-4 c = puts-as (c .before .state2 .given .1) refl (puts-behind (means (c .before .before .before .before .before .before)) (c .before .before .before .remember .ensures) _)
+returns-4 c = let r = c .before .before .before in puts-as (c .before .state2 .given .1) refl (puts-behind (means (meant r)) (r .remember .ensures) _)
 
 returns-5 : tie.Need-returns-5
 returns-5 c =
-    let e = c .before .before .before .before .before .before .before .before .before .before in
+    let e = meant (c .before .before .before) .before .before .before .before in
     absurd (not-refused _ (sym (e .before .is-element-refused .ensures) ∙ e .if1 .left) _ (c .before .state3 .given .1))
 
 pub put-element-spec : {M : Type 1} → statement M

@@ -10,6 +10,10 @@ use borrow.Author.Needs.{needs}
 use Rattle.reading.proofs.put_use.Statement.{statement}
 use Rattle.reading.proofs.put_use.Tie as tie
 
+-- Where the function begins, seen from where the kinds of use part.
+abbrev start : tie.After-slice-known → tie.Start
+start c = c .before .before .before .before
+
 -- What is known of the use, by the kind that it is.
 held : (s : tie.Start) {v : Use} → s .args .u ≡ v → Good-use (entries-of (s .args .t .now)) (s .args .f .now) v
 held s e = subst (Good-use (entries-of (s .args .t .now)) (s .args .f .now)) e (s .pre .1)
@@ -24,8 +28,8 @@ enum-known-u-2 : tie.Need-enum-known-u-2
 enum-known-u-2 c = search needs
 
 -- The bounds of a text lie in the format.
-text-held : (c : tie.After-u2) → Good-use (entries-of (c .before .before .before .before .before .before .args .t .now)) (c .before .before .before .before .before .before .args .f .now) (Text (c .u2 .given .0 .0) (c .u2 .given .0 .1 .0))
-text-held c = held (c .before .before .before .before .before .before) (c .u2 .given .1)
+text-held : (c : tie.After-u2) → Good-use (entries-of (start (c .before .before) .args .t .now)) (start (c .before .before) .args .f .now) (Text (c .u2 .given .0 .0) (c .u2 .given .0 .1 .0))
+text-held c = held (start (c .before .before)) (c .u2 .given .1)
 
 sub-put-bytes : tie.Need-sub-put-bytes
 sub-put-bytes c = let w = text-held (c .before) in omega (arith, w .0)
@@ -44,7 +48,7 @@ enum-known-u-3 c = search needs
 
 group-count-requires : tie.Need-group-count-requires
 group-count-requires c κs =
-    let s = c .before .before .before .before .before .before .before in
+    let s = start (c .before .before .before) in
     let w = held s (c .before .u3 .given .1) in
     (s .pre .0, w .0, w .1, s .pre .2)
 
@@ -59,7 +63,7 @@ enum-known-u-4 c = search needs
 
 value-count-requires : tie.Need-value-count-requires
 value-count-requires c κs =
-    let s = c .before .before .before .before .before .before .before in
+    let s = start (c .before .before .before) in
     let w = held s (c .before .u4 .given .1) in
     (s .pre .0, w .0, w .1, w .2, w .4, s .pre .2)
 
@@ -74,7 +78,7 @@ enum-known-u-5 c = search needs
 
 put-span-requires : tie.Need-put-span-requires
 put-span-requires c κs =
-    let s = c .before .before .before .before .before .before .before .before in
+    let s = start (c .before .before .before .before) in
     (s .pre .0, held s (c .before .before .u5 .given .1), s .pre .2, s .pre .3)
 
 same-length : tie.Need-same-length
@@ -82,9 +86,9 @@ same-length c = search needs
 
 returns : tie.Need-returns
 returns c =
-    let s = c .before .before .before .before .before .before .before .before .before .before .before in
-    let a = s .args in
-    let v = c .before .before .before .before .before .u .given in
+    let k = c .before .before .before .before .before in
+    let a = start (k .before .before) .args in
+    let v = k .u .given in
     use-blanks (entries-of (a .t .now)) (a .b .now) (a .places .now) (a .f .now) (a .at) (a .end) (a .write) (v .0 .0) (v .1) (c .before .before .put-blanks .ensures)
 
 same-length-2 : tie.Need-same-length-2
@@ -92,9 +96,9 @@ same-length-2 c = search needs
 
 returns-2 : tie.Need-returns-2
 returns-2 c =
-    let s = c .before .before .before .before .before .before .before .before .before .before .before .before in
-    let a = s .args in
-    let v = c .before .before .before .before .before .before .u2 .given in
+    let k = c .before .before .before .before .before .before in
+    let a = start (k .before .before) .args in
+    let v = k .u2 .given in
     use-text (entries-of (a .t .now)) (a .b .now) (a .places .now) (a .f .now) (a .at) (a .end) (a .write) (v .0 .0) (v .0 .1 .0) (v .1) (c .before .before .put-bytes .ensures)
 
 same-length-3 : tie.Need-same-length-3
@@ -102,10 +106,11 @@ same-length-3 c = search needs
 
 returns-3 : tie.Need-returns-3
 returns-3 c =
-    let s = c .before .before .before .before .before .before .before .before .before .before .before .before in
-    let a = s .args in
-    let v = c .before .before .before .before .before .before .u3 .given in
-    let n = c .before .before .before .before .group-count in
+    let d = c .before .before .before .before in
+    let k = d .before .before in
+    let a = start (k .before .before) .args in
+    let v = k .u3 .given in
+    let n = d .group-count in
     use-group-count (entries-of (a .t .now)) (a .b .now) (a .places .now) (a .f .now) (a .at) (a .end) (a .write) (v .0 .0) (n .result) (v .1) (n .ensures .1) (c .before .before .put-count .ensures)
 
 same-length-4 : tie.Need-same-length-4
@@ -113,10 +118,11 @@ same-length-4 c = search needs
 
 returns-4 : tie.Need-returns-4
 returns-4 c =
-    let s = c .before .before .before .before .before .before .before .before .before .before .before .before in
-    let a = s .args in
-    let v = c .before .before .before .before .before .before .u4 .given in
-    let n = c .before .before .before .before .value-count in
+    let d = c .before .before .before .before in
+    let k = d .before .before in
+    let a = start (k .before .before) .args in
+    let v = k .u4 .given in
+    let n = d .value-count in
     use-value-count (entries-of (a .t .now)) (a .b .now) (a .places .now) (a .f .now) (a .at) (a .end) (a .write) (v .0 .0) (v .0 .1 .0) (n .result) (v .1) (n .ensures .1) (c .before .before .put-count2 .ensures)
 
 same-length-5 : tie.Need-same-length-5
@@ -124,9 +130,9 @@ same-length-5 c = search needs
 
 returns-5 : tie.Need-returns-5
 returns-5 c =
-    let s = c .before .before .before .before .before .before .before .before .before .before .before in
-    let a = s .args in
-    let v = c .before .before .before .before .before .u5 .given in
+    let k = c .before .before .before .before .before in
+    let a = start (k .before .before) .args in
+    let v = k .u5 .given in
     use-span (entries-of (a .t .now)) (a .b .now) (a .places .now) (a .f .now) (a .at) (a .end) (a .write) _ (v .1) (c .before .before .put-span .ensures)
 
 pub put-use-spec : {M : Type 1} → statement M

@@ -43,12 +43,15 @@ returns-2 c = scan-bad (c .before .before .before .loop .inv .2) (step-as (c .en
 enum-known-e : tie.Need-enum-known-e Inv-loop μ-loop
 enum-known-e c = search needs
 
--- Where the function starts, and the loop's turn, before an element that was found; and how it was.
+-- Where the function starts, and the loop's turn, before an element that was found; where it was, seen from where it is put; and how it was.
 abbrev start : tie.After-e Inv-loop μ-loop → tie.Start Inv-loop μ-loop
 start c = c .before .before .before .before .before .before .before .before .before
 
 abbrev turn : tie.After-e Inv-loop μ-loop → tie.At-loop Inv-loop μ-loop
 turn c = c .before .before .before
+
+abbrev element : tie.After-put-element Inv-loop μ-loop → tie.After-e Inv-loop μ-loop
+element c = c .before .before .before .before
 
 stepped : (c : tie.After-e Inv-loop μ-loop) → Stepped (start c .args .f .now) (turn c .loop .at) (parsed (drop (turn c .loop .at) (start c .args .f .now))) (At (c .e .given .0 .0) (c .e .given .0 .1 .0))
 stepped c = step-as (c .e .given .1) (c .before .before .next .ensures)
@@ -61,29 +64,30 @@ put-element-requires c κs =
     (s .pre .0, stepped e .place .2, l .inv .1, s .pre .1, (l .inv .2 .fits, omega (arith, s .pre .2, l .inv .2 .same)))
 
 is-last-requires : tie.Need-is-last-requires Inv-loop μ-loop
-is-last-requires c κs = let e = c .before .before .before .before .before .before in stepped e .place .1
+is-last-requires c κs = let e = element (c .before .before) in stepped e .place .1
 
 answer-requires : tie.Need-answer-requires Inv-loop μ-loop
 answer-requires c κs = search needs
 
 same-length-2 : tie.Need-same-length-2 Inv-loop μ-loop
-same-length-2 c = let e = c .before .before .before .before .before .before .before .before .before in omega (arith, turn e .loop .inv .2 .same, c .before .before .before .before .before .put-element .ensures .kept)
+same-length-2 c = let p = c .before .before .before .before .before in omega (arith, turn (element p) .loop .inv .2 .same, p .put-element .ensures .kept)
 
 returns-3 : tie.Need-returns-3 Inv-loop μ-loop
 returns-3 c =
-    let e = c .before .before .before .before .before .before .before .before .before in
+    let p = c .before .before .before .before .before in
+    let e = element p in
     let q = sym (c .before .before .is-last .ensures) ∙ c .before .if2 .taken in
-    scan-as-answer _ _ (c .answer .ensures) (scan-last (stepped e) (turn e .loop .inv .2) (c .before .before .before .before .before .put-element .ensures) q)
+    scan-as-answer _ _ (c .answer .ensures) (scan-last (stepped e) (turn e .loop .inv .2) (p .put-element .ensures) q)
 
 add-at : tie.Need-add-at Inv-loop μ-loop
-add-at c = let e = c .before .before .before .before .before .before .before .before in omega (arith, stepped e .place .1)
+add-at c = let e = element (c .before .before .before .before) in omega (arith, stepped e .place .1)
 
 loop-less : tie.Need-loop-less Inv-loop μ-loop
-loop-less c = let e = c .before .before .before .before .before .before .before .before in omega (arith, stepped e .place .0, stepped e .place .1)
+loop-less c = let e = element (c .before .before .before .before) in omega (arith, stepped e .place .0, stepped e .place .1)
 
 loop-again : tie.Need-loop-again Inv-loop μ-loop
 loop-again c =
-    let e = c .before .before .before .before .before .before .before .before in
+    let e = element (c .before .before .before .before) in
     let l = turn e .loop in
     let p = c .before .before .before .before .put-element .ensures in
     (omega (arith, stepped e .place .1), p .same ∙ l .inv .1, scan-more (stepped e) (l .inv .2) p (sym (c .before .is-last .ensures) ∙ c .if2 .left))

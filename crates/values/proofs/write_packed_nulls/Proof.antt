@@ -14,18 +14,26 @@ Inv-loop n size out₀ at p₀ i₀ out p i = Copying (null packed size) n i at 
 abbrev μ-loop : tie.MeasureT-loop
 μ-loop n size out₀ at p₀ i₀ out p i = n - i
 
+-- Where the function begins, seen from the loop's turn; and the turn, seen from after its write.
+abbrev start : tie.At-loop Inv-loop μ-loop → tie.Start Inv-loop μ-loop
+start c = c .before .before
+
+abbrev turn : tie.After-write-packed-null Inv-loop μ-loop → tie.At-loop Inv-loop μ-loop
+turn c = c .before .before .before
+
 loop-holds : tie.Need-loop-holds Inv-loop μ-loop
 loop-holds c = let s = c .before in let a = s .args in copying (null packed (a .size)) (a .n) (a .at) (a .out .now) (s .pre .1)
 
 write-packed-null-requires : tie.Need-write-packed-null-requires Inv-loop μ-loop
 write-packed-null-requires c κs =
-    let s = c .before .before .before .before in
+    let s = start (c .before .before) in
     (s .pre .0, omega (arith, copy-room (c .before .before .loop .inv) (c .before .loop-test .taken), packed-long (s .args .size) (s .pre .0)))
 
 add-p : tie.Need-add-p Inv-loop μ-loop
 add-p c =
-    let s = c .before .before .before .before .before .before .before in
-    let g = c .before .before .before .before .before .loop .inv in
+    let l = turn (c .before .before) in
+    let s = start l in
+    let g = l .loop .inv in
     omega (arith, copy-room g (c .before .before .before .before .loop-test .taken), packed-long (s .args .size) (s .pre .0), g .same)
 
 add-i : tie.Need-add-i Inv-loop μ-loop
@@ -36,8 +44,9 @@ loop-less c = search needs
 
 loop-again : tie.Need-loop-again Inv-loop μ-loop
 loop-again c =
-    let s = c .before .before .before .before .before .before .before in
-    let g = c .before .before .before .before .before .loop in
+    let l = turn (c .before .before) in
+    let s = start l in
+    let g = l .loop in
     copy-on (g .inv) _ (c .before .before .before .before .loop-test .taken) (c .before .before .write-packed-null .ensures) (ap (λ (n : ℕ). g .p + n) (sym (packed-long (s .args .size) (s .pre .0))))
 
 same-length : tie.Need-same-length Inv-loop μ-loop

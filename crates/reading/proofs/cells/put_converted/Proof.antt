@@ -15,12 +15,15 @@ Inv-loop b from n w out₀ at end write p₀ q₀ i₀ out p q i = (us : List By
 abbrev μ-loop : tie.MeasureT-loop
 μ-loop b from n w out₀ at end write p₀ q₀ i₀ out p q i = n - i
 
--- Where the function starts, and the loop's turn, before a value that was found.
+-- Where the function starts, and the loop's turn, before a value that was found; and where it was, seen from where it is put.
 abbrev start : tie.After-first2 Inv-loop μ-loop → tie.Start Inv-loop μ-loop
 start c = c .before .before .before .before .before .before .before
 
 abbrev turn : tie.After-first2 Inv-loop μ-loop → tie.At-loop Inv-loop μ-loop
 turn c = c .before .before .before .before
+
+abbrev value : tie.After-put-value Inv-loop μ-loop → tie.After-first2 Inv-loop μ-loop
+value c = c .before .before .before .before
 
 -- The value that was found is the first of those that are left.
 ahead : (c : tie.After-first2 Inv-loop μ-loop) (us : List Bytes) (t : Stand (start c .args .w) (start c .args .b .now) (start c .args .from) (start c .args .n) us)
@@ -80,29 +83,31 @@ enum-known-put c = search needs
 
 same-length-2 : tie.Need-same-length-2 Inv-loop μ-loop
 same-length-2 c =
-    let v = c .before .before .before .before .before .before .before .before .before in
+    let v = value (c .before .before .before .before .before) in
     let s = start v in
     let g = turn v .loop .inv (s .pre .2 .0) (s .pre .2 .1) .continues .same in
     omega arith
 
 returns-2 : tie.Need-returns-2 Inv-loop μ-loop
 returns-2 c us t =
-    let v = c .before .before .before .before .before .before .before .before .before in
-    convert-off (start v .pre .0) (turn v .loop .inv us t) (ahead v us t) (c .before .before .before .before .before .put-value .ensures) _ (c .before .put .given .1)
+    let p = c .before .before .before .before .before in
+    let v = value p in
+    convert-off (start v .pre .0) (turn v .loop .inv us t) (ahead v us t) (p .put-value .ensures) _ (c .before .put .given .1)
 
 enum-known-put-2 : tie.Need-enum-known-put-2 Inv-loop μ-loop
 enum-known-put-2 c = search needs
 
 add-i : tie.Need-add-i Inv-loop μ-loop
-add-i c = let v = c .before .before .before .before .before .before .before .before .before in omega (arith, v .before .before .before .loop-test .taken)
+add-i c = let v = value (c .before .before .before .before .before) in omega (arith, v .before .before .before .loop-test .taken)
 
 loop-less : tie.Need-loop-less Inv-loop μ-loop
-loop-less c = let v = c .before .before .before .before .before .before .before .before .before in omega (arith, v .before .before .before .loop-test .taken)
+loop-less c = let v = value (c .before .before .before .before .before) in omega (arith, v .before .before .before .loop-test .taken)
 
 loop-again : tie.Need-loop-again Inv-loop μ-loop
 loop-again c us t =
-    let v = c .before .before .before .before .before .before .before .before .before in
-    convert-on (start v .pre .0) (turn v .loop .inv us t) (ahead v us t) (c .before .before .before .before .before .put-value .ensures) _ (c .before .put2 .given .1)
+    let p = c .before .before .before .before .before in
+    let v = value p in
+    convert-on (start v .pre .0) (turn v .loop .inv us t) (ahead v us t) (p .put-value .ensures) _ (c .before .put2 .given .1)
 
 same-length-3 : tie.Need-same-length-3 Inv-loop μ-loop
 same-length-3 c = let s = c .before .before .before .before in c .before .loop .inv (s .pre .2 .0) (s .pre .2 .1) .continues .same

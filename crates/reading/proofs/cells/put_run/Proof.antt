@@ -10,12 +10,16 @@ use borrow.Author.Needs.{needs}
 use Rattle.reading.proofs.cells.put_run.Statement.{statement}
 use Rattle.reading.proofs.cells.put_run.Tie as tie
 
+-- Where the function begins, seen from where the values are at their own format and length.
+abbrev start : tie.Then2 → tie.Start
+start c = c .before .before .before .before .before .before
+
 values-end-requires : tie.Need-values-end-requires
-values-end-requires c κs = let s = c .before .before .before .before .before .before in let t = s .pre .2 .1 in (s .pre .1, (format-at (s .args .w .own), (t .0, ap rest-of (t .1))))
+values-end-requires c κs = let s = start c in let t = s .pre .2 .1 in (s .pre .1, (format-at (s .args .w .own), (t .0, ap rest-of (t .1))))
 
 sub-put-bytes : tie.Need-sub-put-bytes
 sub-put-bytes c =
-    let s = c .before .before .before .before .before .before .before in
+    let s = start (c .before) in
     let a = s .args in
     let t = (s .pre .2 .1) in
     let y = c .values-end .ensures (format-at (a .w .own)) (t .0, ap rest-of (t .1)) in
@@ -24,7 +28,7 @@ sub-put-bytes c =
 
 part-put-bytes-start : tie.Need-part-put-bytes-start
 part-put-bytes-start c =
-    let s = c .before .before .before .before .before .before .before in
+    let s = start (c .before) in
     let a = s .args in
     let t = (s .pre .2 .1) in
     let y = c .values-end .ensures (format-at (a .w .own)) (t .0, ap rest-of (t .1)) in
@@ -33,7 +37,7 @@ part-put-bytes-start c =
 
 part-put-bytes-end : tie.Need-part-put-bytes-end
 part-put-bytes-end c =
-    let s = c .before .before .before .before .before .before .before in
+    let s = start (c .before) in
     let a = s .args in
     let t = (s .pre .2 .1) in
     let y = c .values-end .ensures (format-at (a .w .own)) (t .0, ap rest-of (t .1)) in
@@ -48,12 +52,13 @@ same-length c = search needs
 
 returns : tie.Need-returns
 returns c us stand =
-    let s = c .before .before .before .before .before .before .before .before .before .before .before .before in
+    let v = c .before .before .before .before .before in
+    let s = start (v .before) in
     let a = s .args in
     let t = stand in
-    let y = c .before .before .before .before .before .values-end .ensures (format-at (a .w .own)) (t .0, ap rest-of (t .1)) in
+    let y = v .values-end .ensures (format-at (a .w .own)) (t .0, ap rest-of (t .1)) in
     let e = done-inj (sym (ap rest-of (t .1)) ∙ sym (y .answer)) in
-    copied (a .w) (a .b .now) (a .run .at) (a .run .count) us t (c .before .before .before .before .before .before .before .before .if1 .taken) (c .before .before .before .before .before .before .if2 .taken) _ (a .end - a .at) (a .at) (a .write) (s .pre .1) (y .place) e (c .before .before .put-bytes .ensures)
+    copied (a .w) (a .b .now) (a .run .at) (a .run .count) us t (v .before .before .before .if1 .taken) (v .before .if2 .taken) _ (a .end - a .at) (a .at) (a .write) (s .pre .1) (y .place) e (c .before .before .put-bytes .ensures)
 
 put-converted-requires : tie.Need-put-converted-requires
 put-converted-requires c κs = search needs

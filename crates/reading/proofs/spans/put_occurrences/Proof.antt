@@ -50,25 +50,28 @@ enum-told : tie.Need-enum-told Inv-loop μ-loop
 enum-told c = search needs
 
 -- Where the function starts, and the occurrences that are put together, before the others.
-abbrev start : tie.After-first Inv-loop μ-loop → tie.Start Inv-loop μ-loop
-start c = c .before .before .before .before .before .before .before .before .before .before .before .before
-
 abbrev put-first : tie.After-first Inv-loop μ-loop → tie.After-put-adjacent Inv-loop μ-loop
 put-first c = c .before .before .before .before
 
+abbrev origin : tie.After-put-adjacent Inv-loop μ-loop → tie.Start Inv-loop μ-loop
+origin c = c .before .before .before .before .before .before .before .before
+
+abbrev start : tie.After-first Inv-loop μ-loop → tie.Start Inv-loop μ-loop
+start c = origin (put-first c)
+
 abbrev counted : tie.After-first Inv-loop μ-loop → tie.After-adjacent-count Inv-loop μ-loop
-counted c = c .before .before .before .before .before .before
+counted c = put-first c .before .before
 
 abbrev first : tie.At-loop Inv-loop μ-loop → tie.After-first Inv-loop μ-loop
 first c = c .before .before .before
 
 same-length : tie.Need-same-length Inv-loop μ-loop
-same-length c = let t = c .before .before .before .before in let s = t .before .before .before .before .before .before .before .before in t .put-adjacent .ensures (s .pre .3 .0) (s .pre .3 .1) .same
+same-length c = let t = c .before .before .before .before in let s = origin t in t .put-adjacent .ensures (s .pre .3 .0) (s .pre .3 .1) .same
 
 returns : tie.Need-returns Inv-loop μ-loop
 returns c =
     let t = c .before .before .before .before in
-    let s = t .before .before .before .before .before .before .before .before in
+    let s = origin t in
     rows-refused (s .pre .1) _ (t .before .before .adjacent-count .ensures .upto) (s .pre .3) (s .pre .4 .0) (s .pre .4 .1) (t .put-adjacent .ensures) _ (c .enum-told .given .1)
 
 add-o : tie.Need-add-o Inv-loop μ-loop

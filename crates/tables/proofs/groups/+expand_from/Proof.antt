@@ -41,6 +41,10 @@ claims t = (
   expand-from.Post,
 )
 
+-- Where the function begins, seen from after it has the entry's level.
+abbrev start : (t : ℕ) → expand-from-lts.After-level-at (claims t) (expand-from-at t) expand-from.Post → expand-from-lts.Start (claims t) (expand-from-at t) expand-from.Post
+start t c = c .before .before .before
+
 expand-from-returns : (t : ℕ) → expand-from-lts.Need-returns (claims t) (expand-from-at t) expand-from.Post
 expand-from-returns t c =
     let s = c .before .before in
@@ -51,7 +55,7 @@ expand-from-level-at-requires t c κs = let s = c .before .before in (s .pre .1 
 
 expand-from-returns-2 : (t : ℕ) → expand-from-lts.Need-returns-2 (claims t) (expand-from-at t) expand-from.Post
 expand-from-returns-2 t c =
-    let s = c .before .before .before .before in
+    let s = start t (c .before) in
     done-stop (entries-of (s .args .t .now)) (s .args .level) (s .args .at) (s .args .count) (s .args .out .now) _ (omega arith) (rw (c .before .level-at .ensures) at (c .if2 .taken)) refl refl
 
 expand-from-group-at-requires : (t : ℕ) → expand-from-lts.Need-group-at-requires (claims t) (expand-from-at t) expand-from.Post
@@ -62,15 +66,16 @@ expand-from-add-expand-from t c = search needs
 
 expand-from-expand-from-requires : (t : ℕ) → expand-from-lts.Need-expand-from-requires (claims t) (expand-from-at t) expand-from.Post
 expand-from-expand-from-requires t c κs =
-    let s = c .before .before .before .before .before .before .before in
+    let s = start t (c .before .before .before .before) in
     (omega arith, (s .pre .1 .0, s .pre .1 .1, omega arith, omega arith, s .pre .1 .4))
 
 expand-from-expand-from-requires-2 : (t : ℕ) → expand-from-lts.Need-expand-from-requires-2 (claims t) (expand-from-at t) expand-from.Post
 expand-from-expand-from-requires-2 t c κs =
-    let s = c .before .before .before .before .before .before .before .before .before in
+    let y = c .before .before .before .before .before .before in
+    let s = start t y in
     let x = c .before .expand-from .ensures in
     let rest = drop (s .args .at + 1) (entries-of (s .args .t .now)) in
-    let deep = c .before .before .before .before .before .before .level-at .result in
+    let deep = y .level-at .result in
     let m = run-short deep rest in
     let f = numbers-short deep (s .args .at + 1) rest in
     let d = length-drop (s .args .at + 1) (entries-of (s .args .t .now)) in
@@ -78,8 +83,9 @@ expand-from-expand-from-requires-2 t c κs =
 
 expand-from-returns-3 : (t : ℕ) → expand-from-lts.Need-returns-3 (claims t) (expand-from-at t) expand-from.Post
 expand-from-returns-3 t c =
-    let s = c .before .before .before .before .before .before .before .before .before .before in
-    let y = c .before .before .before .before .before .before .before .level-at in
+    let e = c .before .before .before .before .before .before .before in
+    let s = start t e in
+    let y = e .level-at in
     let g = c .before .before .before .before .before .group-at .ensures in
     done-group (entries-of (s .args .t .now)) (s .args .level) (s .args .at) (s .args .count) (s .args .out .now) (y .result) (c .before .before .expand-from .result) (c .expand-from2 .result)
     (c .before .before .expand-from .last .1 .1 .1 .1 .0) (c .expand-from2 .last .1 .1 .1 .1 .0) (omega arith) (y .ensures) (c .before .before .before .before .before .before .if2 .left)
@@ -87,12 +93,12 @@ expand-from-returns-3 t c =
 
 expand-from-cast-out : (t : ℕ) → expand-from-lts.Need-cast-out (claims t) (expand-from-at t) expand-from.Post
 expand-from-cast-out t c =
-    let s = c .before .before .before .before .before .before in
+    let s = start t (c .before .before .before) in
     omega (arith, valid-most (s .args .t .now) (s .pre .1 .0))
 
 expand-from-element-write-out : (t : ℕ) → expand-from-lts.Need-element-write-out (claims t) (expand-from-at t) expand-from.Post
 expand-from-element-write-out t c =
-    let s = c .before .before .before .before .before .before in
+    let s = start t (c .before .before .before) in
     omega (arith, valid-most (s .args .t .now) (s .pre .1 .0))
 
 expand-from-add-expand-from-2 : (t : ℕ) → expand-from-lts.Need-add-expand-from-2 (claims t) (expand-from-at t) expand-from.Post
@@ -103,13 +109,14 @@ expand-from-add-expand-from-3 t c = search needs
 
 expand-from-expand-from-requires-3 : (t : ℕ) → expand-from-lts.Need-expand-from-requires-3 (claims t) (expand-from-at t) expand-from.Post
 expand-from-expand-from-requires-3 t c κs =
-    let s = c .before .before .before .before .before .before .before in
+    let s = start t (c .before .before .before .before) in
     (omega arith, (s .pre .1 .0, s .pre .1 .1, omega arith, omega arith, simp length-set (s .pre .1 .4)))
 
 expand-from-returns-4 : (t : ℕ) → expand-from-lts.Need-returns-4 (claims t) (expand-from-at t) expand-from.Post
 expand-from-returns-4 t c =
-    let s = c .before .before .before .before .before .before .before .before in
-    let y = c .before .before .before .before .before .level-at in
+    let e = c .before .before .before .before .before in
+    let s = start t e in
+    let y = e .level-at in
     let g = c .before .before .before .group-at .ensures in
     done-field (entries-of (s .args .t .now)) (s .args .level) (s .args .at) (s .args .count) (s .args .out .now) (c .expand-from3 .result) (c .expand-from3 .last .1 .1 .1 .1 .0) (omega arith)
     (rw (y .ensures) at (c .before .before .before .before .if2 .left)) (sym g ∙ c .before .before .if3 .left) (omega (arith, valid-most (s .args .t .now) (s .pre .1 .0))) (c .expand-from3 .ensures)

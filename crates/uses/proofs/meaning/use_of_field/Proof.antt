@@ -16,19 +16,26 @@ use borrow.Author.Needs.{needs}
 use Rattle.uses.proofs.meaning.use_of_field.Statement.{statement}
 use Rattle.uses.proofs.meaning.use_of_field.Tie as tie
 
+-- Where the function begins, seen from after its ranges; and that place, seen from after its length and format.
+abbrev start : tie.After-spread → tie.Start
+start c = c .before .before .before .before
+
+abbrev ranges : tie.After-asked → tie.After-spread
+ranges c = c .before .before .before
+
 -- What the two calls say, over the entries.
 spread-known : (c : tie.After-spread)
-    → (let a = c .before .before .before .before .args in
+    → (let a = start c .args in
     spread-of (c .spread .result) ≡ spread (inside-at (entries-of (a .t .now)) (a .i)) (field-at (entries-of (a .t .now)) (a .i) .multiple) (a .last) (occurrences (a .n)) (bracket (a .n)))
 spread-known c =
-    let a = c .before .before .before .before .args in
+    let a = start c .args in
     rw (← c .before .inside .ensures, multiple-at (entries-of (a .t .now)) (a .i), ← ap (λ (r : Entry). r .multiple) (c .before .before .entry-at .ensures)) (c .spread .ensures)
 
 asked-known : (c : tie.After-asked)
-    → (let a = c .before .before .before .before .before .before .before .args in
+    → (let a = start (ranges c) .args in
     asked-at (field-at (entries-of (a .t .now)) (a .i)) (c .asked .result) ≡ asked (field-at (entries-of (a .t .now)) (a .i)) (length-given (a .n)) (letter-given (a .n)))
 asked-known c =
-    let s = c .before .before .before .before .before .before .before in
+    let s = start (ranges c) in
     let e = c .before .before .before .before .before .entry-at .ensures in
     let g = format-of-field (entries-of (s .args .t .now)) (s .args .i) (s .pre .2) in
     c .asked .ensures .answer (field-at (entries-of (s .args .t .now)) (s .args .i))
@@ -52,7 +59,7 @@ byte-requires-2 c κs = search needs
 
 asked-requires : tie.Need-asked-requires
 asked-requires c κs =
-    let s = c .before .before .before .before .before .before in
+    let s = start (c .before .before) in
     let e = c .before .before .before .before .entry-at .ensures in
     omega (arith, c .before .byte .ensures .0, ap (λ (r : Entry). r .format) e, format-of-field (entries-of (s .args .t .now)) (s .args .i) (s .pre .2) .1)
 
@@ -63,7 +70,7 @@ enum-known-a : tie.Need-enum-known-a
 enum-known-a c = search needs
 
 one-field-requires : tie.Need-one-field-requires
-one-field-requires c κs = let s = c .before .before .before .before .before .before .before .before .before .before .before .before .before in omega (arith, valid-most (s .args .t .now) (s .pre .0))
+one-field-requires c κs = let s = start (ranges (c .before .before .before .before .before .before)) in omega (arith, valid-most (s .args .t .now) (s .pre .0))
 
 enum-told : tie.Need-enum-told
 enum-told c = search needs
@@ -73,24 +80,27 @@ enum-told-2 c = search needs
 
 returns : tie.Need-returns
 returns c =
-    let s = c .before .before .before .before .before .before .before .before .before .before .before .before .before .before in
+    let k = c .before .before .before .before .before .before .before in
+    let s = start (ranges k) in
     rw (c .one-field .ensures)
     (field-as (entries-of (s .args .t .now)) (s .args .i) (s .args .last) (s .args .n) (s .pre .1) (s .pre .2) _ _ _
-    (sym (ap spread-of (c .before .before .before .before .before .s .given .1)) ∙ spread-known (c .before .before .before .before .before .before .before .before .before .before))
-    (sym (ap (asked-at (field-at (entries-of (s .args .t .now)) (s .args .i))) (c .before .before .a .given .1)) ∙ asked-known (c .before .before .before .before .before .before .before))
-    (subst known-format (c .before .before .a .given .1) (c .before .before .before .before .before .before .before .asked .ensures .known)))
+    (sym (ap spread-of (c .before .before .before .before .before .s .given .1)) ∙ spread-known (ranges k))
+    (sym (ap (asked-at (field-at (entries-of (s .args .t .now)) (s .args .i))) (c .before .before .a .given .1)) ∙ asked-known k)
+    (subst known-format (c .before .before .a .given .1) (k .asked .ensures .known)))
 
 returns-2 : tie.Need-returns-2
 returns-2 c =
-    let s = c .before .before .before .before .before .before .before .before .before .before .before .before in
+    let k = c .before .before .before .before .before in
+    let s = start (ranges k) in
     refuse _ _ (field-unfit (field-at (entries-of (s .args .t .now)) (s .args .i)) _ _ _ _ _ _ _
-    (sym (spread-known (c .before .before .before .before .before .before .before .before)) ∙ ap spread-of (c .before .before .before .s .given .1))
-    (sym (asked-known (c .before .before .before .before .before)) ∙ ap (asked-at (field-at (entries-of (s .args .t .now)) (s .args .i))) (c .enum-told .given .1)))
+    (sym (spread-known (ranges k)) ∙ ap spread-of (c .before .before .before .s .given .1))
+    (sym (asked-known k) ∙ ap (asked-at (field-at (entries-of (s .args .t .now)) (s .args .i))) (c .enum-told .given .1)))
 
 returns-3 : tie.Need-returns-3
 returns-3 c =
-    let s = c .before .before .before .before .before .before .before .before .before in
-    refuse _ _ (field-astray (field-at (entries-of (s .args .t .now)) (s .args .i)) _ _ _ _ _ _ (sym (spread-known (c .before .before .before .before .before)) ∙ ap spread-of (c .enum-told2 .given .1)))
+    let r = ranges (c .before .before) in
+    let s = start r in
+    refuse _ _ (field-astray (field-at (entries-of (s .args .t .now)) (s .args .i)) _ _ _ _ _ _ (sym (spread-known r) ∙ ap spread-of (c .enum-told2 .given .1)))
 
 pub use-of-field-spec : {M : Type 1} → statement M
 use-of-field-spec =

@@ -15,10 +15,14 @@ use borrow.Author.Needs.{needs}
 use Rattle.uses.proofs.memory.remember_span.Statement.{statement}
 use Rattle.uses.proofs.memory.remember_span.Tie as tie
 
+-- Where the function begins, seen from where the span is of one field.
+abbrev start : tie.Else1 → tie.Start
+start c = c .before .before .before
+
 -- The first entry of a span of one field is in the table.
-first-within : (c : tie.Else1) → (let a = c .before .before .before .args in a .s .first < length (entries-of (a .t .now)))
+first-within : (c : tie.Else1) → (let a = start c .args in a .s .first < length (entries-of (a .t .now)))
 first-within c =
-    let h = c .before .before .before .pre .1 in
+    let h = start c .pre .1 in
     omega (arith, h .upto, h .alone (c .if1 .left) .next)
 
 cast-last : tie.Need-cast-last
@@ -34,32 +38,33 @@ returns c =
     (stored-remembered (entries-of (s .args .t .now)) (s .args .s) _ (s .pre .1) (c .if1 .taken))
 
 multiple-at-requires : tie.Need-multiple-at-requires
-multiple-at-requires c κs = (c .before .before .before .pre .0, first-within c)
+multiple-at-requires c κs = (start c .pre .0, first-within c)
 
 cast-last-2 : tie.Need-cast-last-2
 cast-last-2 c =
-    let s = c .before .before .before .before .before .before in
+    let s = start (c .before .before .before) in
     let h = s .pre .1 in
     omega (arith, ordered-within (range (s .args .s .«value_from») (s .args .s .«value_upto»)) (h .values) .2)
 
 mul-last : tie.Need-mul-last
-mul-last c = let s = c .before .before .before .before .before .before in omega (arith, first-within (c .before .before .before), valid-most (s .args .t .now) (s .pre .0))
+mul-last c = let e = c .before .before .before in let s = start e in omega (arith, first-within e, valid-most (s .args .t .now) (s .pre .0))
 
 element-write-last-2 : tie.Need-element-write-last-2
-element-write-last-2 c = let s = c .before .before .before .before .before .before in omega (arith, first-within (c .before .before .before), valid-most (s .args .t .now) (s .pre .0))
+element-write-last-2 c = let e = c .before .before .before in let s = start e in omega (arith, first-within e, valid-most (s .args .t .now) (s .pre .0))
 
 returns-2 : tie.Need-returns-2
 returns-2 c =
-    let s = c .before .before .before .before .before .before in
-    let h = first-within (c .before .before .before) in
+    let e = c .before .before .before in
+    let s = start e in
+    let h = first-within e in
     let most = valid-most (s .args .t .now) (s .pre .0) in
     behind-remembered (entries-of (s .args .t .now)) _ _ _ _ _ most
-    (multiple-remembered (entries-of (s .args .t .now)) (s .args .s) _ (c .before .before .before .if1 .left) (multiple-at (entries-of (s .args .t .now)) _ ∙ sym (c .before .before .multiple-at .ensures) ∙ c .before .if2 .taken)
+    (multiple-remembered (entries-of (s .args .t .now)) (s .args .s) _ (e .if1 .left) (multiple-at (entries-of (s .args .t .now)) _ ∙ sym (c .before .before .multiple-at .ensures) ∙ c .before .if2 .taken)
     (omega (arith, h, most, s .pre .2, length-set (s .args .last .now) most-entries (s .args .s .end))) (λ j k q. one-entry (s .args .t .now) (s .pre .0) _ j h k q))
 
 returns-3 : tie.Need-returns-3
 returns-3 c =
-    let s = c .before .before .before .before .before in
+    let s = start (c .before .before) in
     behind-remembered (entries-of (s .args .t .now)) _ _ _ _ _ (valid-most (s .args .t .now) (s .pre .0))
     (single-remembered (entries-of (s .args .t .now)) (s .args .s) _ (c .before .before .if1 .left) (multiple-at (entries-of (s .args .t .now)) _ ∙ sym (c .before .multiple-at .ensures) ∙ c .if2 .left))
 

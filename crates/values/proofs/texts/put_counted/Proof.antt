@@ -11,6 +11,10 @@ use borrow.Author.Needs.{needs}
 use Rattle.values.proofs.texts.put_counted.Statement.{statement}
 use Rattle.values.proofs.texts.put_counted.Tie as tie
 
+-- Where the function begins, seen from after its second write.
+abbrev start : tie.After-put → tie.Start
+start c = c .before .before .before .before
+
 add-count : tie.Need-add-count
 add-count c = search needs
 
@@ -28,12 +32,12 @@ put-requires c κs = search needs
 
 same-length : tie.Need-same-length
 same-length c =
-    let a = c .before .before .before .before .before .before .args in
+    let a = start (c .before .before) .args in
     omega (arith, length-set (a .out .now) (a .at) (length (a .t .now) + 1))
 
 returns : tie.Need-returns
 returns c =
-    let a = c .before .before .before .before .before .before .args in
+    let a = start (c .before .before) .args in
     let v = length (a .t .now) + 1 in
     splice-chain (a .at) (v ∷ []) (a .t .now) (a .out .now) _ _ _ (set-splice (a .out .now) (a .at) v (omega arith)) (c .before .before .put .ensures .1) refl (omega arith)
     ∙ ap (λ n. splice (a .at) (n ∷ a .t .now) (a .out .now)) (add-one (length (a .t .now)))
