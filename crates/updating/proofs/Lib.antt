@@ -1,0 +1,4 @@
+pub mod Occurrences
+pub mod Body
+pub mod Counted
+pub mod Turns

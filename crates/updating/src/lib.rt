@@ -1,0 +1,1 @@
+// The new record of an update, laid out in table order.
