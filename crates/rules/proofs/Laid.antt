@@ -1,16 +1,16 @@
 -- A record that was laid out has the counts and the values of its plan.
 use mathlib.Core.Path.{_≡_, refl, _∙_, ap}
+use mathlib.Core.Bool.{Bool, true, false}
 use mathlib.Core.Option.{none, some}
 use mathlib.Core.List.{List, [], _∷_, map}
-use Prim.Native.Nat.{ℕ, zero, suc, pred, _+_, _≤_, _<_}
-use native.Mathlib.Nat.{add-zero, not-suc-le-zero, le-of-suc-le-suc}
+use Prim.Native.Nat.{ℕ, zero, suc, pred, _≤_, _<_}
+use native.Mathlib.Nat.{not-suc-le-zero, le-of-suc-le-suc}
 use native.Mathlib.Omega.{arith}
 use lib.Dec.{eqb}
 use lib.ListN.{length, getD, List·getD-eq-default}
-use Rattle.rules.specs.Lists.{run}
 use Rattle.rules.specs.Values.{null}
 use Rattle.rules.specs.Table.{Field, Part, member}
-use Rattle.rules.specs.Record.{Cell, Record, Plan, laid-out, laid-part, laid-cell, cell-of, values-at, value-at}
+use Rattle.rules.specs.Record.{Cell, Record, Plan, laid-out, laid-part, laid-cell, count-or-one, cell-of, values-at, value-at, group-count-at}
 use Rattle.rules.proofs.Steps.{by-test, by-option, not-some, some-inj, from-some-pair}
 use Rattle.rules.proofs.Runs.{run-length, run-from-one, run-past}
 use Rattle.rules.proofs.Home.{home}
@@ -28,16 +28,28 @@ unfolding cell-of
 cell-none n [] = refl
 cell-none n (f ∷ fs) = refl
 
+-- A record type has η, so that a flag of a part or a field is handed to a law that splits it.
+pub within-count : (c : Bool) {i n : ℕ} → i ≤ n → (c ≡ false → i ≡ 1) → i ≤ count-or-one c n
+unfolding count-or-one
+within-count true h o = h
+within-count false h o = let q = o refl in omega arith
+
 -- How many occurrences the part has that the field n stands in.
 unfoldable pub occurrences-at : List Part → Record → ℕ → ℕ
 occurrences-at [] r n = 0
 occurrences-at (p ∷ ps) [] n = 0
 occurrences-at (p ∷ ps) (os ∷ r) n = elim (member n (p .members)) [ some f ↦ length os | none ↦ occurrences-at ps r n ]
 
-occurrences-none : (ps : List Part) (n : ℕ) → occurrences-at ps [] n ≡ 0
+pub occurrences-none : (ps : List Part) (n : ℕ) → occurrences-at ps [] n ≡ 0
 unfolding occurrences-at
 occurrences-none [] n = refl
 occurrences-none (p ∷ ps) n = refl
+
+-- Nor is a group counted where there is nothing.
+pub group-none : (ps : List Part) (n : ℕ) → group-count-at ps [] n ≡ 0
+unfolding group-count-at
+group-none [] n = refl
+group-none (p ∷ ps) n = refl
 
 pub values-past : (ps : List Part) (r : Record) (n i : ℕ) → occurrences-at ps r n < i → values-at ps r n i ≡ []
 unfolding values-at occurrences-at

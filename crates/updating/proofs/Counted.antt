@@ -13,6 +13,7 @@ use Rattle.rules.specs.Update.{Assignment, update-plan, after-update}
 use Rattle.rules.proofs.Steps.{eqb-same}
 use Rattle.rules.proofs.Places.{Avoids, from-avoids, from-differ}
 use Rattle.rules.proofs.Uses.{picked-differ, table-differ}
+use Rattle.rules.proofs.Laid.{group-none}
 use Rattle.rules.proofs.Names.{part-names, parts-parted}
 use Rattle.updating.specs.Laid.{laid-from}
 use Rattle.updating.proofs.Body.{first-count, after-first, Counts, Once-laid, body-from}
@@ -22,14 +23,9 @@ unfolding group-count-at
 count-here p ps [] = refl
 count-here p ps (os ∷ r) = rw (eqb-same (p .name), group-count-at)
 
-no-count : (ps : List Part) (n : ℕ) → group-count-at ps [] n ≡ 0
-unfolding group-count-at
-no-count [] n = refl
-no-count (p ∷ ps) n = refl
-
 count-later : (p : Part) (ps : List Part) (r : Record) (n : ℕ) → (p .name ≡ n → ⊥) → group-count-at (p ∷ ps) r n ≡ group-count-at ps (after-first r) n
 unfolding group-count-at
-count-later p ps [] n d = sym (no-count ps n)
+count-later p ps [] n d = sym (group-none ps n)
 count-later p ps (os ∷ r) n d = rw (ne-eqb (p .name) n d, group-count-at)
 
 counts-later : (p : Part) (ps : List Part) (r : Record) (qs : List Part) (s : Record) → Avoids (p .name) (part-names qs)
