@@ -9,7 +9,7 @@ use Rattle.rules.specs.Outcome.{done}
 use Rattle.rules.specs.Limits.{count-size}
 use Rattle.rules.specs.Lists.{Bytes, join, run}
 use Rattle.rules.specs.Values.{Format, content, allowed}
-use Rattle.rules.specs.Table.{Entry, Field, parts}
+use Rattle.rules.specs.Table.{Entry, Field, group, parts}
 use Rattle.rules.specs.Record.{Record, times, each, stored-cell, stored, group-count-at, values-at}
 use Rattle.tables.specs.Entries.{blank, is-group, is-multiple}
 use Rattle.tables.specs.Groups.{group-end, field-at, fields-in}
@@ -41,6 +41,15 @@ pub record Entry-at (es : List Entry) (b : Bytes) (places : List ℕ) (g i o : �
 abbrev pub Entered : List Entry → Bytes → List ℕ → ℕ → ℕ → ℕ → Record → Cell → Type 0
 Entered es b places g i o r (At q) = (p : ℕ) × Entry-at es b places g i o r p q
 Entered es b places g i o r Nothing = group-count-at (parts es) r (getD es g blank .name) < o
+
+-- The same of an entry among the members of that group.
+pub record Member-entered (es : List Entry) (b : Bytes) (places : List ℕ) (g i o : ℕ) (r : Record) (c : Cell) : Type 0 where
+  pub held : Is-record es b places r
+  pub periodic : getD es g blank .what ≡ group true
+  pub after : g < i
+  pub within : i < group-end es g
+  pub some : 1 ≤ o
+  pub entered : Entered es b places g i o r c
 
 -- The cell of entry i in occurrence o of a record: from a place on, or there is none.
 abbrev pub Cell-of : List Entry → Bytes → ℕ → ℕ → Record → Cell → Type 0

@@ -30,7 +30,7 @@ pub enum Reach {
 }
 
 // Whether entry i is a periodic group or lies in one, by whether the entry before it does.
-fn inside_next(t: &[u8], i: usize, before: bool) -> bool
+pub fn inside_next(t: &[u8], i: usize, before: bool) -> bool
     requires { ⌜ Valid (now t) × (i < length (entries-of (now t))) ⌝ }
     ensures { λ r. ⌜ r ≡ is-inside before (getD (entries-of (now (t .entry))) i blank) ⌝ }
 {

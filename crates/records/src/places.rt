@@ -1,7 +1,8 @@
 // Where the values of a stored record lie.
 ghost use mathlib.Core.Path.{_≡_};
 ghost use mathlib.Core.Bool.{true, false};
-ghost use Prim.Native.Nat.{_+_, _-_, _≤_, _<_};
+ghost use mathlib.Core.List.{List};
+ghost use Prim.Native.Nat.{ℕ, _+_, _-_, _≤_, _<_};
 ghost use lib.ListN.{length, drop, getD};
 ghost use lib.Seq.{slice};
 ghost use Rattle.rules.specs.Limits.{record-head-size, count-size};
@@ -10,7 +11,7 @@ ghost use Rattle.rules.specs.Record.{Record, times, each, stored-cell, group-co
 ghost use Rattle.tables.specs.Entries.{Valid, entries-of, blank, is-group, is-multiple};
 ghost use Rattle.tables.specs.Places.{inside-at};
 ghost use Rattle.tables.specs.Groups.{group-end, fields-in};
-ghost use Rattle.records.specs.Places.{Is-record, Has-record, Entered, Cell-of, Outside, Piece-of, Occurrences-of};
+ghost use Rattle.records.specs.Places.{Is-record, Has-record, Entered, Member-entered, Cell-of, Outside, Piece-of, Occurrences-of};
 ghost use Rattle.records.specs.Counts.{count-at, greatest-byte};
 ghost use Rattle.records.specs.Walk.{directory, rest-of, Walked, Ends, start-of, occurrence, greatest-kept};
 ghost use Rattle.records.specs.Paths.{Wide, Leads};
@@ -93,6 +94,36 @@ fn entry_in(t: &[u8], b: &[u8], places: &[u16; DIRECTORY], path: Path, o: usize)
     }
     let row = occurrence_at(t, b, places, g, o);
     Cell::At(place_in(t, b, path, row))
+}
+
+// Where occurrence o of the periodic group that entry g is begins, which is where the cell of its first member would stand.
+pub fn first_cell(t: &[u8], b: &[u8], places: &[u16; DIRECTORY], g: usize, o: usize) -> Cell
+    requires { ⌜ Valid (now t) × (g < length (entries-of (now t))) × (getD (entries-of (now t)) g blank .what ≡ group true) × (1 ≤ o) × Has-record (entries-of (now t)) (now b) (now places) ⌝ }
+    ensures { λ c. ⌜ ((r : Record) → Is-record (entries-of (now (t .entry))) (now (b .entry)) (now (places .entry)) r → Entered (entries-of (now (t .entry))) (now (b .entry)) (now (places .entry)) g (g + 1) o r c) ⌝ }
+{
+    if group_count(t, b, places, g) < o {
+        return Cell::Nothing;
+    }
+    Cell::At(occurrence_at(t, b, places, g, o))
+}
+
+// Where the cell after that of entry i stands in the same occurrence.
+pub fn next_cell(t: &[u8], b: &[u8], i: usize, cell: Cell) -> Cell
+    requires { ⌜ Valid (now t) × (i < length (entries-of (now t))) × ((places : List ℕ) × (g : ℕ) × (o : ℕ) × (r : Record) × Member-entered (entries-of (now t)) (now b) places g i o r cell) ⌝ }
+    ensures { λ c. ⌜ ((places : List ℕ) (g o : ℕ) (r : Record) → Member-entered (entries-of (now (t .entry))) (now (b .entry)) places g i o r cell → Entered (entries-of (now (t .entry))) (now (b .entry)) places g (i + 1) o r c) ⌝ }
+{
+    match cell {
+        Cell::At(q) => Cell::At(skip::members_end(t, b, q, i, i + 1)),
+        Cell::Nothing => Cell::Nothing,
+    }
+}
+
+// The cell of entry i, a field outside periodic groups.
+pub fn outside_cell(t: &[u8], b: &[u8], places: &[u16; DIRECTORY], i: usize) -> Cell
+    requires { ⌜ Valid (now t) × (i < length (entries-of (now t))) × (is-group (getD (entries-of (now t)) i blank .what) ≡ false) × (inside-at (entries-of (now t)) i ≡ false) ⌝ }
+    ensures { λ c. ⌜ ((r : Record) → Is-record (entries-of (now (t .entry))) (now (b .entry)) (now (places .entry)) r → Cell-of (entries-of (now (t .entry))) (now (b .entry)) i 1 r c) ⌝ }
+{
+    Cell::At(place_of(places, i))
 }
 
 // The cell of a field in occurrence o, by the way to it; outside periodic groups there is occurrence 1.

@@ -17,10 +17,11 @@ use Rattle.rules.specs.Format.{Range, Element}
 use Rattle.rules.specs.Use.{Asked, Use, values, items-of, items, Found, find, asked, in-order, just, Spread, spread, Indexes, last-index, indexes-after, use-of-field, use-of, uses}
 use Rattle.rules.specs.Update.{Assignment, assignments, to-field, highest-value, bare-only, new-value-count}
 use Rattle.rules.proofs.Steps.{from-bind, from-need, done-inj, not-done, and-left, and-right, by-test, eqb-same, true-T, T-true}
+use Rattle.rules.proofs.Alls.{all-parts}
 use Rattle.rules.proofs.Places.{counting}
 use Rattle.rules.proofs.Uses.{in-order-le, not-T-false}
 use Rattle.rules.proofs.Ranges.{first-value-item}
-use Rattle.rules.proofs.Named.{values-named, named-append, value-and-bare, assigned-named, all-parts, Bare-all, Bare-none, true-not-false, nothing-there, none-append, last-kept, last-now, asked-field, one-item, field-none, by-use}
+use Rattle.rules.proofs.Named.{values-named, named-append, value-and-bare, assigned-named, Bare-all, Bare-none, true-not-false, nothing-there, none-append, last-kept, last-now, asked-field, one-item, field-none, by-use}
 
 -- Whether what is found is an MU field outside periodic groups.
 multiple-what : What → Bool

@@ -48,7 +48,7 @@ each-keeps P one s (y ∷ ys) bs xs rest p =
     from-done k₂ λ e f.
     rw (← e) (s y bs (x .0) (x .1) h, each-keeps P one s ys (x .1) (zs .0) (zs .1) h₂)
 
-cut-back : (k : ℕ) (xs rest : Bytes) → cut k (length xs) (xs ++ rest) ≡ done (xs, rest)
+pub cut-back : (k : ℕ) (xs rest : Bytes) → cut k (length xs) (xs ++ rest) ≡ done (xs, rest)
 unfolding cut
 cut-back k [] rest = refl
 cut-back k (x ∷ xs) rest = rw (cut-back k xs rest) refl

@@ -18,6 +18,7 @@ use Rattle.rules.specs.Use.{Item, blanks-item, text-item, group-count, v
 use Rattle.rules.specs.Update.{Assignment, assignments, to-field}
 use Rattle.rules.proofs.Steps.{from-bind, from-need, done-inj, not-done, and-left, and-right, by-test, by-option, eqb-same, true-T}
 use Rattle.rules.proofs.Back.{All}
+use Rattle.rules.proofs.Alls.{all-append}
 use Rattle.rules.proofs.Uses.{by-what, Single, plain-single, to-picked, not-group}
 use Rattle.rules.proofs.Ranges.{over-just, item-at, one-field}
 
@@ -64,15 +65,6 @@ assigned-named n i (value-item q g s bare ∷ xs) bs ws p =
     rw (← done-inj k₃) (by-test (eqb (q .field .name) n && eqb (q .occurrence) i)
     (λ e. rw (e, values-named, filter) (ap (_∷_ (q .value, bare)) (assigned-named n i xs (r .1) vs h₃)))
     (λ e. rw (e, values-named, filter) (assigned-named n i xs (r .1) vs h₃)))
-
-module _ {A : Type 0} (P : A → Type 0) where
-  all-append : (xs ys : List A) → All P xs → All P ys → All P (xs ++ ys)
-  all-append [] ys a b = b
-  all-append (x ∷ xs) ys a b = (a .0, all-append xs ys (a .1) b)
-
-  pub all-parts : (xs ys : List A) → All P (xs ++ ys) → All P xs × All P ys
-  all-parts [] ys a = (tt, a)
-  all-parts (x ∷ xs) ys a = let (l, r) = all-parts xs ys (a .1) in ((a .0, l), r)
 
 abbrev pub Bare-all : List (ℕ × Bool) → Type 0
 Bare-all = All (λ c. c .1 ≡ true)

@@ -3,7 +3,8 @@ use mathlib.Core.Path.{_≡_, refl}
 use mathlib.Core.Bool.{Bool, true, false, not, _&&_}
 use mathlib.Core.List.{List, [], _∷_, map, map-map}
 use mathlib.Core.Option.{Option, none, some}
-use Prim.Native.Nat.{ℕ, suc, _≤_}
+use Prim.Native.Nat.{ℕ, suc, _+_, _-_, _≤_, _<_}
+use native.Mathlib.Omega.{arith}
 use lib.Dec.{T, eqb, leb, leb→le, ltb}
 use lib.ListN.{getD, take, drop}
 use Rattle.rules.specs.Outcome.{Outcome, done, refused}
@@ -105,6 +106,17 @@ unfolding in-order
 in-order-le r t =
     leb→le (r .from) (r .upto)
     (and-right (leb 1 (r .from)) (leb (r .from) (r .upto)) (and-left (leb 1 (r .from) && leb (r .from) (r .upto)) (leb (r .upto) highest-index) t))
+
+-- An index that a format can have: each of a range is one.
+abbrev pub Index : ℕ → Type 0
+Index i = (1 ≤ i) × (i ≤ highest-index)
+
+pub range-index : (r : Range) → T (in-order r) → (k : ℕ) → r .from ≤ k → k < r .from + (suc (r .upto) - r .from) → Index k
+unfolding in-order
+range-index r t k a b =
+    let x = leb→le 1 (r .from) (and-left (leb 1 (r .from)) (leb (r .from) (r .upto)) (and-left (leb 1 (r .from) && leb (r .from) (r .upto)) (leb (r .upto) highest-index) t)) in
+    let y = leb→le (r .upto) highest-index (and-right (leb 1 (r .from) && leb (r .from) (r .upto)) (leb (r .upto) highest-index) t) in
+    (omega arith, omega arith)
 
 abbrev In-order : Spread → Type 0
 In-order s = T (in-order (s .occurrences)) × T (in-order (s .values))

@@ -1,0 +1,84 @@
+-- What the new record takes and keeps: each value is what is assigned to it, or what it was, or null.
+use mathlib.Core.Path.{_≡_}
+use mathlib.Core.Bool.{true}
+use mathlib.Core.List.{List, []}
+use mathlib.Core.Option.{Option, none, some}
+use Prim.Native.Nat.{ℕ, pred, _-_, _≤_}
+use lib.Dec.{T}
+use lib.ListN.{length, drop, getD}
+use Rattle.rules.specs.Outcome.{done}
+use Rattle.rules.specs.Limits.{greatest-count}
+use Rattle.rules.specs.Lists.{Bytes, join, run}
+use Rattle.rules.specs.Values.{Format, null}
+use Rattle.rules.specs.Table.{Entry, parts, differ, names}
+use Rattle.rules.specs.Record.{Record, Plan, times, counted, stored-value}
+use Rattle.rules.specs.Update.{Assignment, to-field, bare-only, highest-value, update-plan}
+use Rattle.records.specs.Places.{Is-record, Cell-of}
+use Rattle.records.specs.declared.places.Cell.{Cell}
+use Rattle.records.specs.declared.places.Cell.the-variants.{At, Nothing}
+use Rattle.assignments.specs.Notes.{Indexed}
+use Rattle.assignments.specs.Answers.{bytes-noted}
+use Rattle.filling.specs.Filling.{in-room, Filling}
+use Rattle.filling.specs.declared.Next.{Next}
+use Rattle.updating.specs.declared.cells.Run.{Run}
+
+-- The list and the stage hold the assignments of an update: its bare names number the values of a field from 1 on.
+pub record Assigns (es : List Entry) (list : List ℕ) (stage : Bytes) (ws : List Assignment) : Type 0 where
+  pub staged : ℕ
+  pub indexed : Indexed es list stage staged ws
+  pub bare : (n i : ℕ) → bare-only (to-field ws n i) ≡ true → length (to-field ws n i) ≡ highest-value ws n i
+
+-- A record and assignments are there; and bytes that go by them were put into room.
+abbrev pub Has-both : List Entry → Bytes → List ℕ → List ℕ → Bytes → Type 0
+Has-both es b places list stage = ((r : Record) × Is-record es b places r) × ((ws : List Assignment) × Assigns es list stage ws)
+
+abbrev pub Puts : List Entry → Bytes → List ℕ → List ℕ → Bytes → (Plan → Record → Bytes) → ℕ → ℕ → Bytes → Bytes → Next → Type 0
+Puts es b places list stage new at end entry exit n =
+    (r : Record) (ws : List Assignment) → Is-record es b places r → Assigns es list stage ws
+    → Filling (in-room (end - at) (done (new (update-plan (parts es) r ws) r))) at true entry exit n
+
+-- The same of one cell, which goes by its own values alone.
+abbrev pub Has-cell : List Entry → Bytes → List ℕ → Bytes → ℕ → ℕ → Cell → Type 0
+Has-cell es b list stage i o cell = ((r : Record) × Cell-of es b i o r cell) × ((ws : List Assignment) × Assigns es list stage ws)
+
+abbrev pub Puts-cell : List Entry → Bytes → List ℕ → Bytes → ℕ → ℕ → Cell → (Plan → Bytes) → ℕ → ℕ → Bytes → Bytes → Next → Type 0
+Puts-cell es b list stage i o cell new at end entry exit n =
+    (r : Record) (ws : List Assignment) → Cell-of es b i o r cell → Assigns es list stage ws
+    → Filling (in-room (end - at) (done (new (update-plan (parts es) r ws)))) at true entry exit n
+
+-- A value as it was: it stands at a place, or there is none and it is null.
+abbrev pub Was : Bytes → Format → ℕ → Bytes → Cell → Type 0
+Was b f n v (At q) = (q ≤ length b) × (rest : Bytes) × (stored-value f n (drop q b) ≡ done (v, rest))
+Was b f n v Nothing = v ≡ null f n
+
+-- A value that takes bytes, or stays as it was.
+abbrev pub taken : Option Bytes → Bytes → Bytes
+taken (some b) v = b
+taken none v = v
+
+-- The values that a cell of an MU field had.
+abbrev pub Had : Bytes → Format → ℕ → List Bytes → Cell → Type 0
+Had b f n vs (At q) = (q ≤ length b) × (rest : Bytes) × (counted true (stored-value f n) (drop q b) ≡ done (vs, rest))
+Had b f n vs Nothing = vs ≡ []
+
+-- Old values that stand from a place on.
+abbrev pub Were : Bytes → Format → ℕ → ℕ → ℕ → List Bytes → Type 0
+Were b f n from old vs = (from ≤ length b) × (rest : Bytes) × (times old (stored-value f n) (drop from b) ≡ done (vs, rest))
+
+-- The old values of a cell of an MU field, by the run of them that the code finds.
+pub record Old (b : Bytes) (f : Format) (n : ℕ) (vs : List Bytes) (run : Run) : Type 0 where
+  pub were : Were b f n (run .from) (run .count) vs
+  pub many : run .count ≡ length vs
+  pub most : run .count ≤ greatest-count
+
+-- The notes of the values of a field, by one above their numbers.
+pub record Notes-by (es : List Entry) (list : List ℕ) (stage : Bytes) (by : List ℕ) : Type 0 where
+  pub staged : ℕ
+  pub assigned : List Assignment
+  pub indexed : Indexed es list stage staged assigned
+  pub named : T (differ (names es))
+  pub few : (k : ℕ) → getD by k 0 ≤ length assigned
+
+-- Values k to k + n - 1 of a field: those that notes give, and else the old ones, or null.
+unfoldable pub new-values : List Entry → List ℕ → Bytes → List ℕ → Format → ℕ → List Bytes → ℕ → ℕ → Bytes
+new-values es list stage by f size vs k n = join (run (λ i. taken (bytes-noted es list stage (getD by i 0)) (getD vs (pred i) (null f size))) k n)

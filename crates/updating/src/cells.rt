@@ -1,0 +1,241 @@
+// A cell of the new record: each value takes what is assigned to it, or stays as it was, or is null.
+ghost use mathlib.Core.Path.{_≡_};
+ghost use mathlib.Core.Bool.{true, false};
+ghost use mathlib.Core.List.{List};
+ghost use mathlib.Core.Option.{Option};
+ghost use Prim.Native.Nat.{ℕ, _+_, _-_, _≤_, _<_, max};
+ghost use lib.ListN.{length, getD};
+ghost use Rattle.rules.specs.Outcome.{done};
+ghost use Rattle.rules.specs.Limits.{formats, highest-index, greatest-count};
+ghost use Rattle.rules.specs.Lists.{Bytes};
+ghost use Rattle.rules.specs.Values.{Format, allowed};
+ghost use Rattle.rules.specs.Table.{Entry};
+ghost use Rattle.rules.specs.Record.{count-bytes};
+ghost use Rattle.value_formats.specs.Formats.{format-at};
+ghost use Rattle.tables.specs.Entries.{Valid, entries-of, blank, is-group, is-multiple};
+ghost use Rattle.tables.specs.Groups.{field-at};
+ghost use Rattle.assignments.specs.Answers.{Stands};
+ghost use Rattle.filling.specs.Filling.{Roomy, Filling, in-room};
+ghost use Rattle.updating.specs.Laid.{cell-laid};
+ghost use Rattle.updating.specs.New.{Has-cell, Puts-cell, Was, taken, Had, Old, Notes-by, new-values};
+use assignments::Staged;
+use filling::Next;
+use records::places::Cell;
+use rules::Refusal;
+
+// The values of an MU field that stand one after the other from a place on.
+pub struct Run {
+    pub from: usize,
+    pub count: usize,
+}
+
+pub fn larger(a: usize, b: usize) -> usize
+    ensures { λ r. ⌜ r ≡ max a b ⌝ }
+{
+    if a < b { b } else { a }
+}
+
+// A count, in room.
+pub fn put_count(n: usize, out: &mut [u8], at: usize, end: usize) -> Next
+    requires { ⌜ (n ≤ greatest-count) × Roomy at end (now out) ⌝ }
+    ensures { λ r. ⌜ Filling (in-room (end - at) (done (count-bytes n))) at true (now (out .entry)) (now (out .exit)) r ⌝ }
+{
+    if end - at < rules::COUNT_SIZE {
+        return Next::Refused(Refusal::BeyondBuffer);
+    }
+    Next::At(records::counts::put_count(n, out, at))
+}
+
+// A value as it was.
+fn put_old(
+    b: &[u8],
+    cell: Cell,
+    format: usize,
+    size: usize,
+    out: &mut [u8],
+    at: usize,
+    end: usize,
+) -> Next
+    requires { ⌜ (format < formats) × (allowed (format-at format) size ≡ true) × ((v : Bytes) × Was (now b) (format-at format) size v cell) × Roomy at end (now out) ⌝ }
+    ensures { λ r. ⌜ ((v : Bytes) → Was (now (b .entry)) (format-at format) size v cell → Filling (in-room (end - at) (done v)) at true (now (out .entry)) (now (out .exit)) r) ⌝ }
+{
+    match cell {
+        Cell::At(from) => {
+            let upto = records::skip::values_end(b, from, 1, size);
+            filling::put_bytes(&b[from..upto], out, at, end, true)
+        }
+        Cell::Nothing => filling::put_nulls(1, format, size, out, at, end, true),
+    }
+}
+
+// A value that takes what stands on the stage, or stays as it was.
+fn put_value(
+    b: &[u8],
+    stage: &[u8],
+    s: Staged,
+    cell: Cell,
+    format: usize,
+    size: usize,
+    out: &mut [u8],
+    at: usize,
+    end: usize,
+) -> Next
+    requires { ⌜ (format < formats) × (allowed (format-at format) size ≡ true) × ((o : Option Bytes) × Stands (now stage) o s) × ((v : Bytes) × Was (now b) (format-at format) size v cell) × Roomy at end (now out) ⌝ }
+    ensures { λ r. ⌜ ((o : Option Bytes) (v : Bytes) → Stands (now (stage .entry)) o s → Was (now (b .entry)) (format-at format) size v cell → Filling (in-room (end - at) (done (taken o v))) at true (now (out .entry)) (now (out .exit)) r) ⌝ }
+{
+    match s {
+        Staged::At(from, upto) => filling::put_bytes(&stage[from..upto], out, at, end, true),
+        Staged::Nothing => put_old(b, cell, format, size, out, at, end),
+    }
+}
+
+// Values 1 to n of an MU field, by the note of each and the old values.
+fn put_values(
+    b: &[u8],
+    list: &[u16],
+    stage: &[u8],
+    by: &[u16; assignments::VALUES],
+    old: Run,
+    n: usize,
+    format: usize,
+    size: usize,
+    out: &mut [u8],
+    at: usize,
+    end: usize,
+) -> Next
+    requires { ⌜ (format < formats) × (allowed (format-at format) size ≡ true) × (n ≤ highest-index) × (length (now by) ≡ highest-index + 1) × ((es : List Entry) × Notes-by es (now list) (now stage) (now by)) × ((vs : List Bytes) × Old (now b) (format-at format) size vs old) × Roomy at end (now out) ⌝ }
+    ensures { λ r. ⌜ ((es : List Entry) (vs : List Bytes) → Notes-by es (now (list .entry)) (now (stage .entry)) (now (by .entry)) → Old (now (b .entry)) (format-at format) size vs old → Filling (in-room (end - at) (done (new-values es (now (list .entry)) (now (stage .entry)) (now (by .entry)) (format-at format) size vs 1 n))) at true (now (out .entry)) (now (out .exit)) r) ⌝ }
+{
+    let mut q = old.from;
+    let mut p = at;
+    let mut k = 1;
+    while k <= n {
+        let exists = k <= old.count;
+        let cell = if exists { Cell::At(q) } else { Cell::Nothing };
+        let s = assignments::bytes_of(list, by[k] as usize);
+        match put_value(b, stage, s, cell, format, size, out, p, end) {
+            Next::Refused(x) => {
+                return Next::Refused(x);
+            }
+            Next::At(next) => {
+                p = next;
+            }
+        }
+        if exists {
+            q = records::skip::values_end(b, q, 1, size);
+        }
+        k += 1;
+    }
+    Next::At(p)
+}
+
+// The old values of an MU field.
+fn old_values(b: &[u8], cell: Cell) -> Run
+    requires { ⌜ (f : Format) × (n : ℕ) × (vs : List Bytes) × Had (now b) f n vs cell ⌝ }
+    ensures { λ r. ⌜ ((f : Format) (n : ℕ) (vs : List Bytes) → Had (now (b .entry)) f n vs cell → Old (now (b .entry)) f n vs r) ⌝ }
+{
+    match cell {
+        Cell::At(q) => Run {
+            from: records::counts::after_count(b, q),
+            count: records::counts::count_at(b, q),
+        },
+        Cell::Nothing => Run { from: 0, count: 0 },
+    }
+}
+
+// The cell of entry i, an MU field, in occurrence o: by bare names only its count is the number of names, else the larger of the old
+// count and the highest value named.
+fn put_counted(
+    t: &[u8],
+    b: &[u8],
+    list: &[u16],
+    stage: &[u8],
+    i: usize,
+    o: usize,
+    cell: Cell,
+    out: &mut [u8],
+    at: usize,
+    end: usize,
+) -> Next
+    requires { ⌜ Valid (now t) × (i < length (entries-of (now t))) × (is-multiple (getD (entries-of (now t)) i blank .what) ≡ true) × (o ≤ highest-index) × Has-cell (entries-of (now t)) (now b) (now list) (now stage) i o cell × Roomy at end (now out) ⌝ }
+    ensures { λ n. ⌜ Puts-cell (entries-of (now (t .entry))) (now (b .entry)) (now (list .entry)) (now (stage .entry)) i o cell (λ w. cell-laid w o (field-at (entries-of (now (t .entry))) i)) at end (now (out .entry)) (now (out .exit)) n ⌝ }
+{
+    let e = tables::entry_at(t, i);
+    let old = old_values(b, cell);
+    let mut by = [0u16; assignments::VALUES];
+    let named = assignments::named(list, i, o, &mut by);
+    let n = if named.bare {
+        named.highest
+    } else {
+        larger(old.count, named.highest)
+    };
+    match put_count(n, out, at, end) {
+        Next::Refused(x) => Next::Refused(x),
+        Next::At(p) => put_values(
+            b,
+            list,
+            stage,
+            &by,
+            old,
+            n,
+            e.format as usize,
+            e.size as usize,
+            out,
+            p,
+            end,
+        ),
+    }
+}
+
+// The cell of entry i, a field that is not MU, in occurrence o.
+fn put_plain(
+    t: &[u8],
+    b: &[u8],
+    list: &[u16],
+    stage: &[u8],
+    i: usize,
+    o: usize,
+    cell: Cell,
+    out: &mut [u8],
+    at: usize,
+    end: usize,
+) -> Next
+    requires { ⌜ Valid (now t) × (i < length (entries-of (now t))) × (is-group (getD (entries-of (now t)) i blank .what) ≡ false) × (is-multiple (getD (entries-of (now t)) i blank .what) ≡ false) × (o ≤ highest-index) × Has-cell (entries-of (now t)) (now b) (now list) (now stage) i o cell × Roomy at end (now out) ⌝ }
+    ensures { λ n. ⌜ Puts-cell (entries-of (now (t .entry))) (now (b .entry)) (now (list .entry)) (now (stage .entry)) i o cell (λ w. cell-laid w o (field-at (entries-of (now (t .entry))) i)) at end (now (out .entry)) (now (out .exit)) n ⌝ }
+{
+    let e = tables::entry_at(t, i);
+    let s = assignments::assigned(list, i, o, 1);
+    put_value(
+        b,
+        stage,
+        s,
+        cell,
+        e.format as usize,
+        e.size as usize,
+        out,
+        at,
+        end,
+    )
+}
+
+// The cell of entry i, a field, in occurrence o.
+pub fn put_cell(
+    t: &[u8],
+    b: &[u8],
+    list: &[u16],
+    stage: &[u8],
+    i: usize,
+    o: usize,
+    cell: Cell,
+    out: &mut [u8],
+    at: usize,
+    end: usize,
+) -> Next
+    requires { ⌜ Valid (now t) × (i < length (entries-of (now t))) × (is-group (getD (entries-of (now t)) i blank .what) ≡ false) × (o ≤ highest-index) × Has-cell (entries-of (now t)) (now b) (now list) (now stage) i o cell × Roomy at end (now out) ⌝ }
+    ensures { λ n. ⌜ Puts-cell (entries-of (now (t .entry))) (now (b .entry)) (now (list .entry)) (now (stage .entry)) i o cell (λ w. cell-laid w o (field-at (entries-of (now (t .entry))) i)) at end (now (out .entry)) (now (out .exit)) n ⌝ }
+{
+    if tables::multiple_at(t, i) {
+        return put_counted(t, b, list, stage, i, o, cell, out, at, end);
+    }
+    put_plain(t, b, list, stage, i, o, cell, out, at, end)
+}

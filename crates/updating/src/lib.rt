@@ -1,0 +1,173 @@
+// The new record of an update, laid out in table order.
+ghost use mathlib.Core.Path.{_≡_};
+ghost use mathlib.Core.Bool.{true, false};
+ghost use mathlib.Core.List.{_++_};
+ghost use Prim.Native.Nat.{_+_, _≤_, _<_};
+ghost use lib.ListN.{length, drop, getD};
+ghost use Rattle.rules.specs.Limits.{highest-index, longest-new-record};
+ghost use Rattle.rules.specs.Table.{group, parts};
+ghost use Rattle.rules.specs.Record.{group-count-at, record-head};
+ghost use Rattle.tables.specs.Entries.{Valid, entries-of, blank};
+ghost use Rattle.tables.specs.Places.{inside-at};
+ghost use Rattle.filling.specs.Filling.{Roomy};
+ghost use Rattle.updating.specs.Laid.{occurrence-laid, occurrences-laid, entry-laid, laid-from};
+ghost use Rattle.updating.specs.New.{Has-both, Puts};
+
+mod cells;
+
+use filling::Next;
+use records::DIRECTORY;
+
+// Occurrence o of the periodic group that entry g is.
+fn put_occurrence(
+    t: &[u8],
+    b: &[u8],
+    places: &[u16; DIRECTORY],
+    list: &[u16],
+    stage: &[u8],
+    g: usize,
+    o: usize,
+    out: &mut [u8],
+    at: usize,
+    end: usize,
+) -> Next
+    requires { ⌜ Valid (now t) × (g < length (entries-of (now t))) × (getD (entries-of (now t)) g blank .what ≡ group true) × (1 ≤ o) × (o ≤ highest-index) × Has-both (entries-of (now t)) (now b) (now places) (now list) (now stage) × Roomy at end (now out) ⌝ }
+    ensures { λ n. ⌜ Puts (entries-of (now (t .entry))) (now (b .entry)) (now (places .entry)) (now (list .entry)) (now (stage .entry)) (λ w r. occurrence-laid w o (drop (g + 1) (entries-of (now (t .entry))))) at end (now (out .entry)) (now (out .exit)) n ⌝ }
+{
+    let last = tables::group_end(t, g);
+    let mut cell = records::places::first_cell(t, b, places, g, o);
+    let mut p = at;
+    let mut i = g + 1;
+    while i < last {
+        if !tables::group_at(t, i) {
+            match cells::put_cell(t, b, list, stage, i, o, cell, out, p, end) {
+                Next::Refused(x) => {
+                    return Next::Refused(x);
+                }
+                Next::At(next) => {
+                    p = next;
+                }
+            }
+        }
+        cell = records::places::next_cell(t, b, i, cell);
+        i += 1;
+    }
+    Next::At(p)
+}
+
+// Occurrences 1 to n of the periodic group that entry g is.
+fn put_occurrences(
+    t: &[u8],
+    b: &[u8],
+    places: &[u16; DIRECTORY],
+    list: &[u16],
+    stage: &[u8],
+    g: usize,
+    n: usize,
+    out: &mut [u8],
+    at: usize,
+    end: usize,
+) -> Next
+    requires { ⌜ Valid (now t) × (g < length (entries-of (now t))) × (getD (entries-of (now t)) g blank .what ≡ group true) × (n ≤ highest-index) × Has-both (entries-of (now t)) (now b) (now places) (now list) (now stage) × Roomy at end (now out) ⌝ }
+    ensures { λ r. ⌜ Puts (entries-of (now (t .entry))) (now (b .entry)) (now (places .entry)) (now (list .entry)) (now (stage .entry)) (λ w r. occurrences-laid w (drop (g + 1) (entries-of (now (t .entry)))) 1 n) at end (now (out .entry)) (now (out .exit)) r ⌝ }
+{
+    let mut p = at;
+    let mut o = 1;
+    while o <= n {
+        match put_occurrence(t, b, places, list, stage, g, o, out, p, end) {
+            Next::Refused(x) => {
+                return Next::Refused(x);
+            }
+            Next::At(next) => {
+                p = next;
+            }
+        }
+        o += 1;
+    }
+    Next::At(p)
+}
+
+// The periodic group that entry g is: the larger of its old count and the highest occurrence named, and as many occurrences.
+fn put_group(
+    t: &[u8],
+    b: &[u8],
+    places: &[u16; DIRECTORY],
+    list: &[u16],
+    stage: &[u8],
+    g: usize,
+    out: &mut [u8],
+    at: usize,
+    end: usize,
+) -> Next
+    requires { ⌜ Valid (now t) × (g < length (entries-of (now t))) × (getD (entries-of (now t)) g blank .what ≡ group true) × Has-both (entries-of (now t)) (now b) (now places) (now list) (now stage) × Roomy at end (now out) ⌝ }
+    ensures { λ n. ⌜ Puts (entries-of (now (t .entry))) (now (b .entry)) (now (places .entry)) (now (list .entry)) (now (stage .entry)) (λ w r. entry-laid w (group-count-at (parts (entries-of (now (t .entry)))) r) true (getD (entries-of (now (t .entry))) g blank .name) (group true) (drop (g + 1) (entries-of (now (t .entry))))) at end (now (out .entry)) (now (out .exit)) n ⌝ }
+{
+    let old = records::places::group_count(t, b, places, g);
+    let highest = assignments::highest_occurrence(list, g + 1, tables::group_end(t, g));
+    let n = cells::larger(old, highest);
+    match cells::put_count(n, out, at, end) {
+        Next::Refused(x) => Next::Refused(x),
+        Next::At(p) => put_occurrences(t, b, places, list, stage, g, n, out, p, end),
+    }
+}
+
+// What entry i adds to the new record.
+fn put_entry(
+    t: &[u8],
+    b: &[u8],
+    places: &[u16; DIRECTORY],
+    list: &[u16],
+    stage: &[u8],
+    i: usize,
+    inside: bool,
+    out: &mut [u8],
+    at: usize,
+    end: usize,
+) -> Next
+    requires { ⌜ Valid (now t) × (i < length (entries-of (now t))) × (inside ≡ inside-at (entries-of (now t)) i) × Has-both (entries-of (now t)) (now b) (now places) (now list) (now stage) × Roomy at end (now out) ⌝ }
+    ensures { λ n. ⌜ Puts (entries-of (now (t .entry))) (now (b .entry)) (now (places .entry)) (now (list .entry)) (now (stage .entry)) (λ w r. entry-laid w (group-count-at (parts (entries-of (now (t .entry)))) r) inside (getD (entries-of (now (t .entry))) i blank .name) (getD (entries-of (now (t .entry))) i blank .what) (drop (i + 1) (entries-of (now (t .entry))))) at end (now (out .entry)) (now (out .exit)) n ⌝ }
+{
+    if tables::periodic_at(t, i) {
+        return put_group(t, b, places, list, stage, i, out, at, end);
+    }
+    if inside {
+        return Next::At(at);
+    }
+    if tables::group_at(t, i) {
+        return Next::At(at);
+    }
+    let cell = records::places::outside_cell(t, b, places, i);
+    cells::put_cell(t, b, list, stage, i, 1, cell, out, at, end)
+}
+
+// The new record, to the front of out.
+pub fn put_record(
+    t: &[u8],
+    b: &[u8],
+    places: &[u16; DIRECTORY],
+    list: &[u16],
+    stage: &[u8],
+    out: &mut [u8],
+) -> Next
+    requires { ⌜ Valid (now t) × Has-both (entries-of (now t)) (now b) (now places) (now list) (now stage) × (length (now out) ≡ longest-new-record) ⌝ }
+    ensures { λ n. ⌜ Puts (entries-of (now (t .entry))) (now (b .entry)) (now (places .entry)) (now (list .entry)) (now (stage .entry)) (λ w r. record-head ++ laid-from w (group-count-at (parts (entries-of (now (t .entry)))) r) false (entries-of (now (t .entry)))) 0 longest-new-record (now (out .entry)) (now (out .exit)) n ⌝ }
+{
+    let n = tables::count(t);
+    let end = out.len();
+    let mut p = records::heads::put_head(out);
+    let mut inside = false;
+    let mut i = 0;
+    while i < n {
+        inside = records::inside_next(t, i, inside);
+        match put_entry(t, b, places, list, stage, i, inside, out, p, end) {
+            Next::Refused(x) => {
+                return Next::Refused(x);
+            }
+            Next::At(next) => {
+                p = next;
+            }
+        }
+        i += 1;
+    }
+    Next::At(p)
+}
