@@ -14,6 +14,7 @@ pub mod HeadLaws
 pub mod Normals
 pub mod Directories
 pub mod Placed
+pub mod Members
 pub mod Contents
 pub mod Skips
 pub mod Widths
