@@ -1,5 +1,5 @@
 -- The fields of a table: what is found by a name, listed in a group or a series, or stands in a part of the record is one of its entries;
--- fields of one name are one; each has a length that its format allows.
+-- fields of one name are one; each has a length that its format allows, and a name of two bytes.
 use mathlib.Core.Path.{_≡_, refl, sym, _∙_, ap}
 use mathlib.Core.Bool.{Bool, true, false, not, _&&_, _||_}
 use mathlib.Core.List.{List, [], _∷_}
@@ -13,7 +13,7 @@ use Rattle.rules.specs.Limits.{most-entries}
 use Rattle.rules.specs.Characters.{space}
 use Rattle.rules.specs.Lists.{Bytes, same}
 use Rattle.rules.specs.Values.{Format, allowed}
-use Rattle.rules.specs.Table.{What, field, group, Entry, Field, Part, is-name, format-of, what-of, entries, levels, differ, names, table-head, table, is-inside, fields-below, alone, part-of, parts-from}
+use Rattle.rules.specs.Table.{What, field, group, Entry, Field, Part, is-name, name-of, format-of, what-of, entries, levels, differ, names, table-head, table, is-inside, fields-below, alone, part-of, parts-from}
 use Rattle.rules.specs.Use.{Found, find-from, fields-to}
 use Rattle.rules.proofs.Steps.{from-bind, from-need, done-inj, not-done, and-left, and-right, by-test, by-option, T-true}
 use Rattle.rules.proofs.Back.{All, all-map}
@@ -133,30 +133,44 @@ what-sound level format length option w p = by-option (format-of format)
     (λ e. from-need (eqb format space && eqb length 0 && (eqb option 0 || (eqb option 2 && eqb level 1))) 1 _ (rw (e, what-of) at p) λ t k.
     rw (← done-inj k) (periodic-top option level (and-right (eqb format space && eqb length 0) (eqb option 0 || (eqb option 2 && eqb level 1)) t)))
 
-entries-sound : (n : ℕ) (bs : Bytes) (es : List Entry) → entries n bs ≡ done es → All (λ e. Sound (e .level) (e .what)) es
+-- A name is two bytes.
+abbrev pub Two-bytes : ℕ → Type 0
+Two-bytes n = (a : ℕ) × (b : ℕ) × (n ≡ name-of a b) × (is-name a b ≡ true)
+
+abbrev Made : Entry → Type 0
+Made e = Sound (e .level) (e .what) × Two-bytes (e .name)
+
+entries-made : (n : ℕ) (bs : Bytes) (es : List Entry) → entries n bs ≡ done es → All Made es
 unfolding entries
-entries-sound zero [] es p = rw (← done-inj p) tt
-entries-sound zero (b ∷ bs) es p = absurd (not-done p)
-entries-sound (suc n) [] es p = absurd (not-done p)
-entries-sound (suc n) (a ∷ []) es p = absurd (not-done p)
-entries-sound (suc n) (a ∷ b ∷ []) es p = absurd (not-done p)
-entries-sound (suc n) (a ∷ b ∷ l ∷ []) es p = absurd (not-done p)
-entries-sound (suc n) (a ∷ b ∷ l ∷ f ∷ []) es p = absurd (not-done p)
-entries-sound (suc n) (a ∷ b ∷ l ∷ f ∷ s ∷ []) es p = absurd (not-done p)
-entries-sound (suc n) (a ∷ b ∷ l ∷ f ∷ s ∷ o ∷ bs) es p =
+entries-made zero [] es p = rw (← done-inj p) tt
+entries-made zero (b ∷ bs) es p = absurd (not-done p)
+entries-made (suc n) [] es p = absurd (not-done p)
+entries-made (suc n) (a ∷ []) es p = absurd (not-done p)
+entries-made (suc n) (a ∷ b ∷ []) es p = absurd (not-done p)
+entries-made (suc n) (a ∷ b ∷ l ∷ []) es p = absurd (not-done p)
+entries-made (suc n) (a ∷ b ∷ l ∷ f ∷ []) es p = absurd (not-done p)
+entries-made (suc n) (a ∷ b ∷ l ∷ f ∷ s ∷ []) es p = absurd (not-done p)
+entries-made (suc n) (a ∷ b ∷ l ∷ f ∷ s ∷ o ∷ bs) es p =
     from-need (is-name a b) 1 _ p λ t k.
     from-bind (what-of l f s o) _ k λ w h k₂.
     from-bind (entries n bs) _ k₂ λ xs h₂ k₃.
-    rw (← done-inj k₃) (what-sound l f s o w h, entries-sound n bs xs h₂)
+    rw (← done-inj k₃) ((what-sound l f s o w h, (a, b, refl, T-true (is-name a b) t)), entries-made n bs xs h₂)
 
-pub table-sound : (t : Bytes) (es : List Entry) → table t ≡ done es → All (λ e. Sound (e .level) (e .what)) es
-unfolding table
-table-sound t es p =
-    from-need (same (take 5 t) table-head) 1 _ p λ a k.
-    from-need (leb 1 (getD t 5 0) && leb (getD t 5 0) most-entries) 1 _ k λ b k₂.
-    from-bind (entries (getD t 5 0) (drop 6 t)) _ k₂ λ fs h k₃.
-    from-need (levels (group false) 0 fs && differ (names fs)) 1 _ k₃ λ d k₄.
-    rw (← done-inj k₄) (entries-sound (getD t 5 0) (drop 6 t) fs h)
+module _ (t : Bytes) (es : List Entry) (p : table t ≡ done es) where
+  table-made : All Made es
+  unfolding table
+  table-made =
+      from-need (same (take 5 t) table-head) 1 _ p λ a k.
+      from-need (leb 1 (getD t 5 0) && leb (getD t 5 0) most-entries) 1 _ k λ b k₂.
+      from-bind (entries (getD t 5 0) (drop 6 t)) _ k₂ λ fs h k₃.
+      from-need (levels (group false) 0 fs && differ (names fs)) 1 _ k₃ λ d k₄.
+      rw (← done-inj k₄) (entries-made (getD t 5 0) (drop 6 t) fs h)
+
+  pub table-sound : All (λ e. Sound (e .level) (e .what)) es
+  table-sound = all-map Made (λ e. Sound (e .level) (e .what)) (λ e m. m .0) es table-made
+
+  pub table-named : All (λ e. Two-bytes (e .name)) es
+  table-named = all-map Made (λ e. Two-bytes (e .name)) (λ e m. m .1) es table-made
 
 sound-field : (l : ℕ) (w : What) {f : Format} {s : ℕ} {m : Bool} → w ≡ field f s m → Sound l w → allowed f s ≡ true
 sound-field l w e h = rw e at h

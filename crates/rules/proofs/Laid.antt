@@ -28,7 +28,7 @@ unfolding cell-of
 cell-none n [] = refl
 cell-none n (f ∷ fs) = refl
 
--- A record type has η, so that a flag of a part or a field is handed to a law that splits it.
+-- What is within a count, or is 1 where nothing is counted. A record type has η, so that the flag is handed to a law that splits it.
 pub within-count : (c : Bool) {i n : ℕ} → i ≤ n → (c ≡ false → i ≡ 1) → i ≤ count-or-one c n
 unfolding count-or-one
 within-count true h o = h
@@ -40,12 +40,12 @@ occurrences-at [] r n = 0
 occurrences-at (p ∷ ps) [] n = 0
 occurrences-at (p ∷ ps) (os ∷ r) n = elim (member n (p .members)) [ some f ↦ length os | none ↦ occurrences-at ps r n ]
 
+-- A record of nothing has no occurrences, and counts of 0.
 pub occurrences-none : (ps : List Part) (n : ℕ) → occurrences-at ps [] n ≡ 0
 unfolding occurrences-at
 occurrences-none [] n = refl
 occurrences-none (p ∷ ps) n = refl
 
--- Nor is a group counted where there is nothing.
 pub group-none : (ps : List Part) (n : ℕ) → group-count-at ps [] n ≡ 0
 unfolding group-count-at
 group-none [] n = refl

@@ -1,0 +1,16 @@
+pub mod OneUpdate
+pub mod Counts
+pub mod Written
+pub mod Items
+pub mod Assigned
+pub mod Keep
+pub mod Empty
+pub mod Reading
+pub mod Demand
+pub mod Specimen
+pub mod Spelled
+pub mod Formats
+pub mod Each
+pub mod Extent
+pub mod Sizes
+pub mod Settled
