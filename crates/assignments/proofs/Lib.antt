@@ -1,0 +1,6 @@
+pub mod Setting
+pub mod Runs
+pub mod Listing
+pub mod Filters
+pub mod Searching
+pub mod Seeking

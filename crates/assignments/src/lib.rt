@@ -9,7 +9,7 @@ ghost use Rattle.rules.specs.Limits.{most-entries, highest-index, longest-new-r
 ghost use Rattle.rules.specs.Lists.{Bytes};
 ghost use Rattle.rules.specs.Table.{Entry};
 ghost use Rattle.rules.specs.Update.{Assignment};
-ghost use Rattle.assignments.specs.Notes.{numbers-noted, note-place, chain-of, Listed, Unindexed, Indexed, Has-index, Has-note};
+ghost use Rattle.assignments.specs.Notes.{numbers-noted, note-place, numbers, Small-note, in-cell, chain-of, Listed, Unindexed, Indexed, Has-index, Has-note};
 ghost use Rattle.assignments.specs.Answers.{Stands, bytes-noted, Of-each, Assigned, Names, Highest};
 
 // The numbers of a list in three regions: the heads of the chains; from HIGHEST on the highest occurrence named of each entry; and from
@@ -50,7 +50,10 @@ pub struct Note {
 }
 
 // Writes note m.
-pub fn put(list: &mut [u16], m: usize, n: Note) {
+pub fn put(list: &mut [u16], m: usize, n: Note)
+    requires { ⌜ (note-place (m + 1) ≤ length (now list)) × Small-note n ⌝ }
+    ensures { λ _. ⌜ now (list .exit) ≡ sets (now (list .entry)) (note-place m) (numbers n) ⌝ }
+{
     let at = NOTES + NUMBERS * m;
     list[at] = n.entry as u16;
     list[at + 1] = n.occurrence as u16;
@@ -89,7 +92,10 @@ pub fn index(list: &mut [u16], count: usize)
 }
 
 // Whether the note at a place is of entry i in occurrence o.
-fn in_cell(list: &[u16], at: usize, i: usize, o: usize) -> bool {
+fn in_cell(list: &[u16], at: usize, i: usize, o: usize) -> bool
+    requires { ⌜ at + 1 < length (now list) ⌝ }
+    ensures { λ r. ⌜ ((m : ℕ) → at ≡ note-place m → r ≡ in-cell (now (list .entry)) i o m) ⌝ }
+{
     if list[at] as usize == i {
         return list[at + 1] as usize == o;
     }
