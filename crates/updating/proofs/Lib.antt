@@ -2,6 +2,8 @@ pub mod Occurrences
 pub mod Body
 pub mod Counted
 pub mod Turns
+pub mod Laying
+pub mod Membering
 pub mod Fitting
 pub mod Sums
 pub mod BodyPlaces

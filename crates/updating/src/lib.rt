@@ -12,11 +12,35 @@ ghost use Rattle.tables.specs.Places.{inside-at};
 ghost use Rattle.filling.specs.Filling.{Roomy};
 ghost use Rattle.updating.specs.Laid.{occurrence-laid, occurrences-laid, entry-laid, laid-from};
 ghost use Rattle.updating.specs.New.{Has-both, Puts};
+ghost use Rattle.updating.specs.Member.{Has-member, Puts-member};
 
 mod cells;
 
 use filling::Next;
 use records::DIRECTORY;
+use records::places::Cell;
+
+// What entry i adds to occurrence o of the periodic group that it lies in: its cell where it is a field, and else nothing.
+fn put_member(
+    t: &[u8],
+    b: &[u8],
+    list: &[u16],
+    stage: &[u8],
+    i: usize,
+    o: usize,
+    cell: Cell,
+    out: &mut [u8],
+    at: usize,
+    end: usize,
+) -> Next
+    requires { ⌜ Valid (now t) × (i < length (entries-of (now t))) × (o ≤ highest-index) × Has-member (entries-of (now t)) (now b) (now list) (now stage) i o cell × Roomy at end (now out) ⌝ }
+    ensures { λ n. ⌜ Puts-member (entries-of (now (t .entry))) (now (b .entry)) (now (list .entry)) (now (stage .entry)) i o cell at end (now (out .entry)) (now (out .exit)) n ⌝ }
+{
+    if tables::group_at(t, i) {
+        return Next::At(at);
+    }
+    cells::put_cell(t, b, list, stage, i, o, cell, out, at, end)
+}
 
 // Occurrence o of the periodic group that entry g is.
 fn put_occurrence(
@@ -39,14 +63,12 @@ fn put_occurrence(
     let mut p = at;
     let mut i = g + 1;
     while i < last {
-        if !tables::group_at(t, i) {
-            match cells::put_cell(t, b, list, stage, i, o, cell, out, p, end) {
-                Next::Refused(x) => {
-                    return Next::Refused(x);
-                }
-                Next::At(next) => {
-                    p = next;
-                }
+        match put_member(t, b, list, stage, i, o, cell, out, p, end) {
+            Next::Refused(x) => {
+                return Next::Refused(x);
+            }
+            Next::At(next) => {
+                p = next;
             }
         }
         cell = records::places::next_cell(t, b, i, cell);
