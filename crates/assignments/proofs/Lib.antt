@@ -4,3 +4,4 @@ pub mod Listing
 pub mod Filters
 pub mod Searching
 pub mod Seeking
+pub mod Tallying

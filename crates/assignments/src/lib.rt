@@ -150,7 +150,7 @@ pub fn named(list: &[u16], i: usize, o: usize, by: &mut [u16; VALUES]) -> Naming
             if highest < k {
                 highest = k;
             }
-            if list[at + 3] == 0 {
+            if list[at + 3] != 1 {
                 bare = false;
             }
         }
