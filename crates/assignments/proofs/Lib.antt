@@ -5,3 +5,4 @@ pub mod Filters
 pub mod Searching
 pub mod Seeking
 pub mod Tallying
+pub mod Heights
