@@ -66,7 +66,7 @@ pub record Walk (count n : ℕ) : Type 0 where
 abbrev pub left : (es : List Entry) (list : List ℕ) (stage : Bytes) (i o : ℕ) {count n : ℕ} → Walk count n → List Assignment
 left es list stage i o {n = n} w = map (noted es list stage) (filter (in-cell list i o) (chained list (w .most) n))
 
-chained-end : (list : List ℕ) (most : ℕ) → chained list most 0 ≡ []
+pub chained-end : (list : List ℕ) (most : ℕ) → chained list most 0 ≡ []
 unfolding chained
 chained-end list zero = refl
 chained-end list (suc most) = refl
