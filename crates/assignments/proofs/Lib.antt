@@ -4,3 +4,7 @@ pub mod Listing
 pub mod Filters
 pub mod Searching
 pub mod Seeking
+pub mod Tallying
+pub mod Heights
+pub mod Linking
+pub mod Indexing
