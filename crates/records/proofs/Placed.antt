@@ -9,7 +9,7 @@ use lib.Dec.{leb}
 use lib.ListN.{length, take, drop, getD}
 use lib.Seq.{slice, getD-drop}
 use Rattle.rules.specs.Outcome.{done, is-done}
-use Rattle.rules.specs.Limits.{longest-record, record-head-size}
+use Rattle.rules.specs.Limits.{longest-record, record-head-size, greatest-count}
 use Rattle.rules.specs.Lists.{Bytes, same, nothing}
 use Rattle.rules.specs.Values.{Format}
 use Rattle.rules.specs.Table.{What, field, group, Entry, Part, fields-below, names, differ, parts}
@@ -113,6 +113,11 @@ module _ {es : List Entry} {b : Bytes} {places : List ℕ} {r : Record} (held : 
         occurrences q λ tail h most s.
         let c = byte-there b (getD places g 0) (held .starts g less .1 ∙ h) in
         (c .0, c .1 ∙ sym (q .count (getD es g blank .name) (own-name g less)))
+
+    -- It is not over the limit of counts.
+    pub count-most : group-count-at (parts es) r (getD es g blank .name) ≤ greatest-count
+    unfolding parts
+    count-most = group-there λ os mid q. occurrences q λ tail h most s. rw (q .count (getD es g blank .name) (own-name g less)) most
 
     -- Its occurrences stand after that, and those that are kept stand where they are kept.
     pub row-ends : getD es g blank .level ≡ 1 → (k : ℕ) → k < getD b (getD places g 0) 0 → Ends (rest-of (times k (occurrence es g) (drop (getD places g 0 + 1) b)))

@@ -16,7 +16,7 @@ use Rattle.records.specs.Places.{Is-record}
 use Rattle.filling.specs.Filling.{in-room, together, Filling, Continues}
 use Rattle.filling.specs.declared.Next.{Next}
 use Rattle.filling.specs.declared.Next.the-variants.{At, Refused}
-use Rattle.filling.proofs.Continues.{continues-start, continues-end, turn, turn-within, stop}
+use Rattle.filling.proofs.Continues.{continues-start, continues-end, continues-last, turn, turn-within, stop}
 use Rattle.filling.proofs.Together.{together-one, together-done}
 use Rattle.updating.specs.New.{Assigns, Has-both, Puts}
 
@@ -89,6 +89,10 @@ module _ {es : List Entry} {b : Bytes} {places list : List ℕ} {stage : Bytes} 
   pub lay-end : ((w : Plan) (r : Record) → rest w r ≡ []) → Puts es b places list stage whole start end out₀ out (At at)
   unfolding join
   lay-end e r ws p a = continues-end (end - at) (subst (Left r ws) (ap (λ (z : Bytes). in-room (end - at) (done z)) (e (plan r ws) r) ∙ sym (together-done [] (end - at))) (g .continues r ws p a))
+
+  -- The end by what lays all that is left.
+  pub lay-last : {out′ : Bytes} {n : Next} → Puts es b places list stage rest at end out out′ n → Puts es b places list stage whole start end out₀ out′ n
+  lay-last f r ws p a = continues-last (g .continues r ws p a) (f r ws p a)
 
   -- The room's length does not change.
   pub lay-same : length out ≡ length out₀

@@ -4,6 +4,7 @@ pub mod Counted
 pub mod Turns
 pub mod Laying
 pub mod Membering
+pub mod Grouping
 pub mod Fitting
 pub mod Sums
 pub mod BodyPlaces

@@ -125,7 +125,7 @@ fn put_group(
     ensures { λ n. ⌜ Puts (entries-of (now (t .entry))) (now (b .entry)) (now (places .entry)) (now (list .entry)) (now (stage .entry)) (λ w r. entry-laid w (group-count-at (parts (entries-of (now (t .entry)))) r) true (getD (entries-of (now (t .entry))) g blank .name) (group true) (drop (g + 1) (entries-of (now (t .entry))))) at end (now (out .entry)) (now (out .exit)) n ⌝ }
 {
     let old = records::places::group_count(t, b, places, g);
-    let highest = tables::group_end(t, g);
+    let highest = assignments::highest_occurrence(list, g + 1, tables::group_end(t, g));
     let n = cells::larger(old, highest);
     match cells::put_count(n, out, at, end) {
         Next::Refused(x) => Next::Refused(x),
