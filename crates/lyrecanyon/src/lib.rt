@@ -1,12 +1,14 @@
-// The services: read, and the empty record of a table.
+// The services: read, update, and the empty record of a table.
 ghost use mathlib.Core.Path.{_≡_};
 ghost use Prim.Native.Nat.{_≤_, min};
-ghost use lib.ListN.{length};
+ghost use lib.ListN.{length, take};
 ghost use Rattle.rules.specs.Limits.{longest-items};
 ghost use Rattle.rules.specs.Services as Rules;
 ghost use Rattle.tables.specs.Entries.{Valid, entries-of};
 ghost use Rattle.records.specs.Places.{Has-record};
 ghost use Rattle.lyrecanyon.specs.Answers.{Settled, Exported, answer-number, answer-length};
+mod making;
+
 use filling::Next;
 use rules::Refusal;
 
@@ -157,6 +159,55 @@ pub extern "C" fn lyrecanyon_read(
     let answer = read(table, stored, format, buffer);
     *used = answer.length();
     answer.number()
+}
+
+// Stores new values: the new record, to the front of the room. It is made by itself first, so that a refusal changes nothing.
+pub fn update(
+    table: &[u8],
+    stored: &[u8],
+    format: &[u8],
+    buffer: &[u8],
+    room: &mut [u8],
+) -> Answer
+    ensures { λ r. ⌜ Settled (Rules.update (now (table .entry)) (now (stored .entry)) (now (format .entry)) (now (buffer .entry)) (length (now (room .entry)))) (now (room .entry)) (now (room .exit)) r ⌝ }
+{
+    let mut record = [0u8; rules::LONGEST_NEW_RECORD];
+    let answer = making::make(table, stored, format, buffer, &mut record);
+    making::lend(answer, &record, room)
+}
+
+// The same for C: the number is returned, and the length used is written.
+#[no_mangle]
+pub extern "C" fn lyrecanyon_update(
+    table: &[u8],
+    stored: &[u8],
+    format: &[u8],
+    buffer: &[u8],
+    room: &mut [u8],
+    used: &mut usize,
+) -> u8
+    ensures { λ r. ⌜ Exported (Rules.update (now (table .entry)) (now (stored .entry)) (now (format .entry)) (now (buffer .entry)) (length (now (room .entry)))) (now (room .entry)) (now (room .exit)) (now (used .exit)) r ⌝ }
+{
+    let answer = update(table, stored, format, buffer, room);
+    *used = answer.length();
+    answer.number()
+}
+
+// Stores new values where the record stands, which is the first `used` bytes of a slice: the new record takes the place of the old one, or
+// nothing changes.
+pub fn apply(
+    table: &[u8],
+    record: &mut [u8],
+    used: usize,
+    format: &[u8],
+    buffer: &[u8],
+) -> Answer
+    ensures { λ r. ⌜ Settled (Rules.update (now (table .entry)) (take used (now (record .entry))) (now (format .entry)) (now (buffer .entry)) (length (now (record .entry)))) (now (record .entry)) (now (record .exit)) r ⌝ }
+{
+    let end = least(used, record.len());
+    let mut new = [0u8; rules::LONGEST_NEW_RECORD];
+    let answer = making::make(table, &record[..end], format, buffer, &mut new);
+    making::lend(answer, &new, record)
 }
 
 // The empty record of a table, to the front of the room. It is built by itself first, so that a refusal changes nothing.

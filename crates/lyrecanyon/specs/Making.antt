@@ -1,0 +1,52 @@
+-- A new record that is made in an array of its own.
+use mathlib.Core.Path.{_≡_}
+use mathlib.Core.Bool.{false}
+use mathlib.Core.List.{List}
+use Prim.Native.Nat.{ℕ, _*_, _≤_}
+use lib.Dec.{leb}
+use lib.ListN.{length, take}
+use Rattle.rules.specs.Outcome.{Outcome, done, refused, _>>=_, need}
+use Rattle.rules.specs.Limits.{longest-new-record}
+use Rattle.rules.specs.Lists.{Bytes}
+use Rattle.rules.specs.Numbers.{refusal-number}
+use Rattle.rules.specs.Table.{Entry, parts}
+use Rattle.rules.specs.Record.{Record, record-bytes}
+use Rattle.rules.specs.Use.{items}
+use Rattle.rules.specs.Update.{Assignment, named-twice, assignments, after-update}
+use Rattle.rules.specs.Services.{fitting}
+use Rattle.uses.specs.Meant.{uses-of}
+use Rattle.uses.specs.Kept.{numbers-kept, uses-kept, Good-uses}
+use Rattle.records.specs.Places.{Is-record}
+use Rattle.lyrecanyon.specs.declared.Answer.{Answer}
+use Rattle.lyrecanyon.specs.declared.Answer.the-variants.{Done, Refused}
+
+-- An outcome stands at the front of an array, or it is refused.
+abbrev pub Makes : Outcome Bytes → Bytes → Answer → Type 0
+Makes o record (Done n) = (n ≤ length record) × (o ≡ done (take n record))
+Makes o record (Refused x) = o ≡ refused (refusal-number x)
+
+-- The new record by what is assigned, as far as its own limit.
+abbrev pub new-record : List Entry → Record → List Assignment → Outcome Bytes
+new-record es r ws = fitting longest-new-record (record-bytes (parts es) (after-update (parts es) r ws))
+
+-- The same of whatever record the bytes hold.
+abbrev pub Makes-new : List Entry → Bytes → List ℕ → Outcome (List Assignment) → Bytes → Answer → Type 0
+Makes-new es b places o record n = (r : Record) → Is-record es b places r → Makes (o >>= new-record es r) record n
+
+-- The uses of a format are kept, and no two of them name an occurrence in common.
+pub record Apart (es : List Entry) (f : Bytes) (kept : List ℕ) (n : ℕ) : Type 0 where
+  pub meant : uses-of es f ≡ done (uses-kept es f kept n)
+  pub good : Good-uses es f kept n
+  pub room : numbers-kept * n ≤ length kept
+  pub once : named-twice (uses-kept es f kept n) ≡ false
+
+-- What the record buffer gives to them.
+abbrev pub given : List Entry → Bytes → List ℕ → ℕ → Bytes → Outcome (List Assignment)
+given es f kept n buffer = assignments (items (uses-kept es f kept n)) buffer
+
+-- Bytes in so much room: "over the lent room" is 10.
+abbrev pub in-lent : ℕ → Outcome Bytes → Outcome Bytes
+in-lent room o = do
+  b ← o
+  _ ← need (leb (length b) room) 10
+  done b
