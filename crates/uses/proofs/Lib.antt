@@ -8,6 +8,8 @@ pub mod Testing
 pub mod SpanFields
 pub mod Sharing
 pub mod Ahead
+pub mod Numbers
+pub mod Decoding
 pub mod Keeping
 pub mod Seen
 pub mod Together

@@ -82,6 +82,8 @@ pub record Good-span (es : List Entry) (s : Span) : Type 0 where
   pub begins : is-periodic (getD es (s .first) blank .what) ≡ false
   -- Fields at their standard have value 1 alone.
   pub once : s .standard ≡ true → (s .«value_from» ≡ 1) × (s .«value_upto» ≡ 1)
+  -- They name no format and no length in effect.
+  pub unasked : s .standard ≡ true → (s .format ≡ 0) × (s .size ≡ 0)
   -- Where the first entry lies in a periodic group, all do, in the same, and their fields are of fixed length.
   pub one-group : s .standard ≡ true → (g : ℕ) → Home es (s .first) g → (s .end ≤ group-end es g) × (all plain (fields-from es (s .first) (s .end)) ≡ true)
   -- Where it lies outside, all do.
