@@ -10,6 +10,5 @@ pub mod Sharing
 pub mod Ahead
 pub mod Numbers
 pub mod Decoding
-pub mod Keeping
-pub mod Seen
+pub mod Meeting
 pub mod Together

@@ -24,6 +24,7 @@ use Rattle.uses.specs.declared.Span.{Span}
 use Rattle.uses.specs.declared.Use.{Use}
 use Rattle.uses.specs.declared.Use.the-variants as code
 use Rattle.uses.proofs.Spreading.{ordered-within}
+use Rattle.uses.proofs.Sharing.{from-or}
 
 -- Numbers set from a place on: those before it, and those set.
 sets-below : (vs l : List ℕ) (at k : ℕ) → k < at → getD (sets l at vs) k 0 ≡ getD l k 0
@@ -162,16 +163,24 @@ module _ {A : Type 0} where
   run-as g h i zero e = refl
   run-as g h i (suc n) e = let q = run-as g h (suc i) n (λ k l. e k (omega arith)) in rw (e i (omega arith), q)
 
+-- The uses kept, by the last.
+pub uses-last : (es : List Entry) (f : Bytes) (l : List ℕ) (n : ℕ) → uses-kept es f l (suc n) ≡ uses-kept es f l n ++ (use-meant es f (use-at l n) ∷ [])
+unfolding uses-kept
+uses-last es f l n = run-last _ 0 n n (omega arith)
+
+pub uses-none : (es : List Entry) (f : Bytes) (l : List ℕ) → uses-kept es f l 0 ≡ []
+unfolding uses-kept run
+uses-none es f l = refl
+
 module _ (es : List Entry) (f : Bytes) (l : List ℕ) (n : ℕ) (u : Use) (h : 10 * n + 10 ≤ length l) where
   -- The uses kept, with one more.
   pub uses-more : uses-kept es f (sets l (10 * n) (numbers u)) (n + 1) ≡ uses-kept es f l n ++ (use-meant es f u ∷ [])
   unfolding uses-kept
   uses-more =
       let l′ = sets l (10 * n) (numbers u) in
-      let g : ℕ → rules.Use = λ i. use-meant es f (use-at l′ i) in
-      ap (run g 0) (add-one n)
-      ∙ run-last g 0 n n (omega arith)
-      ∙ ap (λ v. run g 0 n ++ (use-meant es f v ∷ [])) (use-here u l n h)
+      ap (uses-kept es f l′) (add-one n)
+      ∙ uses-last es f l′ n
+      ∙ ap (λ v. uses-kept es f l′ n ++ (use-meant es f v ∷ [])) (use-here u l n h)
       ∙ ap (λ us. us ++ (use-meant es f u ∷ [])) (run-as _ _ 0 n (λ k i. ap (use-meant es f) (use-again l (numbers u) (10 * n) k (omega arith))))
 
   pub good-more : Good-use es f u → Good-uses es f l n → Good-uses es f (sets l (10 * n) (numbers u)) (n + 1)
@@ -181,15 +190,11 @@ module _ (es : List Entry) (f : Bytes) (l : List ℕ) (n : ℕ) (u : Use) (h : 1
       (λ here. let e : i ≡ n = omega arith in subst (λ j. Good-use es f (use-at (sets l (10 * n) (numbers u)) j)) (sym e) (subst (Good-use es f) (sym (use-here u l n h)) g))
 
 -- The numbers of a use are small.
-from-either : {C : Type 0} (a b : Bool) → (a || b) ≡ true → (a ≡ true → C) → (b ≡ true → C) → C
-from-either true b e k l = k refl
-from-either false b e k l = l e
-
 allowed-small : (t : Format) (n : ℕ) → allowed t n ≡ true → n < index-bound
 unfolding allowed
 allowed-small alpha n e = let q = leb→le n 253 (true-T e) in omega arith
 allowed-small binary n e = let q = leb→le n longest-binary (and-right (leb 1 n) (leb n longest-binary) (true-T e)) in omega arith
-allowed-small fixed n e = from-either (eqb n 2) (eqb n 4) e (λ k. let q = eqb→eq n 2 (true-T k) in omega arith) (λ k. let q = eqb→eq n 4 (true-T k) in omega arith)
+allowed-small fixed n e = from-or (eqb n 2) (eqb n 4) e (λ k. let q = eqb→eq n 2 (true-T k) in omega arith) (λ k. let q = eqb→eq n 4 (true-T k) in omega arith)
 allowed-small packed n e = let q = leb→le n longest-packed (and-right (leb 1 n) (leb n longest-packed) (true-T e)) in omega arith
 allowed-small unpacked n e = let q = leb→le n longest-unpacked (and-right (leb 1 n) (leb n longest-unpacked) (true-T e)) in omega arith
 
