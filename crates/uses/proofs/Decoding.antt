@@ -20,17 +20,26 @@ use Rattle.rules.specs.declared.Refusal.the-variants.{BadSyntax}
 use Rattle.format_buffer.specs.Elements.{element-of}
 use Rattle.format_buffer.specs.Syntax.{parsed, elements-behind, element-before, Stepped}
 use Rattle.format_buffer.specs.declared.Element.{Element}
+use Rattle.format_buffer.specs.declared.syntax.Step.{Step}
 use Rattle.format_buffer.specs.declared.syntax.Step.the-variants as step
 use Rattle.format_buffer.proofs.StepLaws.{elements-parsed, elements-long, behind-last, behind-more}
 use Rattle.uses.specs.Meant.{use-meant, Means, indexes-kept, Remembers, Remembered, uses-of}
 use Rattle.uses.specs.Kept.{numbers, uses-kept, Good-uses, Decodes}
 use Rattle.uses.specs.Decoding.{uses-so-far, left-of, Keeps}
 use Rattle.uses.specs.declared.Use.{Use}
+use Rattle.uses.specs.declared.Meant.{Meant}
 use Rattle.uses.specs.declared.Meant.the-variants as meant
 use Rattle.uses.specs.declared.kept.Decoded.{Decoded}
 use Rattle.uses.specs.declared.kept.Decoded.the-variants.{Uses, Refused}
-use Rattle.uses.proofs.Testing.{no-index, zeros}
+use Rattle.uses.proofs.Remembering.{no-index, zeros}
 use Rattle.uses.proofs.Numbers.{uses-more, good-more}
+
+-- An answer that is matched is one of its variants.
+pub step-as : {f : Bytes} {at : ℕ} {o : Outcome (List rules.Element)} {r s : Step} → r ≡ s → Stepped f at o r → Stepped f at o s
+step-as {f} {at} {o} e h = subst (Stepped f at o) e h
+
+pub means-as : {es : List Entry} {last : List ℕ} {x : Element} {r s : Meant} → r ≡ s → Means es last x r → Means es last x s
+means-as {es} {last} {x} e h = subst (Means es last x) e h
 
 -- Lists joined: after one more, and with none.
 snoc-joined : {A : Type 0} (ks : List A) (u : A) (us : List A) → (ks ++ (u ∷ [])) ++ us ≡ ks ++ (u ∷ us)
@@ -53,16 +62,16 @@ module _ (es : List Entry) (ls : Indexes) (x : rules.Element) where
   unfolding uses
   first-done xs u e = rw (← e) refl
 
-  first-refused : (xs : List rules.Element) (n : ℕ) → refused n ≡ use-of es ls x → uses es ls (x ∷ xs) ≡ refused n
+  pub first-refused : (xs : List rules.Element) (n : ℕ) → refused n ≡ use-of es ls x → uses es ls (x ∷ xs) ≡ refused n
   unfolding uses
   first-refused xs n e = rw (← e) refl
 
-  before-done : (o : Outcome (List rules.Element)) (u : Meaning) → done u ≡ use-of es ls x
+  pub before-done : (o : Outcome (List rules.Element)) (u : Meaning) → done u ≡ use-of es ls x
       → (element-before x o >>= uses es ls) ≡ (o >>= uses es (indexes-after u ls) >>= λ us. done (u ∷ us))
   before-done (done xs) u e = first-done xs u e
   before-done (refused k) u e = refl
 
-no-uses : (es : List Entry) (ls : Indexes) → uses es ls [] ≡ done []
+pub no-uses : (es : List Entry) (ls : Indexes) → uses es ls [] ≡ done []
 unfolding uses
 no-uses es ls = refl
 
@@ -133,21 +142,18 @@ pub decode-long : (es : List Entry) (f : Bytes) (kept : List ℕ) → longest-fo
 unfolding uses-of
 decode-long es f kept h = ap (λ o. o >>= uses es []) (elements-long f h)
 
-module _ (es : List Entry) (f : Bytes) (kept : List ℕ) where
-  whole-left : (o : Outcome (List rules.Element)) → (o >>= uses es []) ≡ (o >>= uses es [] >>= λ us. done ([] ++ us))
-  whole-left o = same-done (o >>= uses es [])
-    where
-      same-done : (o : Outcome (List Meaning)) → o ≡ (o >>= λ us. done ([] ++ us))
-      same-done (done us) = refl
-      same-done (refused k) = refl
+after-none : (o : Outcome (List Meaning)) → o ≡ (o >>= λ us. done ([] ++ us))
+after-none (done us) = refl
+after-none (refused k) = refl
 
+module _ (es : List Entry) (f : Bytes) (kept : List ℕ) where
   pub decode-start : length f ≤ longest-format → Decoding es f (replicate indexes-kept 0) (parsed (drop 0 f)) kept (Uses 0)
   unfolding uses-of left-of uses-kept run
   decode-start h = record {
     indexes = [];
     remembers = λ i k. zeros indexes-kept i ∙ sym (no-index (getD es i _ .name));
     good = λ i k. absurd (omega arith);
-    left = ap (λ o. o >>= uses es []) (elements-parsed f h) ∙ whole-left (parsed f);
+    left = ap (λ o. o >>= uses es []) (elements-parsed f h) ∙ after-none (parsed f >>= uses es []);
   }
 
 module _ {es : List Entry} {f : Bytes} where

@@ -14,7 +14,7 @@ use Rattle.uses.specs.Meant.{use-meant}
 use Rattle.uses.specs.Kept.{use-at, uses-kept, Good-uses}
 use Rattle.uses.specs.Twice.{Good-spans, met-by, Alike, Met, Named-twice}
 use Rattle.uses.specs.declared.Use.{Use}
-use Rattle.uses.proofs.Testing.{span-known}
+use Rattle.uses.proofs.Remembering.{span-known}
 use Rattle.uses.proofs.Sharing.{one-right}
 use Rattle.uses.proofs.Numbers.{uses-none, uses-last}
 

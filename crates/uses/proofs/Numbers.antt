@@ -1,6 +1,6 @@
 -- The uses kept in an area: one that is kept after others leaves those as they are, and is the use that it was.
 use mathlib.Core.Path.{_≡_, refl, sym, ap, subst, _∙_}
-use mathlib.Core.Bool.{Bool, true, false, _||_}
+use mathlib.Core.Bool.{Bool, true, false}
 use mathlib.Core.List.{List, [], _∷_, _++_}
 use Prim.Native.Nat.{ℕ, zero, suc, _+_, _*_, _<_, _≤_}
 use native.Mathlib.Omega.{arith}
@@ -13,7 +13,6 @@ use Rattle.rules.specs.Limits.{most-entries, longest-format, longest-binary, lo
 use Rattle.rules.specs.Values.{Format, alpha, binary, fixed, packed, unpacked, allowed}
 use Rattle.rules.specs.Lists.{Bytes, run}
 use Rattle.rules.specs.Table.{Entry}
-use Rattle.rules.specs.Use as rules
 use Rattle.rules.proofs.Steps.{true-T, and-right, by-test}
 use Rattle.buffer.proofs.Cases.{by-order}
 use Rattle.format_buffer.specs.Elements.{range}
@@ -116,7 +115,7 @@ module _ (l : List ℕ) (at : ℕ) (h : at + 10 ≤ length l) where
   )
 
 -- The use at the place is the one that was set.
-pub use-here : (u : Use) (l : List ℕ) (n : ℕ) → 10 * n + 10 ≤ length l → use-at (sets l (10 * n) (numbers u)) n ≡ u
+use-here : (u : Use) (l : List ℕ) (n : ℕ) → 10 * n + 10 ≤ length l → use-at (sets l (10 * n) (numbers u)) n ≡ u
 unfolding use-at use-of-kind
 use-here (code.Blanks m) l n h = three-here l (10 * n) h 0 m 0 _
 use-here (code.Text from upto) l n h = three-here l (10 * n) h 1 from upto _

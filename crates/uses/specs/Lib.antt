@@ -3,5 +3,4 @@ pub mod Effect
 pub mod Meant
 pub mod Kept
 pub mod Decoding
-pub mod Ahead
 pub mod Twice

@@ -7,7 +7,6 @@ use lib.ListN.{length, take, drop, getD}
 use Rattle.rules.specs.Outcome.{Outcome, done, refused, _>>=_}
 use Rattle.rules.specs.Limits.{formats, most-entries, highest-index, longest-blanks, longest-text}
 use Rattle.rules.specs.Numbers.{refusal-number}
-use Rattle.rules.specs.declared.Refusal.{Refusal}
 use Rattle.rules.specs.Lists.{Bytes, all, filter}
 use Rattle.rules.specs.Values.{allowed, converts}
 use Rattle.rules.specs.Table.{Field, Entry, group}
@@ -31,8 +30,6 @@ use Rattle.uses.specs.declared.Use.{Use}
 use Rattle.uses.specs.declared.Use.the-variants as code
 use Rattle.uses.specs.declared.Meant.{Meant}
 use Rattle.uses.specs.declared.Meant.the-variants as meant
-use Rattle.uses.specs.declared.Verdict.{Verdict}
-use Rattle.uses.specs.declared.Verdict.the-variants as verdict
 use Rattle.uses.specs.declared.spread.Ranges.{Ranges}
 
 -- The fields among the entries from one number up to another.
@@ -186,11 +183,6 @@ Good-span-of es (code.Values s) = Good-span es s
 pub record Remembered (es : List Entry) (u : Use) (before after : List ℕ) : Type 0 where
   pub same : length after ≡ length before
   pub indexes : (f : Bytes) (ls : Indexes) → Remembers es before ls → Remembers es after (rules.indexes-after (use-meant es f u) ls)
-
--- The verdict on an outcome: why it was refused, where it was.
-abbrev pub Tested : {A : Type 0} → Outcome A → Verdict → Type 0
-Tested (done a) r = r ≡ verdict.Passed
-Tested (refused n) r = (x : Refusal) × (r ≡ verdict.Refused x) × (refusal-number x ≡ n)
 
 -- What the use rules say of a format.
 unfoldable pub uses-of : List Entry → Bytes → Outcome (List rules.Use)

@@ -8,8 +8,7 @@ use Rattle.format_buffer.specs.declared.syntax.Step.the-variants.{At}
 use Rattle.tables.specs.Entries.{entries-of}
 use Rattle.uses.specs.Meant.{indexes-kept}
 use Rattle.uses.specs.Decoding.{uses-so-far}
-use Rattle.uses.proofs.Ahead.{step-as}
-use Rattle.uses.proofs.Decoding.{Decoding, decode-long, decode-start, decode-bad, decode-as, decode-last, decode-more}
+use Rattle.uses.proofs.Decoding.{step-as, Decoding, decode-long, decode-start, decode-bad, decode-as, decode-last, decode-more}
 use borrow.Author.Needs.{needs}
 use Rattle.uses.proofs.kept.decode.Statement.{statement}
 use Rattle.uses.proofs.kept.decode.Tie as tie

@@ -10,10 +10,9 @@ use Rattle.uses.specs.Decoding.{uses-so-far}
 use Rattle.uses.specs.declared.Meant.the-variants.{As}
 use Rattle.uses.specs.declared.kept.Decoded.{Decoded}
 use Rattle.uses.specs.declared.kept.Decoded.the-variants.{Uses}
-use Rattle.uses.proofs.Testing.{span-known}
-use Rattle.uses.proofs.Ahead.{means-as}
+use Rattle.uses.proofs.Remembering.{span-known}
 use Rattle.uses.proofs.Numbers.{use-small}
-use Rattle.uses.proofs.Decoding.{keeps-as, keeps-passed, keeps-refused, keeps-use}
+use Rattle.uses.proofs.Decoding.{means-as, keeps-as, keeps-passed, keeps-refused, keeps-use}
 use borrow.Author.Needs.{needs}
 use Rattle.uses.proofs.kept.keep_element.Statement.{statement}
 use Rattle.uses.proofs.kept.keep_element.Tie as tie
