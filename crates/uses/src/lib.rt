@@ -1,4 +1,5 @@
 // The use rules: what an element means by a valid table, or why it is refused.
+mod boxes;
 mod effect;
 pub mod kept;
 mod meaning;
