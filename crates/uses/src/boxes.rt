@@ -5,7 +5,7 @@ use crate::Span;
 use crate::Use;
 use crate::index;
 use crate::kept;
-use crate::twice;
+use crate::ranges;
 ghost use mathlib.Core.Path.{_≡_};
 ghost use mathlib.Core.Bool.{false};
 ghost use mathlib.Core.List.{List, [], _∷_};
@@ -30,8 +30,8 @@ fn box_meets(boxes: &[Index; BOXES], j: usize, s: Span) -> bool
     ensures { λ r. ⌜ r ≡ box-meets (now (boxes .entry)) j s ⌝ }
 {
     let at = BOX * j;
-    if twice::meet(index(boxes[at]), index(boxes[at + 1]), s.from, s.upto) {
-        return twice::meet(
+    if ranges::meet(index(boxes[at]), index(boxes[at + 1]), s.from, s.upto) {
+        return ranges::meet(
             index(boxes[at + 2]),
             index(boxes[at + 3]),
             s.value_from,
@@ -64,7 +64,7 @@ fn least(low: usize, upto: usize, from: usize) -> usize
     if upto == 0 {
         return from;
     }
-    twice::smaller(low, from)
+    ranges::smaller(low, from)
 }
 
 fn put_box(boxes: &mut [Index; BOXES], at: usize, a: usize, b: usize, c: usize, d: usize)
@@ -85,10 +85,10 @@ fn widen(boxes: &mut [Index; BOXES], j: usize, s: Span)
     let at = BOX * j;
     let upto = index(boxes[at + 1]);
     let a = least(index(boxes[at]), upto, s.from);
-    let b = twice::larger(upto, s.upto);
+    let b = ranges::larger(upto, s.upto);
     let value_upto = index(boxes[at + 3]);
     let c = least(index(boxes[at + 2]), value_upto, s.value_from);
-    let d = twice::larger(value_upto, s.value_upto);
+    let d = ranges::larger(value_upto, s.value_upto);
     put_box(boxes, at, a, b, c, d);
 }
 

@@ -4,6 +4,7 @@ mod effect;
 pub mod kept;
 mod meaning;
 mod memory;
+mod ranges;
 mod spread;
 pub mod twice;
 
