@@ -2,5 +2,6 @@ pub mod Spread
 pub mod Effect
 pub mod Meant
 pub mod Kept
-pub mod Ahead
+pub mod Decoding
+pub mod Boxes
 pub mod Twice
