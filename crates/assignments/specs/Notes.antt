@@ -1,7 +1,7 @@
 -- The list of assignments as numbers: the heads of the chains by which a cell is found, the highest occurrence named of each entry, and then
 -- the notes, one for each assignment.
 use mathlib.Core.Path.{_≡_}
-use mathlib.Core.Bool.{Bool, true, false, _&&_}
+use mathlib.Core.Bool.{Bool, true, false, cond, _&&_}
 use mathlib.Core.List.{List, [], _∷_, map}
 use Prim.Native.Nat.{ℕ, zero, suc, _+_, _*_, _%_, _≤_, _<_}
 use lib.Dec.{eqb}
@@ -14,6 +14,7 @@ use Rattle.rules.specs.Use.{Place}
 use Rattle.rules.specs.Update.{Assignment}
 use Rattle.tables.specs.Entries.{blank, is-group}
 use Rattle.tables.specs.Groups.{field-at}
+use Rattle.assignments.specs.declared.Note.{Note}
 
 -- How many chains there are, and where the highest occurrences and the notes begin.
 abbrev pub chains : ℕ
@@ -33,6 +34,17 @@ numbers-noted = 7
 -- Where a note stands, and how long a list for n notes is.
 abbrev pub note-place : ℕ → ℕ
 note-place m = notes-from + numbers-noted * m
+
+-- The numbers of a note but the last, and that they are small.
+abbrev pub numbers : Note → List ℕ
+numbers n = n .entry ∷ n .occurrence ∷ n .value ∷ cond (n .bare) 1 0 ∷ n .from ∷ n .upto ∷ []
+
+abbrev pub number-bound : ℕ
+number-bound = 65536
+
+abbrev pub Small-note : Note → Type 0
+Small-note n =
+    (n .entry < number-bound) × (n .occurrence < number-bound) × (n .value < number-bound) × (n .from < number-bound) × (n .upto < number-bound)
 
 abbrev pub entry-noted : List ℕ → ℕ → ℕ
 entry-noted list m = getD list (note-place m) 0

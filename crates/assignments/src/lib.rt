@@ -9,7 +9,7 @@ ghost use Rattle.rules.specs.Limits.{most-entries, highest-index, longest-new-r
 ghost use Rattle.rules.specs.Lists.{Bytes};
 ghost use Rattle.rules.specs.Table.{Entry};
 ghost use Rattle.rules.specs.Update.{Assignment};
-ghost use Rattle.assignments.specs.Notes.{numbers-noted, note-place, chain-of, Listed, Unindexed, Indexed, Has-index, Has-note};
+ghost use Rattle.assignments.specs.Notes.{numbers-noted, note-place, numbers, Small-note, in-cell, chain-of, Listed, Unindexed, Indexed, Has-index, Has-note};
 ghost use Rattle.assignments.specs.Answers.{Stands, bytes-noted, Of-each, Assigned, Names, Highest};
 
 // The numbers of a list in three regions: the heads of the chains; from HIGHEST on the highest occurrence named of each entry; and from
@@ -50,7 +50,10 @@ pub struct Note {
 }
 
 // Writes note m.
-pub fn put(list: &mut [u16], m: usize, n: Note) {
+pub fn put(list: &mut [u16], m: usize, n: Note)
+    requires { ⌜ (note-place (m + 1) ≤ length (now list)) × Small-note n ⌝ }
+    ensures { λ _. ⌜ now (list .exit) ≡ sets (now (list .entry)) (note-place m) (numbers n) ⌝ }
+{
     let at = NOTES + NUMBERS * m;
     list[at] = n.entry as u16;
     list[at + 1] = n.occurrence as u16;
@@ -58,4 +61,12 @@ pub fn put(list: &mut [u16], m: usize, n: Note) {
     list[at + 3] = if n.bare { 1 } else { 0 };
     list[at + 4] = n.from as u16;
     list[at + 5] = n.upto as u16;
+}
+
+// The chain of entry i in occurrence o.
+fn chain_of(i: usize, o: usize) -> usize
+    requires { ⌜ (i < most-entries) × (o ≤ highest-index) ⌝ }
+    ensures { λ r. ⌜ r ≡ chain-of i o ⌝ }
+{
+    (i * 67 + o) % CHAINS
 }

@@ -2,12 +2,13 @@
 use mathlib.Core.Path.{_≡_}
 use mathlib.Core.Bool.{true, false}
 use mathlib.Core.List.{List, [], _∷_, _++_, map}
-use Prim.Native.Nat.{ℕ, min, _≤_, _<_}
+use Prim.Native.Nat.{ℕ, _+_, min, _≤_, _<_}
 use lib.ListN.{length, drop, getD}
 use Rattle.rules.specs.Outcome.{done, refused}
 use Rattle.rules.specs.Limits.{formats, longest-new-record}
 use Rattle.rules.specs.Lists.{Bytes, join}
 use Rattle.rules.specs.Numbers.{refusal-number}
+use Rattle.rules.specs.declared.Refusal.the-variants.{BeyondBuffer}
 use Rattle.rules.specs.Values.{allowed, converts, converted-bytes}
 use Rattle.rules.specs.Table.{Entry}
 use Rattle.rules.specs.Use.{Item, Asked, Use, items}
@@ -51,6 +52,16 @@ pub record Takes (es : List Entry) (buffer : Bytes) (xs : List Item) (s : Taking
   pub same-list : length list′ ≡ length list
   pub same-stage : length stage′ ≡ length stage
   pub moved : (ws : List Assignment) → Holds es buffer list stage s ws → Moved es buffer xs (s .at) list′ stage′ ws r
+
+-- So many bytes of the buffer were passed over, or it has fewer.
+abbrev pub Passed : Bytes → ℕ → Taking → Taken → Type 0
+Passed buffer n s (At t) =
+    (s .at + n ≤ length buffer) × (t ≡ record { at = s .at + n; staged = s .staged; count = s .count; full = s .full })
+Passed buffer n s (Refused x) = (length buffer < s .at + n) × (x ≡ BeyondBuffer)
+
+-- The same, after a value up to a place for which the stage has no room.
+abbrev pub tested-to : ℕ → Taking → Taking
+tested-to next s = record { at = next; staged = s .staged; count = s .count; full = true }
 
 -- There is room, and some assignments are held.
 abbrev pub Ready : List Entry → Bytes → List ℕ → Bytes → Taking → Type 0

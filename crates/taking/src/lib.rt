@@ -13,7 +13,8 @@ ghost use Rattle.rules.proofs.Ranges.{from-to, item-at};
 ghost use Rattle.values.specs.Fits.{Convertible};
 ghost use Rattle.tables.specs.Entries.{Valid, entries-of, blank, is-group};
 ghost use Rattle.uses.specs.Meant.{Good-span, Good-use, asked-of, use-meant};
-ghost use Rattle.taking.specs.Taking.{Roomy, Holds, Takes, Ready, asked-given, Gives, Stages, Gave};
+ghost use Rattle.taking.specs.Taking.{Roomy, Holds, Takes, Ready, asked-given, Gives, Stages, Gave, Passed, tested-to};
+ghost use Rattle.taking.specs.declared.Taken.the-variants.{At};
 use assignments::Note;
 use filling::Next;
 use rules::Refusal;
@@ -47,7 +48,10 @@ struct Given {
 }
 
 // Passes over n bytes, which are given to nothing.
-fn pass(buffer: &[u8], n: usize, s: Taking) -> Taken {
+fn pass(buffer: &[u8], n: usize, s: Taking) -> Taken
+    requires { ⌜ s .at ≤ length (now buffer) ⌝ }
+    ensures { λ r. ⌜ Passed (now (buffer .entry)) n s r ⌝ }
+{
     if buffer.len() - s.at < n {
         return Taken::Refused(Refusal::BeyondBuffer);
     }
@@ -60,7 +64,9 @@ fn pass(buffer: &[u8], n: usize, s: Taking) -> Taken {
 }
 
 // The same place, after a value for which the stage has no room.
-fn without_room(next: usize, s: Taking) -> Taken {
+fn without_room(next: usize, s: Taking) -> Taken
+    ensures { λ r. ⌜ r ≡ At (tested-to next s) ⌝ }
+{
     Taken::At(Taking {
         at: next,
         staged: s.staged,
@@ -180,7 +186,7 @@ fn take_values(
 }
 
 // The field of entry i, as a span asks for it.
-fn given(t: &[u8], i: usize, s: Span) -> Given
+fn given_at(t: &[u8], i: usize, s: Span) -> Given
     requires { ⌜ Valid (now t) × Good-span (entries-of (now t)) s × (s .first ≤ i) × (i < s .end) × (is-group (getD (entries-of (now t)) i blank .what) ≡ false) ⌝ }
     ensures { λ g. ⌜ (g .entry ≡ i) × (g .bare ≡ s .bare) × Gives (entries-of (now (t .entry))) g ⌝ }
 {
@@ -226,7 +232,7 @@ fn take_fields(
         if !tables::group_at(t, i) {
             match take_values(
                 buffer,
-                given(t, i, u),
+                given_at(t, i, u),
                 o,
                 u.value_from,
                 u.value_upto,
