@@ -9,7 +9,7 @@ use lib.ListN.{length, getD}
 use Rattle.rules.specs.Limits.{formats}
 use Rattle.rules.specs.Lists.{Bytes}
 use Rattle.rules.specs.Values.{Format, alpha, binary, fixed, packed, unpacked, conversion, allowed, converts}
-use Rattle.rules.specs.Table.{Entry}
+use Rattle.rules.specs.Use.{as-stored}
 use Rattle.value_formats.specs.Formats.{format-at}
 use Rattle.tables.specs.Entries.{Valid, entries-of, blank, decoded, is-group}
 use Rattle.tables.specs.Groups.{field-at}
@@ -18,7 +18,7 @@ use Rattle.tables.proofs.Known.{field-known}
 use Rattle.uses.specs.Meant.{Good-span, One-field}
 use Rattle.uses.specs.declared.Span.{Span}
 use Rattle.uses.proofs.Fields.{format-of-field, size-at}
-use Rattle.taking.specs.Taking.{Gives}
+use Rattle.taking.specs.Taking.{Gives, asked-given, asked-as}
 
 conversion-turned : (f g : Format) → conversion f g ≡ conversion g f
 unfolding conversion
@@ -65,6 +65,9 @@ module _ (t : Bytes) (v : Valid t) (i : ℕ) (known : i < length (entries-of t))
   own-format : field-at (entries-of t) i .format ≡ format-at (e .format)
   own-format = rw q (format-of-field (entries-of t) i single .0)
 
+  own-size : field-at (entries-of t) i .size ≡ e .size
+  own-size = rw q (size-at (entries-of t) i)
+
   -- At a format and a length that are right for it.
   pub gives-at : (format size : ℕ) (bare : Bool) → format < formats → allowed (format-at format) size ≡ true
       → converts (format-at (e .format)) (format-at format) ≡ true
@@ -74,7 +77,7 @@ module _ (t : Bytes) (v : Valid t) (i : ℕ) (known : i < length (entries-of t))
     field = single;
     own = own-format;
     own-known = rw q (field-known t v i known single .0);
-    standard = rw q (size-at (entries-of t) i);
+    standard = own-size;
     own-allowed = rw q (field-known t v i known single .1);
     format = small;
     size = good;
@@ -84,6 +87,12 @@ module _ (t : Bytes) (v : Valid t) (i : ℕ) (known : i < length (entries-of t))
   pub gives-stored : (bare : Bool) → Gives (entries-of t) (record { entry = i; format = e .format; size = e .size; own = e .format; standard = e .size; bare = bare })
   gives-stored bare =
       gives-at (e .format) (e .size) bare (rw q (field-known t v i known single .0)) (rw q (field-known t v i known single .1)) (converts-itself (format-at (e .format)))
+
+  pub asks-stored : (s : Span) (bare : Bool) → s .standard ≡ true
+      → asked-given (entries-of t) (record { entry = i; format = e .format; size = e .size; own = e .format; standard = e .size; bare = bare })
+      ≡ asked-as (s .standard) s (field-at (entries-of t) i)
+  unfolding as-stored
+  asks-stored s bare standard = rw (standard, own-format, own-size)
 
   -- The one field of a span, at the format and the length in effect.
   pub gives-one : (s : Span) → One-field (entries-of t) s → s .first ≤ i → i < s .end → (bare : Bool)

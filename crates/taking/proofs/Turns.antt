@@ -94,3 +94,7 @@ module _ {es : List Entry} {buffer : Bytes} {whole rest : List Item} {s t : Taki
     same-stage = d .same-stage;
     moved = λ ws h. let x = d .left ws h in (x .0, x .1 ∙ rw (e, taking-none (drop (t .at) buffer), append-nil), x .2);
   }
+
+-- No items, and nothing done.
+pub nothing-taken : (es : List Entry) (buffer : Bytes) (xs : List Item) (s : Taking) (list : List ℕ) (stage : Bytes) → xs ≡ [] → Takes es buffer xs s list list stage stage (At s)
+nothing-taken es buffer xs s list stage e = turn-end (turn-start es buffer xs s list stage) e

@@ -12,8 +12,9 @@ ghost use Rattle.rules.specs.Use.{Item, value-items, items-of, just};
 ghost use Rattle.rules.proofs.Ranges.{from-to, item-at};
 ghost use Rattle.values.specs.Fits.{Convertible};
 ghost use Rattle.tables.specs.Entries.{Valid, entries-of, blank, is-group};
+ghost use Rattle.tables.specs.Groups.{field-at};
 ghost use Rattle.uses.specs.Meant.{Good-span, Good-use, asked-of, use-meant};
-ghost use Rattle.taking.specs.Taking.{Roomy, Holds, Takes, Ready, asked-given, Gives, Stages, Gave, Passed, tested-to};
+ghost use Rattle.taking.specs.Taking.{Roomy, Holds, Takes, Ready, asked-given, Gives, Stages, Gave, Passed, asked-as, items-between, tested-to};
 ghost use Rattle.taking.specs.declared.Taken.the-variants.{At};
 use assignments::Note;
 use filling::Next;
@@ -188,7 +189,7 @@ fn take_values(
 // The field of entry i, as a span asks for it.
 fn given_at(t: &[u8], i: usize, s: Span) -> Given
     requires { ⌜ Valid (now t) × Good-span (entries-of (now t)) s × (s .first ≤ i) × (i < s .end) × (is-group (getD (entries-of (now t)) i blank .what) ≡ false) ⌝ }
-    ensures { λ g. ⌜ (g .entry ≡ i) × (g .bare ≡ s .bare) × Gives (entries-of (now (t .entry))) g ⌝ }
+    ensures { λ g. ⌜ (g .entry ≡ i) × (g .bare ≡ s .bare) × Gives (entries-of (now (t .entry))) g × (asked-given (entries-of (now (t .entry))) g ≡ asked-as (s .standard) s (field-at (entries-of (now (t .entry))) i)) ⌝ }
 {
     let e = tables::entry_at(t, i);
     let own = e.format as usize;
@@ -213,6 +214,35 @@ fn given_at(t: &[u8], i: usize, s: Span) -> Given
     }
 }
 
+// Entry i of a span in occurrence o: a group takes nothing.
+fn take_entry(
+    t: &[u8],
+    buffer: &[u8],
+    u: Span,
+    i: usize,
+    o: usize,
+    list: &mut [u16],
+    stage: &mut [u8],
+    s: Taking,
+) -> Taken
+    requires { ⌜ Valid (now t) × Good-span (entries-of (now t)) u × (u .first ≤ i) × (i < u .end) × (1 ≤ o) × (o ≤ highest-index) × Ready (entries-of (now t)) (now buffer) (now list) (now stage) s ⌝ }
+    ensures { λ r. ⌜ Takes (entries-of (now (t .entry))) (now (buffer .entry)) (items-between (entries-of (now (t .entry))) u o i (i + 1)) s (now (list .entry)) (now (list .exit)) (now (stage .entry)) (now (stage .exit)) r ⌝ }
+{
+    if tables::group_at(t, i) {
+        return Taken::At(s);
+    }
+    take_values(
+        buffer,
+        given_at(t, i, u),
+        o,
+        u.value_from,
+        u.value_upto,
+        list,
+        stage,
+        s,
+    )
+}
+
 // The fields of a span in occurrence o.
 fn take_fields(
     t: &[u8],
@@ -229,23 +259,12 @@ fn take_fields(
     let mut state = s;
     let mut i = u.first;
     while i < u.end {
-        if !tables::group_at(t, i) {
-            match take_values(
-                buffer,
-                given_at(t, i, u),
-                o,
-                u.value_from,
-                u.value_upto,
-                list,
-                stage,
-                state,
-            ) {
-                Taken::Refused(x) => {
-                    return Taken::Refused(x);
-                }
-                Taken::At(next) => {
-                    state = next;
-                }
+        match take_entry(t, buffer, u, i, o, list, stage, state) {
+            Taken::Refused(x) => {
+                return Taken::Refused(x);
+            }
+            Taken::At(next) => {
+                state = next;
             }
         }
         i += 1;
