@@ -1,3 +1,4 @@
 pub mod Turns
 pub mod Asking
 pub mod Entries
+pub mod Passing
