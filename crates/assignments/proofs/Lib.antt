@@ -1,1 +1,3 @@
 pub mod Setting
+pub mod Runs
+pub mod Listing

@@ -2,3 +2,4 @@ pub mod Turns
 pub mod Asking
 pub mod Entries
 pub mod Passing
+pub mod Staging
