@@ -3,3 +3,4 @@ pub mod Asking
 pub mod Entries
 pub mod Passing
 pub mod Staging
+pub mod Finding

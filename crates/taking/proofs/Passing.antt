@@ -63,7 +63,7 @@ module _ (es : List Entry) (buffer : Bytes) (n : ℕ) (s : Taking) (list : List 
     same-list = refl;
     same-stage = refl;
     moved = λ ws h. subst (λ t. (own : List Assignment) × (taking xs (drop (s .at) buffer) ≡ done (own, drop (t .at) buffer)) × Holds es buffer list stage t (ws ++ own)) (sym (p .1))
-      ([], k (drop (s .at) buffer) ∙ rw (cut-enough 7 n (drop (s .at) buffer) (rw length-drop (omega (arith, p .0)))) (rw drop-drop), rw append-nil (passed-on (p .0) h));
+        ([], k (drop (s .at) buffer) ∙ rw (cut-enough 7 n (drop (s .at) buffer) (rw length-drop (omega (arith, p .0)))) (rw drop-drop), rw append-nil (passed-on (p .0) h));
   }
   passes xs k (Refused x) p = record {
     same-list = refl;

@@ -159,9 +159,14 @@ module _ {es : List Entry} {buffer : Bytes} {g : Given} {content : Bytes} {next 
     same-stage = f .same;
     moved = λ ws h.
         ⊎-elim (λ e. absurd (not-short e))
-        (λ x. (x .0, x .1, refl, no-more h (x .0) (by-test (s .full)
-        (λ t. omega (arith, h .full t))
-        (λ t. omega (arith, x .2, p .begins .staged t, h .staged t, p .room .1)))))
+        (λ x. (
+          x .0,
+          x .1,
+          refl,
+          no-more h (x .0) (by-test (s .full)
+              (λ t. omega (arith, h .full t))
+              (λ t. omega (arith, x .2, p .begins .staged t, h .staged t, p .room .1))),
+        ))
         (room-refused (length stage - from) there 7 (put-off f BeyondBuffer q));
   }
 
@@ -207,13 +212,18 @@ module _ {es : List Entry} {buffer : Bytes} {g : Given} {content : Bytes} {next 
     stage-on {list′} bo bk z = record {
       same-list = ap length z ∙ length-sets list (note-place (s .count)) (numbers (note upto));
       same-stage = f .same;
-      moved = λ ws h. put-there λ b e m u w. (b, e, refl, record {
-        place = p .within;
-        unindexed = rw z (unindexed-more list (s .count) (numbers (note upto)) (h .unindexed));
-        full = λ t. absurd (true≢false (sym t));
-        listed = λ _. rw (z, w, h .count free) (listed-more (h .listed free) (note upto) b (enough h .0) (p .begins .staged free) m u (p .gives .entry) (p .gives .field) bo bk (enough h .1));
-        count = λ _. rw (length-append ws (assignment b ∷ []), h .count free);
-        staged = λ _. rw (given-more ws (assignment b)) (omega (arith, m, h .staged free));
-        few = λ _. let i = some-bytes b e in rw (length-append ws (assignment b ∷ [])) (omega (arith, h .few free .0, p .less), omega (arith, h .few free .1));
-      });
+      moved = λ ws h. put-there λ b e m u w. (
+        b,
+        e,
+        refl,
+        record {
+          place = p .within;
+          unindexed = rw z (unindexed-more list (s .count) (numbers (note upto)) (h .unindexed));
+          full = λ t. absurd (true≢false (sym t));
+          listed = λ _. rw (z, w, h .count free) (listed-more (h .listed free) (note upto) b (enough h .0) (p .begins .staged free) m u (p .gives .entry) (p .gives .field) bo bk (enough h .1));
+          count = λ _. rw (length-append ws (assignment b ∷ []), h .count free);
+          staged = λ _. rw (given-more ws (assignment b)) (omega (arith, m, h .staged free));
+          few = λ _. let i = some-bytes b e in rw (length-append ws (assignment b ∷ [])) (omega (arith, h .few free .0, p .less), omega (arith, h .few free .1));
+        },
+      );
     }

@@ -69,11 +69,12 @@ module _ {es : List Entry} {buffer : Bytes} {whole rest : List Item} {s t : Taki
         same-list = m .same-list ∙ d .same-list;
         same-stage = m .same-stage ∙ d .same-stage;
         left = λ ws h.
-          let x = d .left ws h in
-          let y = m .moved (ws ++ x .0) (x .2) in
-          (x .0 ++ y .0,
-          x .1 ∙ rw (e, taking-rest xs ys (drop (t .at) buffer) (drop (t′ .at) buffer) (y .0) (y .1)) (before-both (x .0) (y .0) (taking ys (drop (t′ .at) buffer))),
-          rw append-assoc at (y .2));
+            let x = d .left ws h in
+            let y = m .moved (ws ++ x .0) (x .2) in (
+              x .0 ++ y .0,
+              x .1 ∙ rw (e, taking-rest xs ys (drop (t .at) buffer) (drop (t′ .at) buffer) (y .0) (y .1)) (before-both (x .0) (y .0) (taking ys (drop (t′ .at) buffer))),
+              rw append-assoc at (y .2),
+            );
       }
 
   pub turn-off : {list′ : List ℕ} {stage′ : Bytes} (xs ys : List Item) (a : Taken) (x : Refusal) → rest ≡ xs ++ ys → a ≡ Refused x
@@ -84,8 +85,8 @@ module _ {es : List Entry} {buffer : Bytes} {whole rest : List Item} {s t : Taki
         same-list = m .same-list ∙ d .same-list;
         same-stage = m .same-stage ∙ d .same-stage;
         moved = λ ws h.
-          let x = d .left ws h in
-          x .1 ∙ rw (e, taking-stop xs ys (drop (t .at) buffer) (refusal-number n) (m .moved (ws ++ x .0) (x .2)));
+            let x = d .left ws h in
+            x .1 ∙ rw (e, taking-stop xs ys (drop (t .at) buffer) (refusal-number n) (m .moved (ws ++ x .0) (x .2)));
       }
 
   pub turn-end : rest ≡ [] → Takes es buffer whole s list₀ list stage₀ stage (At t)

@@ -301,14 +301,7 @@ fn take_occurrences(
 }
 
 // The items of a use. Counts, spaces and text are passed over.
-fn take_use(
-    t: &[u8],
-    buffer: &[u8],
-    u: Use,
-    list: &mut [u16],
-    stage: &mut [u8],
-    s: Taking,
-) -> Taken
+fn take_use(t: &[u8], buffer: &[u8], u: Use, list: &mut [u16], stage: &mut [u8], s: Taking) -> Taken
     requires { ⌜ Valid (now t) × ((f : Bytes) × Good-use (entries-of (now t)) f u) × Ready (entries-of (now t)) (now buffer) (now list) (now stage) s ⌝ }
     ensures { λ r. ⌜ ((f : Bytes) → Good-use (entries-of (now (t .entry))) f u → Takes (entries-of (now (t .entry))) (now (buffer .entry)) (items-of (use-meant (entries-of (now (t .entry))) f u)) s (now (list .entry)) (now (list .exit)) (now (stage .entry)) (now (stage .exit)) r) ⌝ }
 {

@@ -37,7 +37,7 @@ returns-2 c =
       refl,
       refl,
       gives-one (s .args .t .now) (s .pre .0) (s .args .i) known (s .pre .4) (e .result) (e .ensures) (s .args .s) (s .pre .1 .alone (c .if1 .left)) (s .pre .2) (s .pre .3)
-      (s .args .s .bare),
+          (s .args .s .bare),
       rw (c .if1 .left),
     )
 

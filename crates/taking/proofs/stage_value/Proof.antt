@@ -73,9 +73,10 @@ put-requires c κs =
     let s = start (joined v) in
     let x = s .pre .5 in
     let p = puts v (x .0) (x .1) (x .2) (x .3) (x .4) (x .5 .0) in
-    let h = x .5 .1 .1 in
-    (note-room p (v .put-value .ensures) (s .args .o) (s .args .k) _ (c .before .if2 .left) (k .before .put2 .given .1) h,
-    note-small p (v .put-value .ensures) (s .args .o) (s .args .k) _ (c .before .if2 .left) (k .before .put2 .given .1) h (s .pre .2) (s .pre .4))
+    let h = x .5 .1 .1 in (
+      note-room p (v .put-value .ensures) (s .args .o) (s .args .k) _ (c .before .if2 .left) (k .before .put2 .given .1) h,
+      note-small p (v .put-value .ensures) (s .args .o) (s .args .k) _ (c .before .if2 .left) (k .before .put2 .given .1) h (s .pre .2) (s .pre .4),
+    )
 
 add-t25 : tie.Need-add-t25
 add-t25 c =

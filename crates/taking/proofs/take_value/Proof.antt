@@ -1,6 +1,17 @@
+-- `taking::take_value` meets its contract: the value is the first of the bytes that are left.
+use mathlib.Core.Path.{sym, _∙_}
+use native.Mathlib.Omega.{arith}
+use Rattle.taking.proofs.Finding.{value-unfound, value-place, value-asked, value-bad, value-staged}
 use borrow.Author.Needs.{needs}
 use Rattle.taking.proofs.take_value.Statement.{statement}
 use Rattle.taking.proofs.take_value.Tie as tie
+
+abbrev start : tie.After-first-value → tie.Start
+start c = c .before .before .before .before
+
+-- The value that was found.
+abbrev found : tie.After-known-told2 → tie.After-first-value
+found c = c .before .before .before
 
 first-value-requires : tie.Need-first-value-requires
 first-value-requires c κs = search needs
@@ -12,28 +23,67 @@ enum-known-from : tie.Need-enum-known-from
 enum-known-from c = search needs
 
 sub-is-value : tie.Need-sub-is-value
-sub-is-value c = ?
+sub-is-value c =
+    let f = found (c) in
+    let s = start f in
+    let p = value-place (s .pre .4 .0) (s .args .buffer .now) (s .args .g) (s .args .o) (s .args .k) (s .args .s) (f .first-value .ensures) _ _ ((c) .before .from .given .1) in
+    omega (arith, p .0, p .1)
 
 part-is-value-start : tie.Need-part-is-value-start
-part-is-value-start c = ?
+part-is-value-start c =
+    let f = found (c) in
+    let s = start f in
+    let p = value-place (s .pre .4 .0) (s .args .buffer .now) (s .args .g) (s .args .o) (s .args .k) (s .args .s) (f .first-value .ensures) _ _ ((c) .before .from .given .1) in
+    omega (arith, p .0, p .1)
 
 part-is-value-end : tie.Need-part-is-value-end
-part-is-value-end c = ?
+part-is-value-end c =
+    let f = found (c) in
+    let s = start f in
+    let p = value-place (s .pre .4 .0) (s .args .buffer .now) (s .args .g) (s .args .o) (s .args .k) (s .args .s) (f .first-value .ensures) _ _ ((c) .before .from .given .1) in
+    omega (arith, p .0, p .1)
 
 is-value-requires : tie.Need-is-value-requires
 is-value-requires c κs = search needs
 
 sub-stage-value : tie.Need-sub-stage-value
-sub-stage-value c = ?
+sub-stage-value c =
+    let f = found (c .before .before .before) in
+    let s = start f in
+    let p = value-place (s .pre .4 .0) (s .args .buffer .now) (s .args .g) (s .args .o) (s .args .k) (s .args .s) (f .first-value .ensures) _ _ ((c .before .before .before) .before .from .given .1) in
+    omega (arith, p .0, p .1)
 
 part-stage-value-start : tie.Need-part-stage-value-start
-part-stage-value-start c = ?
+part-stage-value-start c =
+    let f = found (c .before .before .before) in
+    let s = start f in
+    let p = value-place (s .pre .4 .0) (s .args .buffer .now) (s .args .g) (s .args .o) (s .args .k) (s .args .s) (f .first-value .ensures) _ _ ((c .before .before .before) .before .from .given .1) in
+    omega (arith, p .0, p .1)
 
 part-stage-value-end : tie.Need-part-stage-value-end
-part-stage-value-end c = ?
+part-stage-value-end c =
+    let f = found (c .before .before .before) in
+    let s = start f in
+    let p = value-place (s .pre .4 .0) (s .args .buffer .now) (s .args .g) (s .args .o) (s .args .k) (s .args .s) (f .first-value .ensures) _ _ ((c .before .before .before) .before .from .given .1) in
+    omega (arith, p .0, p .1)
 
 stage-value-requires : tie.Need-stage-value-requires
-stage-value-requires c κs = ?
+stage-value-requires c κs =
+    let t = c .before .before .before in
+    let k = t .before .before .before in
+    let f = found k in
+    let s = start f in
+    let x = s .pre .4 in
+    let a = s .args in
+    let q = k .before .from .given .1 in
+    let p = value-place (x .0) (a .buffer .now) (a .g) (a .o) (a .k) (a .s) (f .first-value .ensures) _ _ q in (
+      value-asked (x .0) (a .buffer .now) (a .g) (a .o) (a .k) (a .s) (f .first-value .ensures) _ _ q (x .1) (sym (t .before .is-value .ensures) ∙ t .if1 .taken),
+      s .pre .0,
+      s .pre .1,
+      s .pre .2,
+      s .pre .3,
+      (x .0, a .buffer .now, x .1, p .2, p .1, x .2),
+    )
 
 same-length : tie.Need-same-length
 same-length c = search needs
@@ -42,13 +92,31 @@ same-length-2 : tie.Need-same-length-2
 same-length-2 c = search needs
 
 returns : tie.Need-returns
-returns c = ?
+returns c es gives room =
+    let w = c .before .before .before .before in
+    let t = w .before .before .before .before in
+    let k = t .before .before .before in
+    let f = found k in
+    let a = start f .args in
+    let q = k .before .from .given .1 in
+    let p = value-place es (a .buffer .now) (a .g) (a .o) (a .k) (a .s) (f .first-value .ensures) _ _ q in
+    value-staged es (a .buffer .now) (a .g) (a .o) (a .k) (a .s) (f .first-value .ensures) _ _ q gives
+    (w .stage-value .ensures es (a .buffer .now) gives (p .2) (p .1) room)
 
 returns-2 : tie.Need-returns-2
-returns-2 c = ?
+returns-2 c es gives room =
+    let f = c .before .before .before in
+    let a = start f .args in
+    value-unfound es (a .buffer .now) (a .g) (a .o) (a .k) (a .s) (f .first-value .ensures) (a .list .now) (a .stage .now) _ (c .before .x .given .1)
 
 returns-3 : tie.Need-returns-3
-returns-3 c = ?
+returns-3 c es gives room =
+    let v = c .before in
+    let k = v .before .before in
+    let f = found k in
+    let a = start f .args in
+    value-bad es (a .buffer .now) (a .g) (a .o) (a .k) (a .s) (f .first-value .ensures) _ _ (k .before .from .given .1) gives (a .list .now) (a .stage .now)
+    (sym (v .is-value .ensures) ∙ c .if1 .left)
 
 pub take-value-spec : {M : Type 1} → statement M
 take-value-spec =

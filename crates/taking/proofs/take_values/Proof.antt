@@ -77,14 +77,16 @@ loop-again : tie.Need-loop-again Inv-loop μ-loop
 loop-again c =
     let w = turn (c .before .before .before) in
     let l = here w in
-    let a = start l .args in
-    (search needs, λ es gives room.
-    let d = l .loop .inv .1 es gives room in
-    turn-on d (item-at (a .g .bare) (asked-given es (a .g)) (a .o) (l .loop .k) ∷ [])
-    (value-items (asked-given es (a .g) ∷ []) (just (a .o)) (from-to (l .loop .k + 1) (a .last)) (a .g .bare)) _ _
-    (first-value-item (asked-given es (a .g)) (a .o) (a .g .bare) (l .loop .k) (a .last) (w .before .before .before .loop-test .taken))
-    (c .before .next .given .1)
-    (w .take-value .ensures es gives (turn-roomy d room)))
+    let a = start l .args in (
+      search needs,
+      λ es gives room.
+          let d = l .loop .inv .1 es gives room in
+          turn-on d (item-at (a .g .bare) (asked-given es (a .g)) (a .o) (l .loop .k) ∷ [])
+          (value-items (asked-given es (a .g) ∷ []) (just (a .o)) (from-to (l .loop .k + 1) (a .last)) (a .g .bare)) _ _
+          (first-value-item (asked-given es (a .g)) (a .o) (a .g .bare) (l .loop .k) (a .last) (w .before .before .before .loop-test .taken))
+          (c .before .next .given .1)
+          (w .take-value .ensures es gives (turn-roomy d room)),
+    )
 
 same-length-3 : tie.Need-same-length-3 Inv-loop μ-loop
 same-length-3 c = let p = start (c .before) .pre .4 in c .before .loop .inv .1 (p .0) (p .1) (p .2 .0) .same-list
