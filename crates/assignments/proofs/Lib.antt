@@ -1,3 +1,10 @@
 pub mod Setting
 pub mod Runs
 pub mod Listing
+pub mod Filters
+pub mod Searching
+pub mod Seeking
+pub mod Tallying
+pub mod Heights
+pub mod Linking
+pub mod Indexing

@@ -1,6 +1,7 @@
 // The use rules: what an element means by a valid table, or why it is refused.
 mod effect;
 mod elements;
+pub mod kept;
 mod meaning;
 mod memory;
 mod spread;

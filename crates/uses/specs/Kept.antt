@@ -1,0 +1,84 @@
+-- The uses of a format's elements, kept one after the other as numbers.
+use mathlib.Core.Path.{_≡_}
+use mathlib.Core.Bool.{Bool, cond}
+use mathlib.Core.List.{List}
+use Prim.Native.Nat.{ℕ, _+_, _*_, _≤_, _<_}
+use lib.Dec.{eqb}
+use lib.ListN.{length, getD}
+use Rattle.rules.specs.Outcome.{done, refused}
+use Rattle.rules.specs.Lists.{Bytes, run}
+use Rattle.rules.specs.Numbers.{refusal-number}
+use Rattle.rules.specs.Table.{Entry}
+use Rattle.rules.specs.Use as rules
+use Rattle.uses.specs.Meant.{use-meant, uses-of, Good-use}
+use Rattle.uses.specs.declared.Span.{Span}
+use Rattle.uses.specs.declared.Use.{Use}
+use Rattle.uses.specs.declared.Use.the-variants as code
+use Rattle.uses.specs.declared.kept.Decoded.{Decoded}
+use Rattle.uses.specs.declared.kept.Decoded.the-variants.{Uses, Refused}
+
+-- How many numbers are kept of a use: what it is, and what it says.
+abbrev pub numbers-kept : ℕ
+numbers-kept = 10
+
+-- An element takes so many bytes of a format at least, with what ends it.
+abbrev pub element-bytes : ℕ
+element-bytes = 3
+
+-- What a use is. Of the values that it names the fields are as they are stored, or one is at a format and a length in effect.
+abbrev pub blanks-kept : ℕ
+blanks-kept = 0
+
+abbrev pub text-kept : ℕ
+text-kept = 1
+
+abbrev pub group-count-kept : ℕ
+group-count-kept = 2
+
+abbrev pub value-count-kept : ℕ
+value-count-kept = 3
+
+abbrev pub stored-kept : ℕ
+stored-kept = 4
+
+abbrev pub in-effect-kept : ℕ
+in-effect-kept = 5
+
+-- The span whose numbers are kept at a place.
+abbrev pub span-at : List ℕ → ℕ → Span
+span-at kept at = record {
+  first = getD kept (at + 1) 0;
+  end = getD kept (at + 2) 0;
+  from = getD kept (at + 3) 0;
+  upto = getD kept (at + 4) 0;
+  «value_from» = getD kept (at + 5) 0;
+  «value_upto» = getD kept (at + 6) 0;
+  standard = eqb (getD kept at 0) stored-kept;
+  format = getD kept (at + 7) 0;
+  size = getD kept (at + 8) 0;
+  bare = eqb (getD kept (at + 9) 0) 1;
+}
+
+-- The use of a kind, with its first two numbers, or its span.
+unfoldable pub use-of-kind : ℕ → ℕ → ℕ → Span → Use
+use-of-kind kind a b s =
+    cond (eqb kind blanks-kept) (code.Blanks a) (cond (eqb kind text-kept) (code.Text a b)
+    (cond (eqb kind group-count-kept) (code.GroupCount a) (cond (eqb kind value-count-kept) (code.ValueCount a b) (code.Values s))))
+
+-- The use with the number n.
+unfoldable pub use-at : List ℕ → ℕ → Use
+use-at kept n =
+    let at = numbers-kept * n in
+    use-of-kind (getD kept at 0) (getD kept (at + 1) 0) (getD kept (at + 2) 0) (span-at kept at)
+
+-- The first n uses, in the words of `rules`; and what is known of each.
+unfoldable pub uses-kept : List Entry → Bytes → List ℕ → ℕ → List rules.Use
+uses-kept es f kept n = run (λ i. use-meant es f (use-at kept i)) 0 n
+
+abbrev pub Good-uses : List Entry → Bytes → List ℕ → ℕ → Type 0
+Good-uses es f kept n = (i : ℕ) → i < n → Good-use es f (use-at kept i)
+
+-- The uses of a format were decoded, or it is refused.
+abbrev pub Decodes : List Entry → Bytes → List ℕ → Decoded → Type 0
+Decodes es f kept (Uses n) = (uses-of es f ≡ done (uses-kept es f kept n)) × Good-uses es f kept n × (numbers-kept * n ≤ length kept)
+Decodes es f kept (Refused x) = uses-of es f ≡ refused (refusal-number x)

@@ -1,0 +1,170 @@
+// The uses of a format's elements, decoded once and kept one after the other as numbers.
+use crate::INDEXES;
+use crate::Index;
+use crate::Meant;
+use crate::Span;
+use crate::Use;
+use crate::index;
+use crate::meaning;
+use crate::memory;
+use format_buffer::Element;
+use format_buffer::syntax::Step;
+use rules::Refusal;
+ghost use mathlib.Core.Path.{_≡_};
+ghost use Prim.Native.Nat.{_+_, _*_, _≤_};
+ghost use lib.ListN.{length};
+ghost use Rattle.tables.specs.Entries.{Valid, entries-of};
+ghost use Rattle.uses.specs.Kept.{numbers-kept, element-bytes, span-at, use-at, Decodes};
+
+// How many numbers are kept of a use: what it is, and what it says.
+pub const NUMBERS: usize = 10;
+
+// What a use is. Of the values that it names the fields are as they are stored, or one is at a format and a length in effect.
+const BLANKS: Index = 0;
+
+const TEXT: Index = 1;
+
+const GROUP_COUNT: Index = 2;
+
+const VALUE_COUNT: Index = 3;
+
+const STORED: Index = 4;
+
+const IN_EFFECT: Index = 5;
+
+// The uses of a format, by how many they are; or why it is refused.
+pub enum Decoded {
+    Uses(usize),
+    Refused(Refusal),
+}
+
+// A use of a kind with two numbers.
+fn put_numbers(kept: &mut [Index], at: usize, kind: Index, a: usize, b: usize) {
+    kept[at] = kind;
+    kept[at + 1] = a as Index;
+    kept[at + 2] = b as Index;
+}
+
+fn put_span(kept: &mut [Index], at: usize, s: Span) {
+    kept[at] = if s.standard { STORED } else { IN_EFFECT };
+    kept[at + 1] = s.first as Index;
+    kept[at + 2] = s.end as Index;
+    kept[at + 3] = s.from as Index;
+    kept[at + 4] = s.upto as Index;
+    kept[at + 5] = s.value_from as Index;
+    kept[at + 6] = s.value_upto as Index;
+    kept[at + 7] = s.format as Index;
+    kept[at + 8] = s.size as Index;
+    kept[at + 9] = if s.bare { 1 } else { 0 };
+}
+
+// Keeps a use as the one with the number n.
+fn put(kept: &mut [Index], n: usize, u: Use) {
+    let at = NUMBERS * n;
+    match u {
+        Use::Blanks(m) => {
+            put_numbers(kept, at, BLANKS, m, 0);
+        }
+        Use::Text(from, upto) => {
+            put_numbers(kept, at, TEXT, from, upto);
+        }
+        Use::GroupCount(i) => {
+            put_numbers(kept, at, GROUP_COUNT, i, 0);
+        }
+        Use::ValueCount(i, k) => {
+            put_numbers(kept, at, VALUE_COUNT, i, k);
+        }
+        Use::Values(s) => {
+            put_span(kept, at, s);
+        }
+    }
+}
+
+// The span whose numbers are kept at a place.
+pub fn span_at(kept: &[Index], at: usize) -> Span
+    requires { ⌜ at + numbers-kept ≤ length (now kept) ⌝ }
+    ensures { λ r. ⌜ r ≡ span-at (now (kept .entry)) at ⌝ }
+{
+    Span {
+        first: index(kept[at + 1]),
+        end: index(kept[at + 2]),
+        from: index(kept[at + 3]),
+        upto: index(kept[at + 4]),
+        value_from: index(kept[at + 5]),
+        value_upto: index(kept[at + 6]),
+        standard: kept[at] == STORED,
+        format: index(kept[at + 7]),
+        size: index(kept[at + 8]),
+        bare: kept[at + 9] == 1,
+    }
+}
+
+// The use with the number n.
+pub fn get(kept: &[Index], n: usize) -> Use
+    requires { ⌜ numbers-kept * n + numbers-kept ≤ length (now kept) ⌝ }
+    ensures { λ r. ⌜ r ≡ use-at (now (kept .entry)) n ⌝ }
+{
+    let at = NUMBERS * n;
+    let kind = kept[at];
+    if kind == BLANKS {
+        return Use::Blanks(index(kept[at + 1]));
+    }
+    if kind == TEXT {
+        return Use::Text(index(kept[at + 1]), index(kept[at + 2]));
+    }
+    if kind == GROUP_COUNT {
+        return Use::GroupCount(index(kept[at + 1]));
+    }
+    if kind == VALUE_COUNT {
+        return Use::ValueCount(index(kept[at + 1]), index(kept[at + 2]));
+    }
+    Use::Values(span_at(kept, at))
+}
+
+// One element more: its use is kept, or it is refused. After an element that is refused the uses of the others do not matter.
+fn keep_element(
+    t: &[u8],
+    e: Element,
+    last: &mut [Index; INDEXES],
+    kept: &mut [Index],
+    d: Decoded,
+) -> Decoded {
+    match d {
+        Decoded::Refused(x) => Decoded::Refused(x),
+        Decoded::Uses(n) => match meaning::use_of(t, last, e) {
+            Meant::Refused(x) => Decoded::Refused(x),
+            Meant::As(u) => {
+                memory::remember(t, last, u);
+                put(kept, n, u);
+                Decoded::Uses(n + 1)
+            }
+        },
+    }
+}
+
+// The uses of a format, or the first refusal, of the whole format's syntax, then of its elements.
+pub fn decode(t: &[u8], f: &[u8], kept: &mut [Index]) -> Decoded
+    requires { ⌜ Valid (now t) × (numbers-kept * length (now f) ≤ element-bytes * length (now kept)) ⌝ }
+    ensures { λ r. ⌜ Decodes (entries-of (now (t .entry))) (now (f .entry)) (now (kept .exit)) r × (length (now (kept .exit)) ≡ length (now (kept .entry))) ⌝ }
+{
+    if rules::LONGEST_FORMAT < f.len() {
+        return Decoded::Refused(Refusal::BadSyntax);
+    }
+    let mut last: [Index; INDEXES] = [0; INDEXES];
+    let mut d = Decoded::Uses(0);
+    let mut at = 0;
+    loop {
+        match format_buffer::syntax::next(f, at) {
+            Step::Bad => {
+                return Decoded::Refused(Refusal::BadSyntax);
+            }
+            Step::At(e, stop) => {
+                d = keep_element(t, e, &mut last, kept, d);
+                if format_buffer::syntax::is_last(f, stop) {
+                    return d;
+                }
+                at = stop + 1;
+            }
+        }
+    }
+}
