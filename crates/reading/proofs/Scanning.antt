@@ -25,7 +25,8 @@ use Rattle.format_buffer.specs.declared.syntax.Step.the-variants as step
 use Rattle.format_buffer.proofs.StepLaws.{elements-parsed, elements-long, behind-last, behind-more}
 use Rattle.records.specs.Places.{Is-record}
 use Rattle.uses.specs.Meant.{indexes-kept, Remembers, uses-of}
-use Rattle.uses.proofs.Testing.{no-index, zeros}
+use Rattle.uses.proofs.Remembering.{no-index, zeros}
+use Rattle.uses.proofs.Decoding.{no-uses}
 use Rattle.filling.specs.Filling.{Continues}
 use Rattle.reading.specs.Scan.{filled-upto, answer-of, left-of, Puts, Scans}
 use Rattle.filling.specs.declared.Next.{Next}
@@ -34,7 +35,7 @@ use Rattle.reading.specs.declared.Progress.{Progress}
 use Rattle.reading.specs.declared.Progress.the-variants.{At, ItemRefused, ElementRefused}
 use Rattle.filling.proofs.Continues.{continues-start, continues-then, continues-off, continues-end}
 use Rattle.reading.proofs.Items.{filled-together}
-use Rattle.reading.proofs.Turns.{no-items, no-uses, left-bad}
+use Rattle.reading.proofs.Turns.{no-items, left-bad}
 
 -- All that a format asks for, in limited room.
 abbrev whole : List Entry → Bytes → Record → ℕ → Outcome Bytes

@@ -15,6 +15,7 @@ use Rattle.rules.specs.Services.{filled}
 use Rattle.rules.specs.declared.Refusal.{Refusal}
 use Rattle.rules.specs.Numbers.{refusal-number}
 use Rattle.format_buffer.specs.Syntax.{element-before}
+use Rattle.uses.proofs.Decoding.{first-refused, before-done}
 use Rattle.filling.specs.Filling.{Filling, Continues}
 use Rattle.reading.specs.Scan.{filled-upto, left-of}
 use Rattle.filling.specs.declared.Next.{Next}
@@ -45,28 +46,11 @@ refused-then : {A B : Type 0} (o : Outcome A) (n : ℕ) → _≡_ {A = Outcome B
 refused-then (done a) n = refl
 refused-then (refused k) n = refl
 
--- The uses of an element before some more.
+-- An element that is refused, before some more.
 module _ (es : List Entry) (ls : Indexes) (x : rules.Element) where
-  first-done : (xs : List rules.Element) (u : Meaning) → done u ≡ use-of es ls x → uses es ls (x ∷ xs) ≡ (uses es (indexes-after u ls) xs >>= λ us. done (u ∷ us))
-  unfolding uses
-  first-done xs u e = rw (← e) refl
-
-  first-refused : (xs : List rules.Element) (n : ℕ) → refused n ≡ use-of es ls x → uses es ls (x ∷ xs) ≡ refused n
-  unfolding uses
-  first-refused xs n e = rw (← e) refl
-
-  before-done : (o : Outcome (List rules.Element)) (u : Meaning) → done u ≡ use-of es ls x
-      → (element-before x o >>= uses es ls) ≡ (o >>= uses es (indexes-after u ls) >>= λ us. done (u ∷ us))
-  before-done (done xs) u e = first-done xs u e
-  before-done (refused k) u e = refl
-
   before-refused : (o : Outcome (List rules.Element)) (n : ℕ) → refused n ≡ use-of es ls x → (element-before x o >>= uses es ls) ≡ refused (unless o n)
-  before-refused (done xs) n e = first-refused xs n e
+  before-refused (done xs) n e = first-refused es ls x xs n e
   before-refused (refused k) n e = refl
-
-pub no-uses : (es : List Entry) (ls : Indexes) → uses es ls [] ≡ done []
-unfolding uses
-no-uses es ls = refl
 
 -- The items of a use before those of some more.
 module _ (ps : List Part) (r : Record) (room : ℕ) (u : Meaning) where

@@ -4,10 +4,9 @@ pub mod Fields
 pub mod Settling
 pub mod Finding
 pub mod Remembering
-pub mod Testing
 pub mod SpanFields
 pub mod Sharing
-pub mod Ahead
-pub mod Keeping
-pub mod Seen
+pub mod Numbers
+pub mod Decoding
+pub mod Meeting
 pub mod Together

@@ -1,12 +1,12 @@
--- The last index so far of each entry, after a span.
+-- The last index so far of each entry, before any element and after a span.
 use mathlib.Core.Path.{_≡_, refl, sym, ap, _∙_}
 use mathlib.Core.Bool.{Bool, true, false, true≢false, false≢true}
 use mathlib.Core.List.{List, [], _∷_, map}
-use Prim.Native.Nat.{ℕ, _<_, _≤_}
+use Prim.Native.Nat.{ℕ, zero, suc, _<_, _≤_}
 use native.Mathlib.Omega.{arith}
 use borrow.Author.Tests.{eqb-true, eqb-false}
 use lib.Dec.{eqb}
-use lib.ListN.{length, getD, set, length-set}
+use lib.ListN.{length, getD, set, replicate, length-set}
 use lib.Seq.{getD-set-same, getD-set-other}
 use Rattle.rules.specs.Lists.{Bytes, filter, look-up}
 use Rattle.rules.specs.Table.{field, Entry}
@@ -15,10 +15,28 @@ use Rattle.rules.proofs.Steps.{by-test}
 use Rattle.tables.specs.Entries.{blank}
 use Rattle.tables.specs.Groups.{field-at}
 use Rattle.tables.proofs.EntryFields.{name-at}
-use Rattle.uses.specs.Meant.{use-meant, asked-by, Good-span, Remembers, Remembered}
+use Rattle.uses.specs.Meant.{use-meant, asked-by, Good-span, Good-use, Good-span-of, Remembers, Remembered}
 use Rattle.uses.specs.declared.Span.{Span}
 use Rattle.uses.specs.declared.Use.{Use}
+use Rattle.uses.specs.declared.Use.the-variants as code
 use Rattle.uses.specs.declared.Use.the-variants.{Values}
+
+pub no-index : (n : ℕ) → last-index n [] ≡ 0
+unfolding last-index look-up
+no-index n = refl
+
+pub zeros : (k i : ℕ) → _≡_ {A = ℕ} (getD (replicate k 0) i 0) 0
+zeros zero zero = refl
+zeros zero (suc i) = refl
+zeros (suc k) zero = refl
+zeros (suc k) (suc i) = zeros k i
+
+pub span-known : (es : List Entry) (f : Bytes) (u : Use) → Good-use es f u → Good-span-of es u
+span-known es f (code.Blanks n) h = tt
+span-known es f (code.Text from upto) h = tt
+span-known es f (code.GroupCount i) h = tt
+span-known es f (code.ValueCount i k) h = tt
+span-known es f (code.Values s) h = h
 
 -- The MU fields of a span.
 abbrev marks : ℕ → List Asked → Indexes

@@ -178,6 +178,7 @@ module _ (es : List Entry) (i last : ℕ) (n : Named) (h : i < length es) (g : i
           only = λ j low high e. let z : j ≡ i = omega arith in upto-one (inside-at es i) (field-at es i .multiple) last (occurrences n) (bracket n) _ (sym p) (rw z at e);
           begins = field-periodic (getD es i blank .what) g;
           once = λ e. absurd (false≢true e);
+          unasked = λ e. absurd (false≢true e);
           one-group = λ e. absurd (false≢true e);
           outside = λ e. absurd (false≢true e);
           grouped = λ e. absurd (false≢true e);
@@ -208,6 +209,7 @@ module _ (t : Bytes) (v : Valid t) (i : ℕ) (n : Named) (h : i < length (entrie
           only = λ j low high e. upto-one (inside-at es i) false 0 (occurrences n) (bracket n) _ (sym p) (sym (group-inside t v i h g j (omega arith) high) ∙ e);
           begins = group-begins t v i h g;
           once = λ e. let one = value-one (inside-at es i) 0 (occurrences n) (bracket n) _ (sym p) in (ap (λ (x : Range). x .from) one, ap (λ (x : Range). x .upto) one);
+          unasked = λ e. (refl, refl);
           one-group = λ e k home. (group-together t v i h g k home, rw (← fs) a);
           outside = λ e out j low high. group-inside t v i h g j (omega arith) high ∙ sym (group-inside t v i h g (i + 1) (omega arith) (group-some t v i h g)) ∙ out;
           grouped = λ e inside. (i, add-one i, g, refl);
@@ -240,6 +242,7 @@ module _ (t : Bytes) (v : Valid t) (i j : ℕ) (h : i < length (entries-of t)) (
           only = λ k low high e. refl;
           begins = field-periodic (getD entries i blank .what) g;
           once = λ e. (refl, refl);
+          unasked = λ e. (refl, refl);
           one-group = λ e m home. absurd (true≢false (sym (home .inside) ∙ o));
           outside = λ e out m low high. series-outside t v i j h k o _ d m low (omega arith);
           grouped = λ e inside. absurd (true≢false (sym inside ∙ o));

@@ -18,7 +18,7 @@ use Rattle.tables.specs.Groups.{field-at}
 use Rattle.tables.proofs.EntryFields.{name-at}
 use Rattle.format_buffer.specs.Elements.{range}
 use Rattle.uses.specs.Meant.{fields-from, asked-of, use-meant, Good-span}
-use Rattle.uses.specs.Twice.{stored-fields, numbered-use, kept-use, Kept-alike}
+use Rattle.uses.specs.Twice.{stored-fields, Alike}
 use Rattle.uses.specs.declared.Span.{Span}
 use Rattle.uses.specs.declared.Use.the-variants.{Values}
 use Rattle.uses.proofs.SpanFields.{no-entry, field-entry, group-entry, asked-one, asked-stored}
@@ -28,7 +28,7 @@ unfolding as-stored
 stored-name es k = name-at es k
 
 -- One of a list meets a test: the first, or another.
-from-or : {C : Type 0} (a b : Bool) → (a || b) ≡ true → (a ≡ true → C) → (b ≡ true → C) → C
+pub from-or : {C : Type 0} (a b : Bool) → (a || b) ≡ true → (a ≡ true → C) → (b ≡ true → C) → C
 from-or true b e k l = k refl
 from-or false b e k l = l e
 
@@ -137,38 +137,30 @@ module _ (es : List Entry) (s : Span) (h : Good-span es s) where
       (λ e. ap (share fs) (asked-stored es s (s .standard) e))
       (λ e. ap (share fs) (asked-one es s (s .standard) e) ∙ rw (only e))
 
--- What a span kept and another name in common, by the entries and the two pairs of ranges.
-module _ {es : List Entry} {s : Span} (h : Good-span es s) (kept : Bytes) (at : ℕ) where
+-- What two spans name in common, by the entries and the two pairs of ranges.
+module _ {es : List Entry} {a b : Span} (h : Good-span es a) (k : Good-span es b) where
   abbrev fields-met : Bool
-  fields-met = share (stored-fields es (getD kept at 0) (getD kept (at + 1) 0)) (stored-fields es (s .first) (s .end))
+  fields-met = share (stored-fields es (a .first) (a .end)) (stored-fields es (b .first) (b .end))
 
   abbrev occurrences-met : Bool
-  occurrences-met = meet (range (getD kept (at + 2) 0) (getD kept (at + 3) 0)) (range (s .from) (s .upto))
+  occurrences-met = meet (range (a .from) (a .upto)) (range (b .from) (b .upto))
 
   abbrev values-met : Bool
-  values-met = meet (range (getD kept (at + 4) 0) (getD kept (at + 5) 0)) (range (s .«value_from») (s .«value_upto»))
+  values-met = meet (range (a .«value_from») (a .«value_upto»)) (range (b .«value_from») (b .«value_upto»))
 
-  spans-met : (f : Bytes) → name-alike (kept-use es kept at) (use-meant es f (Values s)) ≡ (fields-met && occurrences-met && values-met)
+  spans-met : (f : Bytes) → name-alike (use-meant es f (Values a)) (use-meant es f (Values b)) ≡ (fields-met && occurrences-met && values-met)
   unfolding name-alike
-  spans-met f = ap (λ b. b && occurrences-met && values-met) (right-stored es s h _)
+  spans-met f = ap (λ c. c && occurrences-met && values-met) (left-stored es a h (asked-of es b) ∙ right-stored es b k _)
 
   module _ {r : Bool} where
-    pub ranges-meet : {o v : Bool} → o ≡ occurrences-met → o ≡ true → v ≡ values-met → v ≡ true → r ≡ fields-met → Kept-alike es kept at s r
+    pub ranges-meet : {o v : Bool} → o ≡ occurrences-met → o ≡ true → v ≡ values-met → v ≡ true → r ≡ fields-met → Alike es (Values a) (Values b) r
     ranges-meet p x q y e f = e ∙ sym (spans-met f ∙ rw (sym p ∙ x, sym q ∙ y) (and-true _ ∙ and-true fields-met))
 
-    pub values-apart : r ≡ values-met → r ≡ false → Kept-alike es kept at s false
+    pub values-apart : r ≡ values-met → r ≡ false → Alike es (Values a) (Values b) false
     values-apart q y f = sym (spans-met f ∙ rw (sym q ∙ y) (and-false (fields-met && occurrences-met)))
 
-    pub occurrences-apart : r ≡ occurrences-met → r ≡ false → Kept-alike es kept at s false
+    pub occurrences-apart : r ≡ occurrences-met → r ≡ false → Alike es (Values a) (Values b) false
     occurrences-apart p x f = sym (spans-met f ∙ rw (sym p ∙ x, and-false fields-met))
-
--- The numbers that are kept of a span name what it names.
-pub numbered-alike : {es : List Entry} {s : Span} → Good-span es s → (f : Bytes) (v : rules.Use)
-    → name-alike (numbered-use es (s .first) (s .end) (s .from) (s .upto) (s .«value_from») (s .«value_upto»)) v ≡ name-alike (use-meant es f (Values s)) v
-unfolding name-alike
-numbered-alike {es} {s} h f (rules.one x) = refl
-numbered-alike {es} {s} h f (rules.values gs os vs b) =
-    ap (λ c. c && meet (range (s .from) (s .upto)) os && meet (range (s .«value_from») (s .«value_upto»)) vs) (sym (left-stored es s h gs))
 
 -- One item names nothing.
 pub one-left : (x : rules.Item) (u : rules.Use) → name-alike (rules.one x) u ≡ false

@@ -1,7 +1,7 @@
 -- The uses of a format's elements, kept one after the other as numbers.
 use mathlib.Core.Path.{_≡_}
 use mathlib.Core.Bool.{Bool, cond}
-use mathlib.Core.List.{List}
+use mathlib.Core.List.{List, [], _∷_}
 use Prim.Native.Nat.{ℕ, _+_, _*_, _≤_, _<_}
 use lib.Dec.{eqb}
 use lib.ListN.{length, getD}
@@ -10,6 +10,7 @@ use Rattle.rules.specs.Lists.{Bytes, run}
 use Rattle.rules.specs.Numbers.{refusal-number}
 use Rattle.rules.specs.Table.{Entry}
 use Rattle.rules.specs.Use as rules
+use Rattle.uses.specs.Spread.{index-bound}
 use Rattle.uses.specs.Meant.{use-meant, uses-of, Good-use}
 use Rattle.uses.specs.declared.Span.{Span}
 use Rattle.uses.specs.declared.Use.{Use}
@@ -70,6 +71,36 @@ unfoldable pub use-at : List ℕ → ℕ → Use
 use-at kept n =
     let at = numbers-kept * n in
     use-of-kind (getD kept at 0) (getD kept (at + 1) 0) (getD kept (at + 2) 0) (span-at kept at)
+
+-- The numbers of a use, which are small.
+abbrev pub span-kind : Bool → ℕ
+span-kind standard = cond standard stored-kept in-effect-kept
+
+abbrev pub flag : Bool → ℕ
+flag b = cond b 1 0
+
+abbrev pub span-numbers : Span → List ℕ
+span-numbers s =
+    span-kind (s .standard) ∷ s .first ∷ s .end ∷ s .from ∷ s .upto ∷ s .«value_from» ∷ s .«value_upto» ∷ s .format ∷ s .size ∷ flag (s .bare) ∷ []
+
+abbrev pub numbers : Use → List ℕ
+numbers (code.Blanks n) = blanks-kept ∷ n ∷ 0 ∷ []
+numbers (code.Text from upto) = text-kept ∷ from ∷ upto ∷ []
+numbers (code.GroupCount i) = group-count-kept ∷ i ∷ 0 ∷ []
+numbers (code.ValueCount i k) = value-count-kept ∷ i ∷ k ∷ []
+numbers (code.Values s) = span-numbers s
+
+abbrev pub Small-span : Span → Type 0
+Small-span s =
+    (s .first < index-bound) × (s .end < index-bound) × (s .from < index-bound) × (s .upto < index-bound) × (s .«value_from» < index-bound)
+    × (s .«value_upto» < index-bound) × (s .format < index-bound) × (s .size < index-bound)
+
+abbrev pub small : Use → Type 0
+small (code.Blanks n) = n < index-bound
+small (code.Text from upto) = (from < index-bound) × (upto < index-bound)
+small (code.GroupCount i) = i < index-bound
+small (code.ValueCount i k) = (i < index-bound) × (k < index-bound)
+small (code.Values s) = Small-span s
 
 -- The first n uses, in the words of `rules`; and what is known of each.
 unfoldable pub uses-kept : List Entry → Bytes → List ℕ → ℕ → List rules.Use

@@ -2,5 +2,5 @@ pub mod Spread
 pub mod Effect
 pub mod Meant
 pub mod Kept
-pub mod Ahead
+pub mod Decoding
 pub mod Twice

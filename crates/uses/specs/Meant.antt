@@ -7,7 +7,6 @@ use lib.ListN.{length, take, drop, getD}
 use Rattle.rules.specs.Outcome.{Outcome, done, refused, _>>=_}
 use Rattle.rules.specs.Limits.{formats, most-entries, highest-index, longest-blanks, longest-text}
 use Rattle.rules.specs.Numbers.{refusal-number}
-use Rattle.rules.specs.declared.Refusal.{Refusal}
 use Rattle.rules.specs.Lists.{Bytes, all, filter}
 use Rattle.rules.specs.Values.{allowed, converts}
 use Rattle.rules.specs.Table.{Field, Entry, group}
@@ -31,8 +30,6 @@ use Rattle.uses.specs.declared.Use.{Use}
 use Rattle.uses.specs.declared.Use.the-variants as code
 use Rattle.uses.specs.declared.Meant.{Meant}
 use Rattle.uses.specs.declared.Meant.the-variants as meant
-use Rattle.uses.specs.declared.Verdict.{Verdict}
-use Rattle.uses.specs.declared.Verdict.the-variants as verdict
 use Rattle.uses.specs.declared.spread.Ranges.{Ranges}
 
 -- The fields among the entries from one number up to another.
@@ -82,6 +79,8 @@ pub record Good-span (es : List Entry) (s : Span) : Type 0 where
   pub begins : is-periodic (getD es (s .first) blank .what) ≡ false
   -- Fields at their standard have value 1 alone.
   pub once : s .standard ≡ true → (s .«value_from» ≡ 1) × (s .«value_upto» ≡ 1)
+  -- They name no format and no length in effect.
+  pub unasked : s .standard ≡ true → (s .format ≡ 0) × (s .size ≡ 0)
   -- Where the first entry lies in a periodic group, all do, in the same, and their fields are of fixed length.
   pub one-group : s .standard ≡ true → (g : ℕ) → Home es (s .first) g → (s .end ≤ group-end es g) × (all plain (fields-from es (s .first) (s .end)) ≡ true)
   -- Where it lies outside, all do.
@@ -184,11 +183,6 @@ Good-span-of es (code.Values s) = Good-span es s
 pub record Remembered (es : List Entry) (u : Use) (before after : List ℕ) : Type 0 where
   pub same : length after ≡ length before
   pub indexes : (f : Bytes) (ls : Indexes) → Remembers es before ls → Remembers es after (rules.indexes-after (use-meant es f u) ls)
-
--- The verdict on an outcome: why it was refused, where it was.
-abbrev pub Tested : {A : Type 0} → Outcome A → Verdict → Type 0
-Tested (done a) r = r ≡ verdict.Passed
-Tested (refused n) r = (x : Refusal) × (r ≡ verdict.Refused x) × (refusal-number x ≡ n)
 
 -- What the use rules say of a format.
 unfoldable pub uses-of : List Entry → Bytes → Outcome (List rules.Use)

@@ -11,10 +11,18 @@ use format_buffer::Element;
 use format_buffer::syntax::Step;
 use rules::Refusal;
 ghost use mathlib.Core.Path.{_≡_};
-ghost use Prim.Native.Nat.{_+_, _*_, _≤_};
+ghost use Prim.Native.Nat.{_+_, _*_, _≤_, _<_};
+ghost use mathlib.Core.List.{[], _∷_};
 ghost use lib.ListN.{length};
+ghost use lib.Seq.{sets};
+ghost use Rattle.rules.specs.Limits.{longest-format};
+ghost use Rattle.rules.specs.Lists.{Bytes};
 ghost use Rattle.tables.specs.Entries.{Valid, entries-of};
-ghost use Rattle.uses.specs.Kept.{numbers-kept, element-bytes, span-at, use-at, Decodes};
+ghost use Rattle.format_buffer.specs.Elements.{sound};
+ghost use Rattle.uses.specs.Spread.{index-bound};
+ghost use Rattle.uses.specs.Meant.{indexes-kept};
+ghost use Rattle.uses.specs.Kept.{numbers-kept, element-bytes, span-at, use-at, span-kind, flag, span-numbers, numbers, Small-span, small, Decodes};
+ghost use Rattle.uses.specs.Decoding.{uses-so-far, Keeps};
 
 // How many numbers are kept of a use: what it is, and what it says.
 pub const NUMBERS: usize = 10;
@@ -39,14 +47,32 @@ pub enum Decoded {
 }
 
 // A use of a kind with two numbers.
-fn put_numbers(kept: &mut [Index], at: usize, kind: Index, a: usize, b: usize) {
+fn put_numbers(kept: &mut [Index], at: usize, kind: Index, a: usize, b: usize)
+    requires { ⌜ (at + numbers-kept ≤ length (now kept)) × (a < index-bound) × (b < index-bound) ⌝ }
+    ensures { λ _. ⌜ now (kept .exit) ≡ sets (now (kept .entry)) at (kind ∷ a ∷ b ∷ []) ⌝ }
+{
     kept[at] = kind;
     kept[at + 1] = a as Index;
     kept[at + 2] = b as Index;
 }
 
-fn put_span(kept: &mut [Index], at: usize, s: Span) {
-    kept[at] = if s.standard { STORED } else { IN_EFFECT };
+fn span_kind(standard: bool) -> Index
+    ensures { λ r. ⌜ r ≡ span-kind standard ⌝ }
+{
+    if standard { STORED } else { IN_EFFECT }
+}
+
+fn flag(b: bool) -> Index
+    ensures { λ r. ⌜ r ≡ flag b ⌝ }
+{
+    if b { 1 } else { 0 }
+}
+
+fn put_span(kept: &mut [Index], at: usize, s: Span)
+    requires { ⌜ (at + numbers-kept ≤ length (now kept)) × Small-span s ⌝ }
+    ensures { λ _. ⌜ now (kept .exit) ≡ sets (now (kept .entry)) at (span-numbers s) ⌝ }
+{
+    kept[at] = span_kind(s.standard);
     kept[at + 1] = s.first as Index;
     kept[at + 2] = s.end as Index;
     kept[at + 3] = s.from as Index;
@@ -55,11 +81,14 @@ fn put_span(kept: &mut [Index], at: usize, s: Span) {
     kept[at + 6] = s.value_upto as Index;
     kept[at + 7] = s.format as Index;
     kept[at + 8] = s.size as Index;
-    kept[at + 9] = if s.bare { 1 } else { 0 };
+    kept[at + 9] = flag(s.bare);
 }
 
 // Keeps a use as the one with the number n.
-fn put(kept: &mut [Index], n: usize, u: Use) {
+fn put(kept: &mut [Index], n: usize, u: Use)
+    requires { ⌜ (numbers-kept * n + numbers-kept ≤ length (now kept)) × small u ⌝ }
+    ensures { λ _. ⌜ now (kept .exit) ≡ sets (now (kept .entry)) (numbers-kept * n) (numbers u) ⌝ }
+{
     let at = NUMBERS * n;
     match u {
         Use::Blanks(m) => {
@@ -128,7 +157,10 @@ fn keep_element(
     last: &mut [Index; INDEXES],
     kept: &mut [Index],
     d: Decoded,
-) -> Decoded {
+) -> Decoded
+    requires { ⌜ Valid (now t) × (length (now last) ≡ indexes-kept) × (numbers-kept * uses-so-far d + numbers-kept ≤ length (now kept)) × ((f : Bytes) × sound f e × (length f ≤ longest-format)) ⌝ }
+    ensures { λ r. ⌜ Keeps (entries-of (now (t .entry))) e (now (last .entry)) (now (last .exit)) (now (kept .entry)) (now (kept .exit)) d r ⌝ }
+{
     match d {
         Decoded::Refused(x) => Decoded::Refused(x),
         Decoded::Uses(n) => match meaning::use_of(t, last, e) {

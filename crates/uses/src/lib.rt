@@ -1,13 +1,11 @@
 // The use rules: what an element means by a valid table, or why it is refused.
 mod effect;
-mod elements;
 pub mod kept;
 mod meaning;
 mod memory;
 mod spread;
 pub mod twice;
 
-pub use elements::test;
 pub use meaning::use_of;
 pub use memory::remember;
 use rules::Refusal;
@@ -51,19 +49,6 @@ pub enum Use {
 
 pub enum Meant {
     As(Use),
-    Refused(Refusal),
-}
-
-// The use of an element and the place where the next element begins, the use of the last element, or no use.
-pub enum Turn {
-    More(Use, usize),
-    Last(Use),
-    Refused,
-}
-
-// What a test of a whole format says.
-pub enum Verdict {
-    Passed,
     Refused(Refusal),
 }
 

@@ -1,26 +1,18 @@
-// Refusal 6: whether two elements of a format name an occurrence in common. Six numbers are kept of each element that names any: its
-// entries, its occurrences and its values, each from and up to. So an element is read once, and compared with all that are kept.
-use crate::INDEXES;
+// Refusal 6: whether two elements of a format name an occurrence in common, by their uses as they are kept.
 use crate::Index;
 use crate::Span;
-use crate::Turn;
 use crate::Use;
-use crate::elements;
+use crate::kept;
 ghost use mathlib.Core.Path.{_≡_};
 ghost use Prim.Native.Nat.{_+_, _*_, _≤_, max, min};
-ghost use lib.ListN.{length, getD};
-ghost use lib.Seq.{sets};
+ghost use lib.ListN.{length};
+ghost use Rattle.rules.specs.Lists.{Bytes};
 ghost use Rattle.rules.specs.Update.{meet, share};
 ghost use Rattle.tables.specs.Entries.{Valid, entries-of};
 ghost use Rattle.format_buffer.specs.Elements.{range};
-ghost use Rattle.uses.specs.Meant.{Good-span, Good-span-of};
-ghost use Rattle.uses.specs.Twice.{stored-fields, numbers-kept, Kept-ends, Kept-alike, Met, numbers, Small-span, small, Keeps-use, Named-twice};
-
-// How many numbers are kept of a span.
-const NUMBERS: usize = 6;
-
-// The longest of the formats whose spans are kept in the smaller area. An element takes a byte at least, so that there is room for all.
-const SHORT: usize = 64;
+ghost use Rattle.uses.specs.Meant.{Good-span};
+ghost use Rattle.uses.specs.Kept.{numbers-kept, use-at, Good-uses};
+ghost use Rattle.uses.specs.Twice.{stored-fields, Good-spans, Alike, Met, Named-twice};
 
 fn larger(a: usize, b: usize) -> usize
     ensures { λ r. ⌜ r ≡ max a b ⌝ }
@@ -61,46 +53,26 @@ fn share_entries(t: &[u8], first: usize, end: usize, low: usize, high: usize) ->
     false
 }
 
-// Whether the span kept at a place and another name an occurrence in common.
-fn kept_alike(t: &[u8], kept: &[Index], at: usize, s: Span) -> bool
-    requires { ⌜ Valid (now t) × (at + numbers-kept ≤ length (now kept)) × (getD (now kept) (at + 1) 0 ≤ length (entries-of (now t))) × Good-span (entries-of (now t)) s ⌝ }
-    ensures { λ r. ⌜ Kept-alike (entries-of (now (t .entry))) (now (kept .entry)) at s r ⌝ }
+// Whether two spans name an occurrence in common.
+fn spans_alike(t: &[u8], a: Span, b: Span) -> bool
+    requires { ⌜ Valid (now t) × Good-span (entries-of (now t)) a × Good-span (entries-of (now t)) b ⌝ }
+    ensures { λ r. ⌜ Alike (entries-of (now (t .entry))) (Use.Values a) (Use.Values b) r ⌝ }
 {
-    if meet(kept[at + 2] as usize, kept[at + 3] as usize, s.from, s.upto) {
-        if meet(
-            kept[at + 4] as usize,
-            kept[at + 5] as usize,
-            s.value_from,
-            s.value_upto,
-        ) {
-            return share_entries(t, kept[at] as usize, kept[at + 1] as usize, s.first, s.end);
+    if meet(a.from, a.upto, b.from, b.upto) {
+        if meet(a.value_from, a.value_upto, b.value_from, b.value_upto) {
+            return share_entries(t, a.first, a.end, b.first, b.end);
         }
     }
     false
 }
 
-// Whether one of the spans kept names an occurrence that another names.
-fn span_met(t: &[u8], kept: &[Index], count: usize, s: Span) -> bool
-    requires { ⌜ Valid (now t) × (numbers-kept * count ≤ length (now kept)) × Kept-ends (entries-of (now t)) (now kept) count × Good-span (entries-of (now t)) s ⌝ }
-    ensures { λ r. ⌜ Met (entries-of (now (t .entry))) (now (kept .entry)) count (Use.Values s) r ⌝ }
+// Whether the use with the number i names an occurrence that a span names. Counts, spaces and text name nothing.
+fn use_alike(t: &[u8], kept: &[Index], i: usize, s: Span) -> bool
+    requires { ⌜ Valid (now t) × (numbers-kept * i + numbers-kept ≤ length (now kept)) × Good-spans (entries-of (now t)) (now kept) (i + 1) × Good-span (entries-of (now t)) s ⌝ }
+    ensures { λ r. ⌜ Alike (entries-of (now (t .entry))) (use-at (now (kept .entry)) i) (Use.Values s) r ⌝ }
 {
-    let mut i = count;
-    while 0 < i {
-        i -= 1;
-        if kept_alike(t, kept, NUMBERS * i, s) {
-            return true;
-        }
-    }
-    false
-}
-
-// Whether one of the spans kept names an occurrence that a use names. Counts, spaces and text name nothing.
-fn met_before(t: &[u8], kept: &[Index], count: usize, u: Use) -> bool
-    requires { ⌜ Valid (now t) × (numbers-kept * count ≤ length (now kept)) × Kept-ends (entries-of (now t)) (now kept) count × Good-span-of (entries-of (now t)) u ⌝ }
-    ensures { λ r. ⌜ Met (entries-of (now (t .entry))) (now (kept .entry)) count u r ⌝ }
-{
-    match u {
-        Use::Values(s) => span_met(t, kept, count, s),
+    match kept::get(kept, i) {
+        Use::Values(a) => spans_alike(t, a, s),
         Use::Blanks(_) => false,
         Use::Text(_, _) => false,
         Use::GroupCount(_) => false,
@@ -108,75 +80,46 @@ fn met_before(t: &[u8], kept: &[Index], count: usize, u: Use) -> bool
     }
 }
 
-fn keep_span(kept: &mut [Index], at: usize, s: Span)
-    requires { ⌜ (at + numbers-kept ≤ length (now kept)) × Small-span s ⌝ }
-    ensures { λ _. ⌜ now (kept .exit) ≡ sets (now (kept .entry)) at (numbers s) ⌝ }
+// Whether one of the first count uses names an occurrence that a span names.
+fn met_before(t: &[u8], kept: &[Index], count: usize, s: Span) -> bool
+    requires { ⌜ Valid (now t) × (numbers-kept * count ≤ length (now kept)) × Good-spans (entries-of (now t)) (now kept) count × Good-span (entries-of (now t)) s ⌝ }
+    ensures { λ r. ⌜ Met (entries-of (now (t .entry))) (now (kept .entry)) count (Use.Values s) r ⌝ }
 {
-    kept[at] = s.first as Index;
-    kept[at + 1] = s.end as Index;
-    kept[at + 2] = s.from as Index;
-    kept[at + 3] = s.upto as Index;
-    kept[at + 4] = s.value_from as Index;
-    kept[at + 5] = s.value_upto as Index;
-}
-
-// Keeps the span of a use after the others, and says how many there are then.
-fn keep(kept: &mut [Index], count: usize, u: Use) -> usize
-    requires { ⌜ (numbers-kept * count + numbers-kept ≤ length (now kept)) × small u ⌝ }
-    ensures { λ r. ⌜ Keeps-use u count (now (kept .entry)) r (now (kept .exit)) ⌝ }
-{
-    match u {
-        Use::Values(s) => {
-            keep_span(kept, NUMBERS * count, s);
-            count + 1
-        }
-        Use::Blanks(_) => count,
-        Use::Text(_, _) => count,
-        Use::GroupCount(_) => count,
-        Use::ValueCount(_, _) => count,
-    }
-}
-
-// Whether a format names an occurrence twice, with an area to keep the spans of its elements in.
-fn named_twice_by(t: &[u8], f: &[u8], kept: &mut [Index]) -> bool
-    requires { ⌜ Valid (now t) × (numbers-kept * length (now f) ≤ length (now kept)) ⌝ }
-    ensures { λ r. ⌜ Named-twice (entries-of (now (t .entry))) (now (f .entry)) r ⌝ }
-{
-    let mut last: [Index; INDEXES] = [0; INDEXES];
-    let mut at = 0;
-    let mut count = 0;
-    loop {
-        match elements::next_use(t, f, at, &mut last) {
-            Turn::More(u, next) => {
-                if met_before(t, kept, count, u) {
-                    return true;
-                }
-                count = keep(kept, count, u);
-                at = next;
-            }
-            Turn::Last(u) => {
-                return met_before(t, kept, count, u);
-            }
-            Turn::Refused => {
-                return false;
-            }
+    let mut i = count;
+    while 0 < i {
+        i -= 1;
+        if use_alike(t, kept, i, s) {
+            return true;
         }
     }
+    false
 }
 
-// Whether a format names an occurrence twice. One that is too long has no uses.
-pub fn named_twice(t: &[u8], f: &[u8]) -> bool
-    requires { ⌜ Valid (now t) ⌝ }
-    ensures { λ r. ⌜ Named-twice (entries-of (now (t .entry))) (now (f .entry)) r ⌝ }
+// Whether the use with the number n names an occurrence that one before it names.
+fn named_before(t: &[u8], kept: &[Index], n: usize) -> bool
+    requires { ⌜ Valid (now t) × (numbers-kept * n + numbers-kept ≤ length (now kept)) × Good-spans (entries-of (now t)) (now kept) (n + 1) ⌝ }
+    ensures { λ r. ⌜ Met (entries-of (now (t .entry))) (now (kept .entry)) n (use-at (now (kept .entry)) n) r ⌝ }
 {
-    if f.len() <= SHORT {
-        let mut kept: [Index; NUMBERS * SHORT] = [0; NUMBERS * SHORT];
-        return named_twice_by(t, f, &mut kept);
+    match kept::get(kept, n) {
+        Use::Values(s) => met_before(t, kept, n, s),
+        Use::Blanks(_) => false,
+        Use::Text(_, _) => false,
+        Use::GroupCount(_) => false,
+        Use::ValueCount(_, _) => false,
     }
-    if f.len() <= rules::LONGEST_FORMAT {
-        let mut kept: [Index; NUMBERS * rules::LONGEST_FORMAT] = [0; NUMBERS
-            * rules::LONGEST_FORMAT];
-        return named_twice_by(t, f, &mut kept);
+}
+
+// Whether two of the first count uses name an occurrence in common.
+pub fn named_twice(t: &[u8], kept: &[Index], count: usize) -> bool
+    requires { ⌜ Valid (now t) × (numbers-kept * count ≤ length (now kept)) × ((f : Bytes) × Good-uses (entries-of (now t)) f (now kept) count) ⌝ }
+    ensures { λ r. ⌜ Named-twice (entries-of (now (t .entry))) (now (kept .entry)) count r ⌝ }
+{
+    let mut n = 0;
+    while n < count {
+        if named_before(t, kept, n) {
+            return true;
+        }
+        n += 1;
     }
     false
 }

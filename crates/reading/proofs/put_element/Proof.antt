@@ -3,8 +3,8 @@ use mathlib.Core.Path.{refl, sym, _∙_}
 use Rattle.tables.specs.Entries.{entries-of}
 use Rattle.uses.specs.Meant.{Means}
 use Rattle.uses.specs.declared.Meant.the-variants.{As}
-use Rattle.uses.proofs.Testing.{span-known}
-use Rattle.uses.proofs.Ahead.{means-as}
+use Rattle.uses.proofs.Remembering.{span-known}
+use Rattle.uses.proofs.Decoding.{means-as}
 use Rattle.reading.proofs.Putting.{at-fits, not-refused, puts-as, puts-nothing, puts-refused, puts-behind, puts-items}
 use borrow.Author.Needs.{needs}
 use Rattle.reading.proofs.put_element.Statement.{statement}

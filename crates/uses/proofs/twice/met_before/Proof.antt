@@ -1,59 +1,68 @@
--- `uses::twice::met_before` meets its contract: a span is compared, and one item names nothing.
-use mathlib.Core.Path.{sym, subst}
+-- `uses::twice::met_before` meets its contract: the uses that are left answer as all do.
+use mathlib.Core.Path.{_≡_, refl, _∙_}
+use Prim.Native.Nat.{_≤_, _-_}
+use native.Mathlib.Omega.{arith}
+use Rattle.rules.specs.Lists.{Bytes}
 use Rattle.tables.specs.Entries.{entries-of}
-use Rattle.uses.specs.Meant.{Good-span-of}
-use Rattle.uses.proofs.Keeping.{met-one}
+use Rattle.uses.specs.Meant.{use-meant}
+use Rattle.uses.specs.Kept.{uses-kept}
+use Rattle.uses.specs.Twice.{met-by}
+use Rattle.uses.specs.declared.Use.the-variants.{Values}
+use Rattle.uses.proofs.Meeting.{met-here, met-elsewhere, met-nowhere}
 use borrow.Author.Needs.{needs}
 use Rattle.uses.proofs.twice.met_before.Statement.{statement}
 use Rattle.uses.proofs.twice.met_before.Tie as tie
 
-enum-known-u : tie.Need-enum-known-u
-enum-known-u c = search needs
+abbrev Inv-loop : tie.InvT-loop
+Inv-loop t kept count s i₀ i =
+    (i ≤ count)
+    × ((f : Bytes) → met-by (uses-kept (entries-of t) f kept i) (use-meant (entries-of t) f (Values s)) ≡ met-by (uses-kept (entries-of t) f kept count) (use-meant (entries-of t) f (Values s)))
 
-span-met-requires : tie.Need-span-met-requires
-span-met-requires c κs =
-    let s = c .before .before .before .before .before in
-    (s .pre .0, s .pre .1, s .pre .2, subst (Good-span-of (entries-of (s .args .t .now))) (c .before .u .given .1) (s .pre .3))
+abbrev μ-loop : tie.MeasureT-loop
+μ-loop t kept count s i₀ i = i
 
-enum-told : tie.Need-enum-told
-enum-told c = search needs
+abbrev start : tie.At-loop Inv-loop μ-loop → tie.Start Inv-loop μ-loop
+start c = c .before .before .before
 
-enum-told-2 : tie.Need-enum-told-2
-enum-told-2 c = search needs
+loop-holds : tie.Need-loop-holds Inv-loop μ-loop
+loop-holds c = (omega arith, λ f. refl)
 
-enum-told-3 : tie.Need-enum-told-3
-enum-told-3 c = search needs
+sub-i : tie.Need-sub-i Inv-loop μ-loop
+sub-i c = search needs
 
-enum-told-4 : tie.Need-enum-told-4
-enum-told-4 c = search needs
+use-alike-requires : tie.Need-use-alike-requires Inv-loop μ-loop
+use-alike-requires c κs =
+    let s = c .before .before .before .before in
+    let l = c .before .loop in
+    let h = c .loop-test .taken in
+    (s .pre .0, omega (arith, s .pre .1, l .inv .0), λ i k. s .pre .2 i (omega (arith, l .inv .0)), s .pre .3)
 
-returns : tie.Need-returns
-returns c = λ f. rw (c .before .before .u .given .1) (c .span-met .ensures f)
+returns : tie.Need-returns Inv-loop μ-loop
+returns c =
+    let l = c .before .before .before .loop in
+    λ f. met-here _ _ (Values (start (c .before .before .before) .args .s)) _ f (c .before .before .loop-test .taken) (c .before .use-alike .ensures) (c .if1 .taken) ∙ l .inv .1 f
 
-returns-2 : tie.Need-returns-2
-returns-2 c = λ f. rw (c .enum-told .given .1) (sym (met-one _ _ _ _))
+loop-less : tie.Need-loop-less Inv-loop μ-loop
+loop-less c = search needs
 
-returns-3 : tie.Need-returns-3
-returns-3 c = λ f. rw (c .enum-told2 .given .1) (sym (met-one _ _ _ _))
+loop-again : tie.Need-loop-again Inv-loop μ-loop
+loop-again c =
+    let l = c .before .before .before .loop in
+    (omega (arith, l .inv .0), λ f. met-elsewhere _ _ (Values (start (c .before .before .before) .args .s)) _ f (c .before .before .loop-test .taken) (c .before .use-alike .ensures) (c .if1 .left) ∙ l .inv .1 f)
 
-returns-4 : tie.Need-returns-4
-returns-4 c = λ f. rw (c .enum-told3 .given .1) (sym (met-one _ _ _ _))
-
-returns-5 : tie.Need-returns-5
-returns-5 c = λ f. rw (c .enum-told4 .given .1) (sym (met-one _ _ _ _))
+returns-2 : tie.Need-returns-2 Inv-loop μ-loop
+returns-2 c = λ f. met-nowhere _ _ (Values (start (c .before) .args .s)) _ f (c .loop-test .left) ∙ c .before .loop .inv .1 f
 
 pub met-before-spec : {M : Type 1} → statement M
 met-before-spec =
     tie.close
     (tie.spec
-    enum-known-u
-    span-met-requires
-    enum-told
-    enum-told-2
-    enum-told-3
-    enum-told-4
+    Inv-loop
+    μ-loop
+    loop-holds
+    sub-i
+    use-alike-requires
     returns
-    returns-2
-    returns-3
-    returns-4
-    returns-5)
+    loop-less
+    loop-again
+    returns-2)

@@ -1,38 +1,68 @@
--- `uses::twice::named_twice` meets its contract: there is room for the spans of a format that is not too long.
-use Rattle.uses.proofs.Seen.{too-long}
+-- `uses::twice::named_twice` meets its contract: no use so far names what one before it names.
+use Prim.Native.Nat.{_≤_, _-_}
+use native.Mathlib.Omega.{arith}
+use Rattle.tables.specs.Entries.{entries-of}
+use Rattle.uses.proofs.Meeting.{Once, once-start, once-more, once-end, twice-found, spans-known}
 use borrow.Author.Needs.{needs}
 use Rattle.uses.proofs.twice.named_twice.Statement.{statement}
 use Rattle.uses.proofs.twice.named_twice.Tie as tie
 
-slice-aggregate-named-twice-by : tie.Need-slice-aggregate-named-twice-by
-slice-aggregate-named-twice-by c = search needs
+abbrev Inv-loop : tie.InvT-loop
+Inv-loop t kept count n₀ n = (n ≤ count) × Once (entries-of t) kept n
 
-named-twice-by-requires : tie.Need-named-twice-by-requires
-named-twice-by-requires c κs = search needs
+abbrev μ-loop : tie.MeasureT-loop
+μ-loop t kept count n₀ n = count - n
 
-returns : tie.Need-returns
-returns c = search needs
+abbrev start : tie.At-loop Inv-loop μ-loop → tie.Start Inv-loop μ-loop
+start c = c .before .before .before
 
-slice-aggregate-named-twice-by-2 : tie.Need-slice-aggregate-named-twice-by-2
-slice-aggregate-named-twice-by-2 c = search needs
+loop-holds : tie.Need-loop-holds Inv-loop μ-loop
+loop-holds c = (omega arith, once-start _ _)
 
-named-twice-by-requires-2 : tie.Need-named-twice-by-requires-2
-named-twice-by-requires-2 c κs = search needs
+named-before-requires : tie.Need-named-before-requires Inv-loop μ-loop
+named-before-requires c κs =
+    let s = start (c .before) in
+    let l = c .before .loop in
+    let h = c .loop-test .taken in (
+      s .pre .0,
+      omega (arith, s .pre .1, l .inv .0),
+      λ i k. spans-known (entries-of (s .args .t .now)) (s .args .kept .now) (s .pre .2 .0) (s .args .count) (s .pre .2 .1) i (omega arith),
+    )
 
-returns-2 : tie.Need-returns-2
-returns-2 c = search needs
+returns : tie.Need-returns Inv-loop μ-loop
+returns c =
+    let l = c .before .before .before in
+    let s = start l .args in
+    twice-found (entries-of (s .t .now)) (s .kept .now) _ _ (c .before .named-before .ensures) (c .if1 .taken) (c .before .before .loop-test .taken)
 
-returns-3 : tie.Need-returns-3
-returns-3 c = too-long _ _ (c .if2 .left)
+add-n : tie.Need-add-n Inv-loop μ-loop
+add-n c = search needs
+
+loop-less : tie.Need-loop-less Inv-loop μ-loop
+loop-less c = search needs
+
+loop-again : tie.Need-loop-again Inv-loop μ-loop
+loop-again c =
+    let l = c .before .before .before in
+    let s = start l .args in
+    (omega (arith, c .before .before .loop-test .taken), once-more (entries-of (s .t .now)) (s .kept .now) _ (s .count) (c .before .named-before .ensures) (c .if1 .left) (l .loop .inv .1))
+
+returns-2 : tie.Need-returns-2 Inv-loop μ-loop
+returns-2 c =
+    let l = c .before in
+    let s = start l .args in
+    once-end (entries-of (s .t .now)) (s .kept .now) _ _ (c .loop-test .left) (l .loop .inv .0) (l .loop .inv .1)
 
 pub named-twice-spec : {M : Type 1} → statement M
 named-twice-spec =
     tie.close
     (tie.spec
-    slice-aggregate-named-twice-by
-    named-twice-by-requires
+    Inv-loop
+    μ-loop
+    loop-holds
+    named-before-requires
     returns
-    slice-aggregate-named-twice-by-2
-    named-twice-by-requires-2
-    returns-2
-    returns-3)
+    add-n
+    loop-less
+    loop-again
+    returns-2)

@@ -1,0 +1,192 @@
+-- A format decoded one element at a time: what is left of it, from where it stands, says what the whole format does.
+use mathlib.Core.Path.{_≡_, refl, sym, ap, subst, _∙_}
+use mathlib.Core.Bool.{true, false}
+use mathlib.Core.List.{List, [], _∷_, _++_}
+use Prim.Native.Nat.{ℕ, _+_, _*_, _≤_, _<_}
+use native.Mathlib.Omega.{arith}
+use lib.Dec.{eqb}
+use lib.ListN.{length, getD, drop, replicate}
+use lib.Seq.{sets, length-sets}
+use Rattle.rules.specs.Outcome.{Outcome, done, refused, _>>=_}
+use Rattle.rules.specs.Limits.{longest-format}
+use Rattle.rules.specs.Characters.{period}
+use Rattle.rules.specs.Lists.{Bytes, run}
+use Rattle.rules.specs.Numbers.{refusal-number}
+use Rattle.rules.specs.Table.{Entry}
+use Rattle.rules.specs.Format as rules
+use Rattle.rules.specs.Use.{Use as Meaning, Indexes, indexes-after, use-of, uses}
+use Rattle.rules.specs.declared.Refusal.{Refusal}
+use Rattle.rules.specs.declared.Refusal.the-variants.{BadSyntax}
+use Rattle.format_buffer.specs.Elements.{element-of}
+use Rattle.format_buffer.specs.Syntax.{parsed, elements-behind, element-before, Stepped}
+use Rattle.format_buffer.specs.declared.Element.{Element}
+use Rattle.format_buffer.specs.declared.syntax.Step.{Step}
+use Rattle.format_buffer.specs.declared.syntax.Step.the-variants as step
+use Rattle.format_buffer.proofs.StepLaws.{elements-parsed, elements-long, behind-last, behind-more}
+use Rattle.uses.specs.Meant.{use-meant, Means, indexes-kept, Remembers, Remembered, uses-of}
+use Rattle.uses.specs.Kept.{numbers, uses-kept, Good-uses, Decodes}
+use Rattle.uses.specs.Decoding.{uses-so-far, left-of, Keeps}
+use Rattle.uses.specs.declared.Use.{Use}
+use Rattle.uses.specs.declared.Meant.{Meant}
+use Rattle.uses.specs.declared.Meant.the-variants as meant
+use Rattle.uses.specs.declared.kept.Decoded.{Decoded}
+use Rattle.uses.specs.declared.kept.Decoded.the-variants.{Uses, Refused}
+use Rattle.uses.proofs.Remembering.{no-index, zeros}
+use Rattle.uses.proofs.Numbers.{uses-more, good-more}
+
+-- An answer that is matched is one of its variants.
+pub step-as : {f : Bytes} {at : ℕ} {o : Outcome (List rules.Element)} {r s : Step} → r ≡ s → Stepped f at o r → Stepped f at o s
+step-as {f} {at} {o} e h = subst (Stepped f at o) e h
+
+pub means-as : {es : List Entry} {last : List ℕ} {x : Element} {r s : Meant} → r ≡ s → Means es last x r → Means es last x s
+means-as {es} {last} {x} e h = subst (Means es last x) e h
+
+-- Lists joined: after one more, and with none.
+snoc-joined : {A : Type 0} (ks : List A) (u : A) (us : List A) → (ks ++ (u ∷ [])) ++ us ≡ ks ++ (u ∷ us)
+snoc-joined [] u us = refl
+snoc-joined (k ∷ ks) u us = ap (λ ys. k ∷ ys) (snoc-joined ks u us)
+
+none-joined : {A : Type 0} (ks : List A) → ks ++ [] ≡ ks
+none-joined [] = refl
+none-joined (k ∷ ks) = ap (λ ys. k ∷ ys) (none-joined ks)
+
+joined : (u : Meaning) (ks : List Meaning) {ks′ : List Meaning} → ks′ ≡ ks ++ (u ∷ []) → (o : Outcome (List Meaning))
+    → (o >>= (λ us. done (u ∷ us)) >>= λ us. done (ks ++ us)) ≡ (o >>= λ us. done (ks′ ++ us))
+joined u ks e (done us) = ap done (sym (ap (λ ys. ys ++ us) e ∙ snoc-joined ks u us))
+joined u ks e (refused k) = refl
+
+-- The uses of an element before some more.
+module _ (es : List Entry) (ls : Indexes) (x : rules.Element) where
+  first-done : (xs : List rules.Element) (u : Meaning) → done u ≡ use-of es ls x
+      → uses es ls (x ∷ xs) ≡ (uses es (indexes-after u ls) xs >>= λ us. done (u ∷ us))
+  unfolding uses
+  first-done xs u e = rw (← e) refl
+
+  pub first-refused : (xs : List rules.Element) (n : ℕ) → refused n ≡ use-of es ls x → uses es ls (x ∷ xs) ≡ refused n
+  unfolding uses
+  first-refused xs n e = rw (← e) refl
+
+  pub before-done : (o : Outcome (List rules.Element)) (u : Meaning) → done u ≡ use-of es ls x
+      → (element-before x o >>= uses es ls) ≡ (o >>= uses es (indexes-after u ls) >>= λ us. done (u ∷ us))
+  before-done (done xs) u e = first-done xs u e
+  before-done (refused k) u e = refl
+
+pub no-uses : (es : List Entry) (ls : Indexes) → uses es ls [] ≡ done []
+unfolding uses
+no-uses es ls = refl
+
+-- What is left, with the element x first and without it.
+module _ (es : List Entry) (f : Bytes) (ls : Indexes) (x : rules.Element) (kept : List ℕ) where
+  left-passed : (n : Refusal) (xs : Outcome (List rules.Element)) → left-of es f ls (element-before x xs) kept (Refused n) ≡ left-of es f ls xs kept (Refused n)
+  unfolding left-of
+  left-passed n (done xs) = refl
+  left-passed n (refused k) = refl
+
+  left-refused : (n : ℕ) (y : Refusal) → refused (refusal-number y) ≡ use-of es ls x → (xs : Outcome (List rules.Element))
+      → left-of es f ls (element-before x xs) kept (Uses n) ≡ left-of es f ls xs kept (Refused y)
+  unfolding left-of
+  left-refused n y e (done xs) = ap (λ o. o >>= λ us. done (uses-kept es f kept n ++ us)) (first-refused es ls x xs (refusal-number y) e)
+  left-refused n y e (refused k) = refl
+
+  left-used : (n m : ℕ) (u : Meaning) (kept′ : List ℕ) → done u ≡ use-of es ls x → uses-kept es f kept′ m ≡ uses-kept es f kept n ++ (u ∷ [])
+      → (xs : Outcome (List rules.Element)) → left-of es f ls (element-before x xs) kept (Uses n) ≡ left-of es f (indexes-after u ls) xs kept′ (Uses m)
+  unfolding left-of
+  left-used n m u kept′ e k xs =
+      ap (λ o. o >>= λ us. done (uses-kept es f kept n ++ us)) (before-done es ls x xs u e) ∙ joined u (uses-kept es f kept n) k (xs >>= uses es (indexes-after u ls))
+
+-- One element more, by where the decoding stands and what the element means.
+module _ {es : List Entry} {e : Element} {last : List ℕ} where
+  pub keeps-as : {last′ kept kept′ : List ℕ} {d d₁ d′ : Decoded} → d ≡ d₁ → Keeps es e last last′ kept kept′ d₁ d′ → Keeps es e last last′ kept kept′ d d′
+  keeps-as {last′} {kept} {kept′} {d′ = d′} q k = subst (λ (d : Decoded). Keeps es e last last′ kept kept′ d d′) (sym q) k
+
+  pub keeps-passed : (kept : List ℕ) (x : Refusal) → Keeps es e last last kept kept (Refused x) (Refused x)
+  keeps-passed kept x = record {
+    same = refl;
+    room = refl;
+    more = omega arith;
+    good = λ f s g. g;
+    left = λ f ls q. (ls, q, left-passed es f ls (element-of f e) kept x);
+  }
+
+  pub keeps-refused : (kept : List ℕ) (n : ℕ) (x : Refusal) → Means es last e (meant.Refused x) → Keeps es e last last kept kept (Uses n) (Refused x)
+  keeps-refused kept n x m = record {
+    same = refl;
+    room = refl;
+    more = omega arith;
+    good = λ f s g i h. absurd (omega arith);
+    left = λ f ls q. (ls, q, left-refused es f ls (element-of f e) kept n x (m .answer f ls q));
+  }
+
+  pub keeps-use : (kept : List ℕ) (n : ℕ) (u : Use) {last′ kept′ : List ℕ} → 10 * n + 10 ≤ length kept → Means es last e (meant.As u) → Remembered es u last last′
+      → kept′ ≡ sets kept (10 * n) (numbers u) → Keeps es e last last′ kept kept′ (Uses n) (Uses (n + 1))
+  keeps-use kept n u {last′} h m k q = rw q (record {
+    same = k .same;
+    room = length-sets kept (10 * n) (numbers u);
+    more = omega arith;
+    good = λ f s g. good-more es f kept n u h (m .held f s) g;
+    left = λ f ls r. (
+      indexes-after (use-meant es f u) ls,
+      k .indexes f ls r,
+      left-used es f ls (element-of f e) kept n (n + 1) (use-meant es f u) _ (m .answer f ls r) (uses-more es f kept n u h),
+    );
+  })
+
+-- The decoding stands somewhere, with some elements left.
+pub record Decoding (es : List Entry) (f : Bytes) (last : List ℕ) (xs : Outcome (List rules.Element)) (kept : List ℕ) (d : Decoded) : Type 0 where
+  pub indexes : Indexes
+  pub remembers : Remembers es last indexes
+  pub good : Good-uses es f kept (uses-so-far d)
+  pub left : uses-of es f ≡ left-of es f indexes xs kept d
+
+pub decode-long : (es : List Entry) (f : Bytes) (kept : List ℕ) → longest-format < length f → Decodes es f kept (Refused BadSyntax)
+unfolding uses-of
+decode-long es f kept h = ap (λ o. o >>= uses es []) (elements-long f h)
+
+after-none : (o : Outcome (List Meaning)) → o ≡ (o >>= λ us. done ([] ++ us))
+after-none (done us) = refl
+after-none (refused k) = refl
+
+module _ (es : List Entry) (f : Bytes) (kept : List ℕ) where
+  pub decode-start : length f ≤ longest-format → Decoding es f (replicate indexes-kept 0) (parsed (drop 0 f)) kept (Uses 0)
+  unfolding uses-of left-of uses-kept run
+  decode-start h = record {
+    indexes = [];
+    remembers = λ i k. zeros indexes-kept i ∙ sym (no-index (getD es i _ .name));
+    good = λ i k. absurd (omega arith);
+    left = ap (λ o. o >>= uses es []) (elements-parsed f h) ∙ after-none (parsed f >>= uses es []);
+  }
+
+module _ {es : List Entry} {f : Bytes} where
+  module _ {last : List ℕ} {kept : List ℕ} where
+    pub decode-bad : (d : Decoded) → Decoding es f last (refused 3) kept d → Decodes es f kept (Refused BadSyntax)
+    unfolding left-of
+    decode-bad (Uses n) w = w .left
+    decode-bad (Refused x) w = w .left
+
+    -- Nothing is left.
+    decode-end : (d : Decoded) → 10 * uses-so-far d ≤ length kept → Decoding es f last (done []) kept d → Decodes es f kept d
+    unfolding left-of
+    decode-end (Uses n) h w =
+        (w .left ∙ ap (λ o. o >>= λ us. done (uses-kept es f kept n ++ us)) (no-uses es (w .indexes)) ∙ ap done (none-joined (uses-kept es f kept n)), w .good, h)
+    decode-end (Refused x) h w = w .left
+
+    -- The same elements in other words.
+    pub decode-as : {d : Decoded} {xs ys : Outcome (List rules.Element)} → xs ≡ ys → Decoding es f last xs kept d → Decoding es f last ys kept d
+    decode-as {d} e w = subst (λ (o : Outcome (List rules.Element)). Decoding es f last o kept d) e w
+
+  -- The element at a place is decoded.
+  module _ {at : ℕ} {e : Element} {stop : ℕ} (t : Stepped f at (parsed (drop at f)) (step.At e stop)) {last last′ kept kept′ : List ℕ} {d d′ : Decoded}
+      (w : Decoding es f last (parsed (drop at f)) kept d) (k : Keeps es e last last′ kept kept′ d d′) where
+    behind-element : Decoding es f last′ (elements-behind f stop) kept′ d′
+    behind-element = let v = decode-as (t .answer) w in let n = k .left f (v .indexes) (v .remembers) in record {
+      indexes = n .0;
+      remembers = n .1;
+      good = k .good f (t .place .2) (v .good);
+      left = v .left ∙ n .2 (elements-behind f stop);
+    }
+
+    pub decode-last : eqb (getD f stop 0) period ≡ true → 10 * uses-so-far d′ ≤ length kept′ → Decodes es f kept′ d′
+    decode-last q h = decode-end d′ h (decode-as (behind-last f stop q) behind-element)
+
+    pub decode-more : eqb (getD f stop 0) period ≡ false → Decoding es f last′ (parsed (drop (stop + 1) f)) kept′ d′
+    decode-more q = decode-as (behind-more f stop q) behind-element
