@@ -2,7 +2,7 @@
 -- their order, and the highest occurrence kept of an entry is that of its notes.
 use mathlib.Core.Path.{_≡_, refl, sym, ap, subst, _∙_}
 use mathlib.Core.Bool.{Bool, true, false}
-use mathlib.Core.List.{List, [], _∷_, map}
+use mathlib.Core.List.{List, _∷_, map}
 use Prim.Native.Nat.{ℕ, zero, suc, _+_, _-_, _<_, _≤_, max}
 use native.Mathlib.Omega.{arith}
 use native.Mathlib.Numerals.{add-one}
@@ -15,7 +15,7 @@ use Rattle.rules.specs.Update.{Assignment}
 use Rattle.rules.proofs.Steps.{by-test}
 use Rattle.rules.proofs.Bools.{and-both}
 use borrow.Author.Tests.{eqb-true, eqb-false}
-use Rattle.assignments.specs.Notes.{chains, note-place, highest-from, noted, Listed, Indexed, Unindexed, Can-link, linked, in-cell, chain-of, chained, next-noted, entry-noted, occurrence-noted}
+use Rattle.assignments.specs.Notes.{chains, highest-from, noted, Listed, Indexed, Unindexed, Can-link, linked, in-cell, chain-of, chained, next-noted, entry-noted, occurrence-noted}
 use Rattle.assignments.proofs.Runs.{run-agree}
 use Rattle.assignments.proofs.Filters.{filter-none, filter-in, filter-out, filter-alike, map-alike, count-from, maximum-none, maximum-more}
 use Rattle.assignments.proofs.Listing.{Same-note, noted-again, good-again}

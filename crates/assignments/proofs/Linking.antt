@@ -1,28 +1,16 @@
--- Notes put before their chains, from the last to the first: of the notes that were put, the chain of a cell has those of that cell in their
--- order, and the highest occurrence of an entry is that of its notes.
-use mathlib.Core.Path.{_≡_, refl, sym, ap, subst, _∙_}
-use mathlib.Core.Bool.{Bool, true, false}
-use mathlib.Core.List.{List, [], _∷_, map}
-use Prim.Native.Nat.{ℕ, zero, suc, _+_, _-_, _*_, _<_, _≤_, max}
+-- One note put before its chain: which numbers of the list it changes, and to what.
+use mathlib.Core.Path.{_≡_, refl, sym, ap, _∙_}
+use mathlib.Core.List.{List}
+use Prim.Native.Nat.{ℕ, _+_, _-_, _<_, _≤_, max}
 use native.Mathlib.Omega.{arith}
-use lib.Dec.{eqb}
 use lib.ListN.{length, getD, set, length-set}
 use lib.Seq.{getD-set-other, set-getD}
-use Rattle.rules.specs.Limits.{most-entries, highest-index, longest-new-record}
-use Rattle.rules.specs.Lists.{Bytes, filter, maximum, run}
-use Rattle.rules.specs.Table.{Entry}
-use Rattle.rules.specs.Update.{Assignment}
-use Rattle.rules.proofs.Steps.{by-test}
-use Rattle.rules.proofs.Bools.{and-both}
-use borrow.Author.Tests.{eqb-true, eqb-false}
-use Rattle.assignments.specs.Notes.{chains, note-place, highest-from, notes-from, noted, Listed, Indexed, Unindexed, Can-link, linked, in-cell, chain-of, chained, next-noted, entry-noted, occurrence-noted}
+use Rattle.rules.specs.Limits.{most-entries}
+use Rattle.assignments.specs.Notes.{chains, note-place, highest-from, Can-link, linked, chain-of, next-noted, entry-noted, occurrence-noted}
 use Rattle.assignments.proofs.Setting.{three-elsewhere, three-first, three-second, three-third}
-use Rattle.assignments.proofs.Runs.{run-agree}
-use Rattle.assignments.proofs.Filters.{filter-none, filter-in, filter-out, filter-agree, count-from, maximum-none, maximum-more}
-use Rattle.assignments.proofs.Listing.{Same-note, same-note, noted-again, good-again}
+use Rattle.assignments.proofs.Listing.{Same-note, same-note}
 use Rattle.assignments.proofs.Searching.{chain-head}
 
--- One note put before its chain.
 module _ (list : List ℕ) (m : ℕ) (c : Can-link list m) where
   unfoldable pub own-chain : ℕ
   own-chain = chain-of (entry-noted list m) (occurrence-noted list m)
