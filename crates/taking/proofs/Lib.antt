@@ -4,3 +4,4 @@ pub mod Entries
 pub mod Passing
 pub mod Staging
 pub mod Finding
+pub mod Kept

@@ -13,7 +13,9 @@ ghost use Rattle.rules.proofs.Ranges.{from-to, item-at};
 ghost use Rattle.values.specs.Fits.{Convertible};
 ghost use Rattle.tables.specs.Entries.{Valid, entries-of, blank, is-group};
 ghost use Rattle.tables.specs.Groups.{field-at};
+ghost use Rattle.uses.specs.Kept.{numbers-kept, uses-kept, Good-uses};
 ghost use Rattle.uses.specs.Meant.{Good-span, Good-use, asked-of, use-meant};
+ghost use Rattle.assignments.specs.Notes.{Unindexed};
 ghost use Rattle.taking.specs.Taking.{Roomy, Holds, Takes, Ready, asked-given, Gives, Stages, Gave, Passed, asked-as, items-between, tested-to};
 ghost use Rattle.taking.specs.declared.Taken.the-variants.{At};
 use assignments::Note;
@@ -312,4 +314,37 @@ fn take_use(t: &[u8], buffer: &[u8], u: Use, list: &mut [u16], stage: &mut [u8],
         Use::ValueCount(_, _) => pass(buffer, 1, s),
         Use::Values(span) => take_occurrences(t, buffer, span, list, stage, s),
     }
+}
+
+// The items of the first `count` uses that are kept.
+pub fn take(
+    t: &[u8],
+    buffer: &[u8],
+    kept: &[uses::Index],
+    count: usize,
+    list: &mut [u16],
+    stage: &mut [u8],
+) -> Taken
+    requires { ⌜ Valid (now t) × (numbers-kept * count ≤ length (now kept)) × ((f : Bytes) × Good-uses (entries-of (now t)) f (now kept) count) × Roomy (now buffer) (now list) (now stage) × Unindexed (now list) ⌝ }
+    ensures { λ r. ⌜ ((f : Bytes) → Good-uses (entries-of (now (t .entry))) f (now (kept .entry)) count → Gave (entries-of (now (t .entry))) (now (buffer .entry)) (uses-kept (entries-of (now (t .entry))) f (now (kept .entry)) count) (now (list .exit)) (now (stage .exit)) r) ⌝ }
+{
+    let mut state = Taking {
+        at: 0,
+        staged: 0,
+        count: 0,
+        full: false,
+    };
+    let mut n = 0;
+    while n < count {
+        match take_use(t, buffer, uses::kept::get(kept, n), list, stage, state) {
+            Taken::Refused(x) => {
+                return Taken::Refused(x);
+            }
+            Taken::At(next) => {
+                state = next;
+            }
+        }
+        n += 1;
+    }
+    Taken::At(state)
 }
