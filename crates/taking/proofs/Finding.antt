@@ -28,7 +28,7 @@ use Rattle.values.specs.declared.FirstValue.the-variants as first
 use Rattle.values.proofs.Cuts.{first-content, found-content}
 use Rattle.values.proofs.Converted.{bad-value, content-allowed}
 use Rattle.taking.specs.Taking.{Gives, asked-given, Moved, Takes, Stages, Staged}
-use Rattle.taking.specs.declared.Given.{Given}
+use Rattle.taking.specs.declared.spans.Given.{Given}
 use Rattle.taking.specs.declared.Taking.{Taking}
 use Rattle.taking.specs.declared.Taken.{Taken}
 use Rattle.taking.specs.declared.Taken.the-variants.{At, Refused}

@@ -1,4 +1,4 @@
--- `taking::take_occurrences` meets its contract: the occurrences that are left give what all of them give from the start.
+-- `taking::spans::take_occurrences` meets its contract: the occurrences that are left give what all of them give from the start.
 use mathlib.Core.Path.{_≡_}
 use mathlib.Core.List.{List, _++_}
 use Prim.Native.Nat.{ℕ, suc, _+_, _-_, _≤_}
@@ -12,8 +12,8 @@ use Rattle.uses.specs.declared.Span.{Span}
 use Rattle.uses.proofs.Spreading.{ordered-within}
 use Rattle.taking.proofs.Turns.{Taken-on, turn-start, turn-ready, turn-on, turn-off, turn-end}
 use borrow.Author.Needs.{needs}
-use Rattle.taking.proofs.take_occurrences.Statement.{statement}
-use Rattle.taking.proofs.take_occurrences.Tie as tie
+use Rattle.taking.proofs.spans.take_occurrences.Statement.{statement}
+use Rattle.taking.proofs.spans.take_occurrences.Tie as tie
 
 -- The items of a span from occurrence o on.
 abbrev left : List Entry → Span → ℕ → List Item

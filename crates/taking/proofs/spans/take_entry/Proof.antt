@@ -1,4 +1,4 @@
--- `taking::take_entry` meets its contract: a group adds no items, and those of a field are what is asked of it.
+-- `taking::spans::take_entry` meets its contract: a group adds no items, and those of a field are what is asked of it.
 use mathlib.Core.Path.{sym, _∙_}
 use Prim.Native.Nat.{_<_}
 use native.Mathlib.Omega.{arith}
@@ -8,8 +8,8 @@ use Rattle.uses.proofs.Spreading.{ordered-within}
 use Rattle.taking.proofs.Turns.{nothing-taken}
 use Rattle.taking.proofs.Entries.{between-group, between-field}
 use borrow.Author.Needs.{needs}
-use Rattle.taking.proofs.take_entry.Statement.{statement}
-use Rattle.taking.proofs.take_entry.Tie as tie
+use Rattle.taking.proofs.spans.take_entry.Statement.{statement}
+use Rattle.taking.proofs.spans.take_entry.Tie as tie
 
 abbrev start : tie.After-group-at → tie.Start
 start c = c .before .before .before .before .before

@@ -1,4 +1,4 @@
--- `taking::given_at` meets its contract: the numbers are those of the entry, and of the span where it has its own.
+-- `taking::spans::given_at` meets its contract: the numbers are those of the entry, and of the span where it has its own.
 use mathlib.Core.Path.{refl}
 use Prim.Native.Nat.{_<_}
 use native.Mathlib.Omega.{arith}
@@ -6,8 +6,8 @@ use lib.ListN.{length}
 use Rattle.tables.specs.Entries.{entries-of}
 use Rattle.taking.proofs.Asking.{gives-stored, asks-stored, gives-one}
 use borrow.Author.Needs.{needs}
-use Rattle.taking.proofs.given_at.Statement.{statement}
-use Rattle.taking.proofs.given_at.Tie as tie
+use Rattle.taking.proofs.spans.given_at.Statement.{statement}
+use Rattle.taking.proofs.spans.given_at.Tie as tie
 
 entry-at-requires : tie.Need-entry-at-requires
 entry-at-requires c κs = search needs

@@ -1,4 +1,4 @@
--- `taking::take_values` meets its contract: the values that are left give what all of them give from the start.
+-- `taking::spans::take_values` meets its contract: the values that are left give what all of them give from the start.
 use mathlib.Core.List.{List, [], _∷_}
 use Prim.Native.Nat.{suc, _+_, _-_, _≤_}
 use native.Mathlib.Omega.{arith}
@@ -8,8 +8,8 @@ use Rattle.rules.proofs.Ranges.{from-to, item-at, first-value-item, no-value}
 use Rattle.taking.specs.Taking.{Roomy, Gives, asked-given}
 use Rattle.taking.proofs.Turns.{Taken-on, turn-start, turn-ready, turn-roomy, turn-on, turn-off, turn-end}
 use borrow.Author.Needs.{needs}
-use Rattle.taking.proofs.take_values.Statement.{statement}
-use Rattle.taking.proofs.take_values.Tie as tie
+use Rattle.taking.proofs.spans.take_values.Statement.{statement}
+use Rattle.taking.proofs.spans.take_values.Tie as tie
 
 abbrev Inv-loop : tie.InvT-loop
 Inv-loop buffer g o first last list₀ stage₀ state₀ k₀ list stage state k =

@@ -1,10 +1,10 @@
--- `taking::take_value` meets its contract: the value is the first of the bytes that are left.
+-- `taking::spans::take_value` meets its contract: the value is the first of the bytes that are left.
 use mathlib.Core.Path.{sym, _∙_}
 use native.Mathlib.Omega.{arith}
 use Rattle.taking.proofs.Finding.{value-unfound, value-place, value-asked, value-bad, value-staged}
 use borrow.Author.Needs.{needs}
-use Rattle.taking.proofs.take_value.Statement.{statement}
-use Rattle.taking.proofs.take_value.Tie as tie
+use Rattle.taking.proofs.spans.take_value.Statement.{statement}
+use Rattle.taking.proofs.spans.take_value.Tie as tie
 
 abbrev start : tie.After-first-value → tie.Start
 start c = c .before .before .before .before

@@ -1,4 +1,4 @@
--- `taking::take_fields` meets its contract: the entries that are left give what all of them give from the start.
+-- `taking::spans::take_fields` meets its contract: the entries that are left give what all of them give from the start.
 use mathlib.Core.Path.{_≡_}
 use mathlib.Core.List.{_++_}
 use Prim.Native.Nat.{_+_, _-_, _≤_}
@@ -8,8 +8,8 @@ use Rattle.taking.specs.Taking.{items-between}
 use Rattle.taking.proofs.Turns.{Taken-on, turn-start, turn-ready, turn-on, turn-off, turn-end}
 use Rattle.taking.proofs.Entries.{between-all, between-next, between-none}
 use borrow.Author.Needs.{needs}
-use Rattle.taking.proofs.take_fields.Statement.{statement}
-use Rattle.taking.proofs.take_fields.Tie as tie
+use Rattle.taking.proofs.spans.take_fields.Statement.{statement}
+use Rattle.taking.proofs.spans.take_fields.Tie as tie
 
 abbrev Inv-loop : tie.InvT-loop
 Inv-loop t buffer u o list₀ stage₀ state₀ i₀ list stage state i =
