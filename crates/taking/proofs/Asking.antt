@@ -1,8 +1,7 @@
 -- A field that a span asks for, by the numbers that the code has of its entry. Whether formats convert does not go by the direction, so what
 -- a use rule tests for a read serves an update.
-use mathlib.Core.Path.{_≡_, refl, sym, _∙_, ap, subst}
+use mathlib.Core.Path.{_≡_, refl, _∙_, subst}
 use mathlib.Core.Bool.{Bool, true, false}
-use mathlib.Core.List.{List}
 use Prim.Native.Nat.{ℕ, _≤_, _<_}
 use native.Mathlib.Omega.{arith}
 use lib.ListN.{length, getD}
@@ -15,7 +14,7 @@ use Rattle.tables.specs.Entries.{Valid, entries-of, blank, decoded, is-group}
 use Rattle.tables.specs.Groups.{field-at}
 use Rattle.tables.specs.declared.Entry.{Entry as Row}
 use Rattle.tables.proofs.Known.{field-known}
-use Rattle.uses.specs.Meant.{Good-span, One-field}
+use Rattle.uses.specs.Meant.{One-field}
 use Rattle.uses.specs.declared.Span.{Span}
 use Rattle.uses.proofs.Fields.{format-of-field, size-at}
 use Rattle.taking.specs.Taking.{Gives, asked-given, asked-as}

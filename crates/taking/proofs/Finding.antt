@@ -2,14 +2,13 @@
 use mathlib.Core.Path.{_≡_, refl, sym, _∙_, ap, subst}
 use mathlib.Core.Bool.{Bool, true, false}
 use mathlib.Core.Logic.{⊎-elim}
-use mathlib.Core.List.{List, [], _∷_, _++_}
-use Prim.Native.Nat.{ℕ, zero, suc, _+_, _-_, _≤_, _<_}
+use mathlib.Core.List.{List, [], _∷_}
+use Prim.Native.Nat.{ℕ, zero, suc, _-_, _≤_, _<_}
 use native.Mathlib.Omega.{arith}
 use lib.ListN.{length, take, drop, length-append, length-drop}
 use Rattle.rules.specs.Outcome.{Outcome, done, refused, _>>=_, is-done}
 use Rattle.rules.specs.Lists.{Bytes}
-use Rattle.rules.specs.Numbers.{refusal-number}
-use Rattle.rules.specs.Values.{Format, meaning, first-value, with-length-byte, converted-bytes}
+use Rattle.rules.specs.Values.{meaning, first-value, with-length-byte, converted-bytes}
 use Rattle.rules.specs.Table.{Entry}
 use Rattle.rules.specs.Use.{Asked}
 use Rattle.rules.specs.Update.{Assignment}
@@ -20,7 +19,6 @@ use Rattle.rules.proofs.Places.{spot}
 use Rattle.rules.proofs.Ranges.{taking, item-at}
 use Rattle.rules.proofs.Readers.{first-sound}
 use Rattle.value_formats.specs.Formats.{format-at}
-use Rattle.tables.specs.Groups.{field-at}
 use Rattle.values.specs.Fits.{bytes-size, Convertible}
 use Rattle.values.specs.Places.{Located}
 use Rattle.values.specs.declared.FirstValue.{FirstValue}

@@ -1,18 +1,16 @@
 -- Items that are passed over: they give nothing, and the buffer has their bytes or is too short for them. So each kind of use has its own
 -- items.
-use mathlib.Core.Path.{_≡_, refl, sym, _∙_, ap, subst}
+use mathlib.Core.Path.{_≡_, refl, sym, _∙_, subst}
 use mathlib.Core.List.{List, [], _∷_, _++_, append-nil}
-use Prim.Native.Nat.{ℕ, _+_, _-_, _≤_, _<_}
+use Prim.Native.Nat.{ℕ, _+_, _-_, _≤_}
 use native.Mathlib.Omega.{arith}
 use lib.ListN.{length, drop, length-drop}
 use lib.Seq.{drop-drop}
-use Rattle.rules.specs.Outcome.{Outcome, done, refused, _>>=_}
+use Rattle.rules.specs.Outcome.{done, _>>=_}
 use Rattle.rules.specs.Lists.{Bytes, cut}
-use Rattle.rules.specs.Numbers.{refusal-number}
 use Rattle.rules.specs.Table.{Entry}
 use Rattle.rules.specs.Use.{Item, blanks-item, text-item, group-count, value-count, items-of}
 use Rattle.rules.specs.Update.{Assignment}
-use Rattle.rules.specs.declared.Refusal.the-variants.{BeyondBuffer}
 use Rattle.rules.proofs.Ranges.{taking}
 use Rattle.values.proofs.Cuts.{cut-enough, cut-short}
 use Rattle.format_buffer.specs.Part.{part}

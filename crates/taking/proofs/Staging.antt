@@ -1,15 +1,16 @@
 -- A value comes to the stage where it has room there, with a note of it in the list; else it is only tested, for the new record is too long.
 use mathlib.Core.Path.{_≡_, refl, sym, _∙_, ap, subst}
-use mathlib.Core.Bool.{Bool, true, false, not, true≢false}
+use mathlib.Core.Bool.{true, false, not, true≢false}
 use mathlib.Core.Logic.{_⊎_, inl, inr, ⊎-elim}
 use mathlib.Core.List.{List, [], _∷_, _++_, append-nil}
 use Prim.Native.Nat.{ℕ, zero, suc, _+_, _-_, _≤_, _<_}
 use native.Mathlib.Omega.{arith}
+use lib.Dec.{leb, leb→le}
 use lib.ListN.{length, length-append}
 use lib.Seq.{sets, length-sets}
 use types.Run.{OneOf, miss}
 use denote.Enum.Declared.{tagOf}
-use borrow.Author.Tests.{le-leb, lt-leb}
+use borrow.Author.Tests.{leb-false}
 use Rattle.rules.proofs.Refusal.{the-type}
 use Rattle.rules.specs.Outcome.{Outcome, done, refused, is-done}
 use Rattle.rules.specs.Limits.{highest-index, longest-new-record}
@@ -20,13 +21,12 @@ use Rattle.rules.specs.Table.{Entry}
 use Rattle.rules.specs.Update.{Assignment}
 use Rattle.rules.specs.declared.Refusal.{Refusal}
 use Rattle.rules.specs.declared.Refusal.the-variants.{BadTable, BadRecord, BadSyntax, UnknownName, UseRule, NamedTwice, BeyondBuffer, BadValue, OutOfRange, NoRoom}
-use Rattle.rules.proofs.Steps.{by-test, not-done, done-inj, refused-inj}
+use Rattle.rules.proofs.Steps.{by-test, not-done, done-inj, refused-inj, from-bind, from-need}
 use Rattle.buffer.specs.Splice.{splice}
-use Rattle.buffer.proofs.Cases.{by-order}
 use Rattle.value_formats.specs.Formats.{format-at}
 use Rattle.values.specs.Fits.{Convertible, converted-length}
 use Rattle.values.proofs.Chosen.{asked-refused, asked-bytes}
-use Rattle.filling.specs.Filling.{in-room, left-as, Filling}
+use Rattle.filling.specs.Filling.{in-room, Filling}
 use Rattle.filling.specs.declared.Next.{Next}
 use Rattle.filling.specs.declared.Next.the-variants as put
 use Rattle.filling.proofs.Continues.{put-on, put-off}
@@ -36,7 +36,6 @@ use Rattle.assignments.proofs.Listing.{listed-more, unindexed-more}
 use Rattle.taking.specs.Taking.{bytes-given, Roomy, Holds, Gives, Stages, tested-to}
 use Rattle.taking.specs.declared.spans.Given.{Given}
 use Rattle.taking.specs.declared.Taking.{Taking}
-use Rattle.taking.specs.declared.Taken.{Taken}
 use Rattle.taking.specs.declared.Taken.the-variants.{At, Refused}
 
 -- A refusal of another variant than BeyondBuffer, as a match tells it, has another number.
@@ -53,31 +52,20 @@ not-beyond OutOfRange k e = omega (arith, e)
 not-beyond NoRoom k e = omega (arith, e)
 
 -- What is refused in limited room is refused itself, or longer than the room; what is done there is done.
-inside-room : (room : ℕ) (b : Bytes) → length b ≤ room → in-room room (done b) ≡ done b
-unfolding in-room
-inside-room room b h = rw (le-leb (length b) room h)
-
-beyond-room : (room : ℕ) (b : Bytes) → room < length b → in-room room (done b) ≡ refused 7
-unfolding in-room
-beyond-room room b h = rw (lt-leb (length b) room h)
-
-refused-room : (room n : ℕ) → in-room room (refused n) ≡ refused n
-unfolding in-room
-refused-room room n = refl
-
 room-refused : (room : ℕ) (o : Outcome Bytes) (n : ℕ) → in-room room o ≡ refused n → (o ≡ refused n) ⊎ ((b : Bytes) × (o ≡ done b) × (room < length b) × (n ≡ 7))
+unfolding in-room
 room-refused room (done b) n e =
-    by-order room (length b)
-    (λ h. inr (b, refl, h, refused-inj (sym e ∙ beyond-room room b h)))
-    (λ h. absurd (not-done (sym e ∙ inside-room room b h)))
-room-refused room (refused m) n e = inl (sym (refused-room room m) ∙ e)
+    by-test (leb (length b) room)
+    (λ t. absurd (not-done (sym (rw t at e))))
+    (λ t. inr (b, refl, leb-false (length b) room t, sym (refused-inj (rw t at e))))
+room-refused room (refused m) n e = inl e
 
 room-done : (room : ℕ) (o : Outcome Bytes) (b : Bytes) → in-room room o ≡ done b → (o ≡ done b) × (length b ≤ room)
-room-done room (done a) b e =
-    by-order room (length a)
-    (λ h. absurd (not-done (sym (beyond-room room a h) ∙ e)))
-    (λ h. let q : a ≡ b = done-inj (sym (inside-room room a h) ∙ e) in (ap done q, subst (λ x. length x ≤ room) q h))
-room-done room (refused m) b e = absurd (not-done (sym (refused-room room m) ∙ e))
+unfolding in-room
+room-done room o b e =
+    from-bind o _ e λ a p k.
+    from-need (leb (length a) room) 7 _ k λ t z.
+    (p ∙ z, subst (λ x. length x ≤ room) (done-inj z) (leb→le (length a) room t))
 
 given-more : (ws : List Assignment) (a : Assignment) → length (bytes-given (ws ++ (a ∷ []))) ≡ length (bytes-given ws) + length (a .bytes)
 unfolding join

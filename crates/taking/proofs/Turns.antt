@@ -12,7 +12,7 @@ use Rattle.rules.specs.Use.{Item}
 use Rattle.rules.specs.Update.{Assignment}
 use Rattle.rules.specs.declared.Refusal.{Refusal}
 use Rattle.rules.proofs.Ranges.{taking, taking-append}
-use Rattle.taking.specs.Taking.{Roomy, Ready, Holds, Moved, Takes}
+use Rattle.taking.specs.Taking.{Roomy, Ready, Holds, Takes}
 use Rattle.taking.specs.declared.Taking.{Taking}
 use Rattle.taking.specs.declared.Taken.{Taken}
 use Rattle.taking.specs.declared.Taken.the-variants.{At, Refused}

@@ -86,17 +86,17 @@ returns c f h =
 
 same-length : tie.Need-same-length Inv-loop μ-loop
 same-length c =
-    let w = turn (c .before .before .before) in
-    let g = got w in
-    let p = start (here g) .pre .2 in
-    turn-off (here g .loop .inv .1 (p .0) (p .1)) _ _ _ _ (next-items g (p .0)) (c .before .x .given .1) (w .take-use .ensures (p .0) (good g (p .0) (p .1))) .same-list
+    let l = here (got (turn (c .before .before .before))) in
+    let p = start l .pre .2 in
+    let e = l .loop .inv .1 (p .0) (p .1) .same-list in
+    omega arith
 
 same-length-2 : tie.Need-same-length-2 Inv-loop μ-loop
 same-length-2 c =
-    let w = turn (c .before .before .before) in
-    let g = got w in
-    let p = start (here g) .pre .2 in
-    turn-off (here g .loop .inv .1 (p .0) (p .1)) _ _ _ _ (next-items g (p .0)) (c .before .x .given .1) (w .take-use .ensures (p .0) (good g (p .0) (p .1))) .same-stage
+    let l = here (got (turn (c .before .before .before))) in
+    let p = start l .pre .2 in
+    let e = l .loop .inv .1 (p .0) (p .1) .same-stage in
+    omega arith
 
 enum-known-next : tie.Need-enum-known-next Inv-loop μ-loop
 enum-known-next c = search needs

@@ -1,11 +1,9 @@
 -- `taking::take_use` meets its contract: each kind of use has its own items.
-use mathlib.Core.Path.{_≡_, refl, sym, subst}
+use mathlib.Core.Path.{refl, subst}
 use native.Mathlib.Omega.{arith}
-use Rattle.rules.specs.Use.{items-of}
 use Rattle.tables.specs.Entries.{entries-of}
-use Rattle.uses.specs.Meant.{Good-use, use-meant}
+use Rattle.uses.specs.Meant.{Good-use}
 use Rattle.uses.proofs.SpanFields.{span-items}
-use Rattle.taking.specs.Taking.{Takes}
 use Rattle.taking.proofs.Passing.{use-blanks, use-text, use-group-count, use-value-count}
 use borrow.Author.Needs.{needs}
 use Rattle.taking.proofs.take_use.Statement.{statement}

@@ -2,7 +2,6 @@
 use mathlib.Core.Path.{_≡_}
 use mathlib.Core.List.{_++_}
 use Prim.Native.Nat.{_+_, _-_, _≤_}
-use native.Mathlib.Omega.{arith}
 use Rattle.tables.specs.Entries.{entries-of}
 use Rattle.taking.specs.Taking.{items-between}
 use Rattle.taking.proofs.Turns.{Taken-on, turn-start, turn-ready, turn-on, turn-off, turn-end}

@@ -1,6 +1,8 @@
 -- `taking::spans::take_value` meets its contract: the value is the first of the bytes that are left.
 use mathlib.Core.Path.{sym, _∙_}
+use Prim.Native.Nat.{_≤_, _<_}
 use native.Mathlib.Omega.{arith}
+use lib.ListN.{length}
 use Rattle.taking.proofs.Finding.{value-unfound, value-place, value-asked, value-bad, value-staged}
 use borrow.Author.Needs.{needs}
 use Rattle.taking.proofs.spans.take_value.Statement.{statement}
@@ -13,6 +15,14 @@ start c = c .before .before .before .before
 abbrev found : tie.After-known-told2 → tie.After-first-value
 found c = c .before .before .before
 
+-- Where it stands.
+place : (c : tie.After-known-told2) → let v = c .before .from .given .0 in let a = start (found c) .args in
+    (v .0 ≤ v .1 .0) × (v .1 .0 ≤ length (a .buffer .now)) × (a .s .at < v .1 .0)
+place c =
+    let s = start (found c) in
+    let a = s .args in
+    value-place (s .pre .4 .0) (a .buffer .now) (a .g) (a .o) (a .k) (a .s) (found c .first-value .ensures) _ _ (c .before .from .given .1)
+
 first-value-requires : tie.Need-first-value-requires
 first-value-requires c κs = search needs
 
@@ -23,49 +33,25 @@ enum-known-from : tie.Need-enum-known-from
 enum-known-from c = search needs
 
 sub-is-value : tie.Need-sub-is-value
-sub-is-value c =
-    let f = found (c) in
-    let s = start f in
-    let p = value-place (s .pre .4 .0) (s .args .buffer .now) (s .args .g) (s .args .o) (s .args .k) (s .args .s) (f .first-value .ensures) _ _ ((c) .before .from .given .1) in
-    omega (arith, p .0, p .1)
+sub-is-value c = let p = place c in omega (arith, p .0, p .1)
 
 part-is-value-start : tie.Need-part-is-value-start
-part-is-value-start c =
-    let f = found (c) in
-    let s = start f in
-    let p = value-place (s .pre .4 .0) (s .args .buffer .now) (s .args .g) (s .args .o) (s .args .k) (s .args .s) (f .first-value .ensures) _ _ ((c) .before .from .given .1) in
-    omega (arith, p .0, p .1)
+part-is-value-start c = let p = place c in omega (arith, p .0, p .1)
 
 part-is-value-end : tie.Need-part-is-value-end
-part-is-value-end c =
-    let f = found (c) in
-    let s = start f in
-    let p = value-place (s .pre .4 .0) (s .args .buffer .now) (s .args .g) (s .args .o) (s .args .k) (s .args .s) (f .first-value .ensures) _ _ ((c) .before .from .given .1) in
-    omega (arith, p .0, p .1)
+part-is-value-end c = let p = place c in omega (arith, p .0, p .1)
 
 is-value-requires : tie.Need-is-value-requires
 is-value-requires c κs = search needs
 
 sub-stage-value : tie.Need-sub-stage-value
-sub-stage-value c =
-    let f = found (c .before .before .before) in
-    let s = start f in
-    let p = value-place (s .pre .4 .0) (s .args .buffer .now) (s .args .g) (s .args .o) (s .args .k) (s .args .s) (f .first-value .ensures) _ _ ((c .before .before .before) .before .from .given .1) in
-    omega (arith, p .0, p .1)
+sub-stage-value c = let p = place (c .before .before .before) in omega (arith, p .0, p .1)
 
 part-stage-value-start : tie.Need-part-stage-value-start
-part-stage-value-start c =
-    let f = found (c .before .before .before) in
-    let s = start f in
-    let p = value-place (s .pre .4 .0) (s .args .buffer .now) (s .args .g) (s .args .o) (s .args .k) (s .args .s) (f .first-value .ensures) _ _ ((c .before .before .before) .before .from .given .1) in
-    omega (arith, p .0, p .1)
+part-stage-value-start c = let p = place (c .before .before .before) in omega (arith, p .0, p .1)
 
 part-stage-value-end : tie.Need-part-stage-value-end
-part-stage-value-end c =
-    let f = found (c .before .before .before) in
-    let s = start f in
-    let p = value-place (s .pre .4 .0) (s .args .buffer .now) (s .args .g) (s .args .o) (s .args .k) (s .args .s) (f .first-value .ensures) _ _ ((c .before .before .before) .before .from .given .1) in
-    omega (arith, p .0, p .1)
+part-stage-value-end c = let p = place (c .before .before .before) in omega (arith, p .0, p .1)
 
 stage-value-requires : tie.Need-stage-value-requires
 stage-value-requires c κs =
@@ -75,14 +61,13 @@ stage-value-requires c κs =
     let s = start f in
     let x = s .pre .4 in
     let a = s .args in
-    let q = k .before .from .given .1 in
-    let p = value-place (x .0) (a .buffer .now) (a .g) (a .o) (a .k) (a .s) (f .first-value .ensures) _ _ q in (
+    let q = k .before .from .given .1 in (
       value-asked (x .0) (a .buffer .now) (a .g) (a .o) (a .k) (a .s) (f .first-value .ensures) _ _ q (x .1) (sym (t .before .is-value .ensures) ∙ t .if1 .taken),
       s .pre .0,
       s .pre .1,
       s .pre .2,
       s .pre .3,
-      (x .0, a .buffer .now, x .1, p .2, p .1, x .2),
+      (x .0, a .buffer .now, x .1, place k .2, place k .1, x .2),
     )
 
 same-length : tie.Need-same-length
@@ -99,9 +84,8 @@ returns c es gives room =
     let f = found k in
     let a = start f .args in
     let q = k .before .from .given .1 in
-    let p = value-place es (a .buffer .now) (a .g) (a .o) (a .k) (a .s) (f .first-value .ensures) _ _ q in
     value-staged es (a .buffer .now) (a .g) (a .o) (a .k) (a .s) (f .first-value .ensures) _ _ q gives
-    (w .stage-value .ensures es (a .buffer .now) gives (p .2) (p .1) room)
+    (w .stage-value .ensures es (a .buffer .now) gives (place k .2) (place k .1) room)
 
 returns-2 : tie.Need-returns-2
 returns-2 c es gives room =
