@@ -1,23 +1,26 @@
 -- What the record buffer gave so far: the assignments that the list and the stage hold, and the bytes that are left.
 use mathlib.Core.Path.{_≡_}
-use mathlib.Core.Bool.{true, false}
+use mathlib.Core.Bool.{Bool, true, false}
 use mathlib.Core.List.{List, [], _∷_, _++_, map}
-use Prim.Native.Nat.{ℕ, min, _≤_, _<_}
+use Prim.Native.Nat.{ℕ, _+_, min, _≤_, _<_}
 use lib.ListN.{length, drop, getD}
 use Rattle.rules.specs.Outcome.{done, refused}
 use Rattle.rules.specs.Limits.{formats, longest-new-record}
 use Rattle.rules.specs.Lists.{Bytes, join}
 use Rattle.rules.specs.Numbers.{refusal-number}
+use Rattle.rules.specs.declared.Refusal.the-variants.{BeyondBuffer}
 use Rattle.rules.specs.Values.{allowed, converts, converted-bytes}
-use Rattle.rules.specs.Table.{Entry}
-use Rattle.rules.specs.Use.{Item, Asked, Use, items}
+use Rattle.rules.specs.Table.{Entry, Field}
+use Rattle.rules.specs.Use.{Item, Asked, Use, as-stored, just, value-items, items}
 use Rattle.rules.specs.Update.{Assignment, assignments}
-use Rattle.rules.proofs.Ranges.{taking}
+use Rattle.rules.proofs.Ranges.{from-to, taking}
 use Rattle.value_formats.specs.Formats.{format-at}
 use Rattle.tables.specs.Entries.{blank, is-group}
 use Rattle.tables.specs.Groups.{field-at}
+use Rattle.uses.specs.Meant.{fields-from}
+use Rattle.uses.specs.declared.Span.{Span}
 use Rattle.assignments.specs.Notes.{note-place, place-at, Listed, Unindexed}
-use Rattle.taking.specs.declared.Given.{Given}
+use Rattle.taking.specs.declared.spans.Given.{Given}
 use Rattle.taking.specs.declared.Taking.{Taking}
 use Rattle.taking.specs.declared.Taken.{Taken}
 use Rattle.taking.specs.declared.Taken.the-variants.{At, Refused}
@@ -52,6 +55,16 @@ pub record Takes (es : List Entry) (buffer : Bytes) (xs : List Item) (s : Taking
   pub same-stage : length stage′ ≡ length stage
   pub moved : (ws : List Assignment) → Holds es buffer list stage s ws → Moved es buffer xs (s .at) list′ stage′ ws r
 
+-- So many bytes of the buffer were passed over, or it has fewer.
+abbrev pub Passed : Bytes → ℕ → Taking → Taken → Type 0
+Passed buffer n s (At t) =
+    (s .at + n ≤ length buffer) × (t ≡ record { at = s .at + n; staged = s .staged; count = s .count; full = s .full })
+Passed buffer n s (Refused x) = (length buffer < s .at + n) × (x ≡ BeyondBuffer)
+
+-- The same, after a value up to a place for which the stage has no room.
+abbrev pub tested-to : ℕ → Taking → Taking
+tested-to next s = record { at = next; staged = s .staged; count = s .count; full = true }
+
 -- There is room, and some assignments are held.
 abbrev pub Ready : List Entry → Bytes → List ℕ → Bytes → Taking → Type 0
 Ready es buffer list stage s = Roomy buffer list stage × ((ws : List Assignment) × Holds es buffer list stage s ws)
@@ -70,6 +83,15 @@ pub record Gives (es : List Entry) (g : Given) : Type 0 where
   pub format : g .format < formats
   pub size : allowed (format-at (g .format)) (g .size) ≡ true
   pub converts : converts (format-at (g .format)) (format-at (g .own)) ≡ true
+
+-- A field of a span at the format and the length in effect; and the items of the entries from one number up to another in an occurrence.
+abbrev pub asked-as : Bool → Span → Field → Asked
+asked-as true u f = as-stored f
+asked-as false u f = record { field = f; format = format-at (u .format); size = u .size }
+
+abbrev pub items-between : List Entry → Span → ℕ → ℕ → ℕ → List Item
+items-between es u o i end =
+    value-items (map (asked-as (u .standard) u) (fields-from es i end)) (just o) (from-to (u .«value_from») (u .«value_upto»)) (u .bare)
 
 -- One value, which stands in the buffer up to `next`, came to what was held, or it is refused.
 abbrev pub Staged : List Entry → Bytes → Given → ℕ → ℕ → Bytes → ℕ → List ℕ → Bytes → List Assignment → Taken → Type 0

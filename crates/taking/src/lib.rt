@@ -1,27 +1,19 @@
 // What the record buffer gives to the occurrences that a format names (7, 8, 9): each value to a stage, in normal form at its field's own
 // format and length, and a note of it to the list of assignments.
-ghost use mathlib.Core.Path.{_≡_};
-ghost use mathlib.Core.Bool.{false};
-ghost use mathlib.Core.List.{List, _∷_, []};
-ghost use Prim.Native.Nat.{_+_, _*_, _≤_, _<_};
-ghost use lib.ListN.{length, getD};
-ghost use Rattle.rules.specs.Limits.{highest-index};
+ghost use Prim.Native.Nat.{_*_, _≤_};
+ghost use lib.ListN.{length};
 ghost use Rattle.rules.specs.Lists.{Bytes};
-ghost use Rattle.rules.specs.Table.{Entry};
-ghost use Rattle.rules.specs.Use.{Item, value-items, items-of, just};
-ghost use Rattle.rules.proofs.Ranges.{from-to, item-at};
-ghost use Rattle.values.specs.Fits.{Convertible};
-ghost use Rattle.tables.specs.Entries.{Valid, entries-of, blank, is-group};
-ghost use Rattle.uses.specs.Meant.{Good-span, Good-use, asked-of, use-meant};
+ghost use Rattle.rules.specs.Use.{items-of};
+ghost use Rattle.tables.specs.Entries.{Valid, entries-of};
 ghost use Rattle.uses.specs.Kept.{numbers-kept, uses-kept, Good-uses};
+ghost use Rattle.uses.specs.Meant.{Good-use, use-meant};
 ghost use Rattle.assignments.specs.Notes.{Unindexed};
-ghost use Rattle.taking.specs.Taking.{Roomy, Holds, Takes, Ready, asked-given, Gives, Stages, Gave};
-use assignments::Note;
-use filling::Next;
+ghost use Rattle.taking.specs.Taking.{Roomy, Takes, Ready, Gave, Passed};
+
+mod spans;
+
 use rules::Refusal;
-use uses::Span;
 use uses::Use;
-use values::FirstValue;
 
 // Where the items of a call stand: at a place of the record buffer, with so many bytes on the stage and so many notes in the list. Where the
 // stage is full the new record is too long, and the items are only tested.
@@ -38,18 +30,11 @@ pub enum Taken {
     Refused(Refusal),
 }
 
-// A field whose values are taken: its entry, the format and the length in effect, its own, and whether its bare name stands for them.
-struct Given {
-    entry: usize,
-    format: usize,
-    size: usize,
-    own: usize,
-    standard: usize,
-    bare: bool,
-}
-
 // Passes over n bytes, which are given to nothing.
-fn pass(buffer: &[u8], n: usize, s: Taking) -> Taken {
+fn pass(buffer: &[u8], n: usize, s: Taking) -> Taken
+    requires { ⌜ s .at ≤ length (now buffer) ⌝ }
+    ensures { λ r. ⌜ Passed (now (buffer .entry)) n s r ⌝ }
+{
     if buffer.len() - s.at < n {
         return Taken::Refused(Refusal::BeyondBuffer);
     }
@@ -59,222 +44,6 @@ fn pass(buffer: &[u8], n: usize, s: Taking) -> Taken {
         count: s.count,
         full: s.full,
     })
-}
-
-// The same place, after a value for which the stage has no room.
-fn without_room(next: usize, s: Taking) -> Taken {
-    Taken::At(Taking {
-        at: next,
-        staged: s.staged,
-        count: s.count,
-        full: true,
-    })
-}
-
-// Value k of a field in occurrence o, whose content stands in the buffer up to `next` and means something: to the stage, or only tested.
-fn stage_value(
-    content: &[u8],
-    next: usize,
-    g: Given,
-    o: usize,
-    k: usize,
-    list: &mut [u16],
-    stage: &mut [u8],
-    s: Taking,
-) -> Taken
-    requires { ⌜ Convertible (g .format) (g .own) (g .standard) (now content) × (1 ≤ o) × (o ≤ highest-index) × (1 ≤ k) × (k ≤ highest-index) × ((es : List Entry) × (buffer : Bytes) × Gives es g × (s .at < next) × (next ≤ length buffer) × Ready es buffer (now list) (now stage) s) ⌝ }
-    ensures { λ r. ⌜ ((es : List Entry) (buffer : Bytes) → Gives es g → s .at < next → next ≤ length buffer → Roomy buffer (now (list .entry)) (now (stage .entry)) → Stages es buffer g o k (now (content .entry)) next s (now (list .entry)) (now (list .exit)) (now (stage .entry)) (now (stage .exit)) r) ⌝ }
-{
-    let from = if s.full { 0 } else { s.staged };
-    let put = filling::value::put_value(
-        content,
-        g.format,
-        g.own,
-        g.standard,
-        stage,
-        from,
-        stage.len(),
-        !s.full,
-    );
-    match put {
-        Next::Refused(x) => match x {
-            Refusal::BeyondBuffer => without_room(next, s),
-            _ => Taken::Refused(x),
-        },
-        Next::At(upto) => {
-            if s.full {
-                return without_room(next, s);
-            }
-            assignments::put(
-                list,
-                s.count,
-                Note {
-                    entry: g.entry,
-                    occurrence: o,
-                    value: k,
-                    bare: g.bare,
-                    from,
-                    upto,
-                },
-            );
-            Taken::At(Taking {
-                at: next,
-                staged: upto,
-                count: s.count + 1,
-                full: false,
-            })
-        }
-    }
-}
-
-// Value k of a field in occurrence o.
-fn take_value(
-    buffer: &[u8],
-    g: Given,
-    o: usize,
-    k: usize,
-    list: &mut [u16],
-    stage: &mut [u8],
-    s: Taking,
-) -> Taken
-    requires { ⌜ (1 ≤ o) × (o ≤ highest-index) × (1 ≤ k) × (k ≤ highest-index) × ((es : List Entry) × Gives es g × Ready es (now buffer) (now list) (now stage) s) ⌝ }
-    ensures { λ r. ⌜ ((es : List Entry) → Gives es g → Roomy (now (buffer .entry)) (now (list .entry)) (now (stage .entry)) → Takes es (now (buffer .entry)) (item-at (g .bare) (asked-given es g) o k ∷ []) s (now (list .entry)) (now (list .exit)) (now (stage .entry)) (now (stage .exit)) r) ⌝ }
-{
-    match values::first_value(buffer, s.at, g.size) {
-        FirstValue::Refused(x) => Taken::Refused(x),
-        FirstValue::Value(from, next) => {
-            if values::numbers::is_value(&buffer[from..next], g.format) {
-                return stage_value(&buffer[from..next], next, g, o, k, list, stage, s);
-            }
-            Taken::Refused(Refusal::BadValue)
-        }
-    }
-}
-
-// The values of a field in occurrence o, from value `first` to value `last`.
-fn take_values(
-    buffer: &[u8],
-    g: Given,
-    o: usize,
-    first: usize,
-    last: usize,
-    list: &mut [u16],
-    stage: &mut [u8],
-    s: Taking,
-) -> Taken
-    requires { ⌜ (1 ≤ o) × (o ≤ highest-index) × (1 ≤ first) × (last ≤ highest-index) × ((es : List Entry) × Gives es g × Ready es (now buffer) (now list) (now stage) s) ⌝ }
-    ensures { λ r. ⌜ ((es : List Entry) → Gives es g → Roomy (now (buffer .entry)) (now (list .entry)) (now (stage .entry)) → Takes es (now (buffer .entry)) (value-items (asked-given es g ∷ []) (just o) (from-to first last) (g .bare)) s (now (list .entry)) (now (list .exit)) (now (stage .entry)) (now (stage .exit)) r) ⌝ }
-{
-    let mut state = s;
-    let mut k = first;
-    while k <= last {
-        match take_value(buffer, g, o, k, list, stage, state) {
-            Taken::Refused(x) => {
-                return Taken::Refused(x);
-            }
-            Taken::At(next) => {
-                state = next;
-            }
-        }
-        k += 1;
-    }
-    Taken::At(state)
-}
-
-// The field of entry i, as a span asks for it.
-fn given(t: &[u8], i: usize, s: Span) -> Given
-    requires { ⌜ Valid (now t) × Good-span (entries-of (now t)) s × (s .first ≤ i) × (i < s .end) × (is-group (getD (entries-of (now t)) i blank .what) ≡ false) ⌝ }
-    ensures { λ g. ⌜ (g .entry ≡ i) × (g .bare ≡ s .bare) × Gives (entries-of (now (t .entry))) g ⌝ }
-{
-    let e = tables::entry_at(t, i);
-    let own = e.format as usize;
-    let standard = e.size as usize;
-    if s.standard {
-        return Given {
-            entry: i,
-            format: own,
-            size: standard,
-            own,
-            standard,
-            bare: s.bare,
-        };
-    }
-    Given {
-        entry: i,
-        format: s.format,
-        size: s.size,
-        own,
-        standard,
-        bare: s.bare,
-    }
-}
-
-// The fields of a span in occurrence o.
-fn take_fields(
-    t: &[u8],
-    buffer: &[u8],
-    u: Span,
-    o: usize,
-    list: &mut [u16],
-    stage: &mut [u8],
-    s: Taking,
-) -> Taken
-    requires { ⌜ Valid (now t) × Good-span (entries-of (now t)) u × (1 ≤ o) × (o ≤ highest-index) × Ready (entries-of (now t)) (now buffer) (now list) (now stage) s ⌝ }
-    ensures { λ r. ⌜ Takes (entries-of (now (t .entry))) (now (buffer .entry)) (value-items (asked-of (entries-of (now (t .entry))) u) (just o) (from-to (u .«value_from») (u .«value_upto»)) (u .bare)) s (now (list .entry)) (now (list .exit)) (now (stage .entry)) (now (stage .exit)) r ⌝ }
-{
-    let mut state = s;
-    let mut i = u.first;
-    while i < u.end {
-        if !tables::group_at(t, i) {
-            match take_values(
-                buffer,
-                given(t, i, u),
-                o,
-                u.value_from,
-                u.value_upto,
-                list,
-                stage,
-                state,
-            ) {
-                Taken::Refused(x) => {
-                    return Taken::Refused(x);
-                }
-                Taken::At(next) => {
-                    state = next;
-                }
-            }
-        }
-        i += 1;
-    }
-    Taken::At(state)
-}
-
-// The occurrences of a span.
-fn take_occurrences(
-    t: &[u8],
-    buffer: &[u8],
-    u: Span,
-    list: &mut [u16],
-    stage: &mut [u8],
-    s: Taking,
-) -> Taken
-    requires { ⌜ Valid (now t) × Good-span (entries-of (now t)) u × Ready (entries-of (now t)) (now buffer) (now list) (now stage) s ⌝ }
-    ensures { λ r. ⌜ Takes (entries-of (now (t .entry))) (now (buffer .entry)) (value-items (asked-of (entries-of (now (t .entry))) u) (from-to (u .from) (u .upto)) (from-to (u .«value_from») (u .«value_upto»)) (u .bare)) s (now (list .entry)) (now (list .exit)) (now (stage .entry)) (now (stage .exit)) r ⌝ }
-{
-    let mut state = s;
-    let mut o = u.from;
-    while o <= u.upto {
-        match take_fields(t, buffer, u, o, list, stage, state) {
-            Taken::Refused(x) => {
-                return Taken::Refused(x);
-            }
-            Taken::At(next) => {
-                state = next;
-            }
-        }
-        o += 1;
-    }
-    Taken::At(state)
 }
 
 // The items of a use. Counts, spaces and text are passed over.
@@ -287,7 +56,7 @@ fn take_use(t: &[u8], buffer: &[u8], u: Use, list: &mut [u16], stage: &mut [u8],
         Use::Text(from, upto) => pass(buffer, upto - from, s),
         Use::GroupCount(_) => pass(buffer, 1, s),
         Use::ValueCount(_, _) => pass(buffer, 1, s),
-        Use::Values(span) => take_occurrences(t, buffer, span, list, stage, s),
+        Use::Values(span) => spans::take_occurrences(t, buffer, span, list, stage, s),
     }
 }
 

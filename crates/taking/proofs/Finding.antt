@@ -1,0 +1,114 @@
+-- One value of the record buffer: it is not there, or it means nothing, or it is taken as its content is converted.
+use mathlib.Core.Path.{_≡_, refl, sym, _∙_, ap, subst}
+use mathlib.Core.Bool.{Bool, true, false}
+use mathlib.Core.Logic.{⊎-elim}
+use mathlib.Core.List.{List, [], _∷_}
+use Prim.Native.Nat.{ℕ, zero, suc, _-_, _≤_, _<_}
+use native.Mathlib.Omega.{arith}
+use lib.ListN.{length, take, drop, length-append, length-drop}
+use Rattle.rules.specs.Outcome.{Outcome, done, refused, _>>=_, is-done}
+use Rattle.rules.specs.Lists.{Bytes}
+use Rattle.rules.specs.Values.{meaning, first-value, with-length-byte, converted-bytes}
+use Rattle.rules.specs.Table.{Entry}
+use Rattle.rules.specs.Use.{Asked}
+use Rattle.rules.specs.Update.{Assignment}
+use Rattle.rules.specs.declared.Refusal.{Refusal}
+use Rattle.rules.specs.declared.Refusal.the-variants.{BadValue}
+use Rattle.rules.proofs.Steps.{not-done, refused-inj}
+use Rattle.rules.proofs.Places.{spot}
+use Rattle.rules.proofs.Ranges.{taking, item-at}
+use Rattle.rules.proofs.Readers.{first-sound}
+use Rattle.value_formats.specs.Formats.{format-at}
+use Rattle.values.specs.Fits.{bytes-size, Convertible}
+use Rattle.values.specs.Places.{Located}
+use Rattle.values.specs.declared.FirstValue.{FirstValue}
+use Rattle.values.specs.declared.FirstValue.the-variants as first
+use Rattle.values.proofs.Cuts.{first-content, found-content}
+use Rattle.values.proofs.Converted.{bad-value, content-allowed}
+use Rattle.taking.specs.Taking.{Gives, asked-given, Moved, Takes, Stages, Staged}
+use Rattle.taking.specs.declared.spans.Given.{Given}
+use Rattle.taking.specs.declared.Taking.{Taking}
+use Rattle.taking.specs.declared.Taken.{Taken}
+use Rattle.taking.specs.declared.Taken.the-variants.{At, Refused}
+
+taking-one : (bare : Bool) (a : Asked) (o k : ℕ) (bs : Bytes) → taking (item-at bare a o k ∷ []) bs ≡ (do
+  r ← first-value (a .size) bs
+  w ← converted-bytes (a .format) (a .field .format) (a .field .size) (r .0)
+  done (record { place = spot a o k; bare = bare; bytes = w } ∷ [], r .1))
+unfolding taking
+taking-one bare a o k bs = refl
+
+-- A value takes a byte at least.
+some-bytes : (n : ℕ) (bs c rest : Bytes) → first-value n bs ≡ done (c, rest) → 1 ≤ length (with-length-byte n c)
+unfolding with-length-byte
+some-bytes zero bs c rest e = omega arith
+some-bytes (suc n) bs c rest e = ⊎-elim (λ z. absurd (omega (arith, z .0))) (λ q. omega (arith, q)) (first-content (suc n) bs c rest e)
+
+shorter : (n : ℕ) (bs c rest : Bytes) → first-value n bs ≡ done (c, rest) → length rest < length bs
+shorter n bs c rest e =
+    omega (arith, some-bytes n bs c rest e, ap length (first-sound n bs c rest e), length-append (with-length-byte n c) rest)
+
+bytes-refused : (o : Outcome Bytes) (n : ℕ) → bytes-size o ≡ refused n → o ≡ refused n
+bytes-refused (done b) n e = absurd (not-done (sym e))
+bytes-refused (refused m) n e = ap refused (refused-inj e)
+
+module _ (es : List Entry) (buffer : Bytes) (g : Given) (o k : ℕ) (s : Taking) {v : FirstValue}
+    (l : Located buffer (s .at) (first-value (g .size) (drop (s .at) buffer)) v) where
+  pub value-unfound : (list : List ℕ) (stage : Bytes) (x : Refusal) → v ≡ first.Refused x
+      → Takes es buffer (item-at (g .bare) (asked-given es g) o k ∷ []) s list list stage stage (Refused x)
+  value-unfound list stage x q = record {
+    same-list = refl;
+    same-stage = refl;
+    moved = λ ws h. taking-one (g .bare) (asked-given es g) o k (drop (s .at) buffer) ∙ rw (← l .answer, q);
+  }
+
+  module _ (from next : ℕ) (q : v ≡ first.Value from next) where
+    found : Located buffer (s .at) (first-value (g .size) (drop (s .at) buffer)) (first.Value from next)
+    found = subst (Located buffer (s .at) (first-value (g .size) (drop (s .at) buffer))) q l
+
+    abbrev content : Bytes
+    content = take (next - from) (drop from buffer)
+
+    here : first-value (g .size) (drop (s .at) buffer) ≡ done (content, drop next buffer)
+    here = sym (found .answer)
+
+    pub value-place : (from ≤ next) × (next ≤ length buffer) × (s .at < next)
+    value-place =
+        let p = found .place in
+        let n = shorter (g .size) (drop (s .at) buffer) content (drop next buffer) here in
+        (p .1, p .2, omega (arith, p .2, n, length-drop (s .at) buffer, length-drop next buffer))
+
+    module _ (gives : Gives es g) where
+      pub value-asked : is-done (meaning (format-at (g .format)) content) ≡ true → Convertible (g .format) (g .own) (g .standard) content
+      value-asked m = record {
+        source = gives .format;
+        target = gives .own-known;
+        size = content-allowed (format-at (g .format)) (g .size) (length content) (gives .size) (found-content buffer (s .at) (g .size) from next found);
+        length-there = gives .own-allowed;
+        value = m;
+      }
+
+      -- What the value gives, by its content.
+      given-here : taking (item-at (g .bare) (asked-given es g) o k ∷ []) (drop (s .at) buffer)
+          ≡ (converted-bytes (format-at (g .format)) (format-at (g .own)) (g .standard) content
+          >>= λ w. done (record { place = spot (asked-given es g) o k; bare = g .bare; bytes = w } ∷ [], drop next buffer))
+      given-here = taking-one (g .bare) (asked-given es g) o k (drop (s .at) buffer) ∙ rw (here, gives .own, gives .standard)
+
+      pub value-bad : (list : List ℕ) (stage : Bytes) → is-done (meaning (format-at (g .format)) content) ≡ false
+          → Takes es buffer (item-at (g .bare) (asked-given es g) o k ∷ []) s list list stage stage (Refused BadValue)
+      value-bad list stage m = record {
+        same-list = refl;
+        same-stage = refl;
+        moved = λ ws h.
+            given-here
+            ∙ rw (bytes-refused (converted-bytes (format-at (g .format)) (format-at (g .own)) (g .standard) content) 8 (bad-value (format-at (g .format)) (format-at (g .own)) (g .standard) content m));
+      }
+
+      pub value-staged : {list list′ : List ℕ} {stage stage′ : Bytes} {r : Taken} → Stages es buffer g o k content next s list list′ stage stage′ r
+          → Takes es buffer (item-at (g .bare) (asked-given es g) o k ∷ []) s list list′ stage stage′ r
+      value-staged {list′ = list′} {stage′ = stage′} {r = r} t = record { same-list = t .same-list; same-stage = t .same-stage; moved = λ ws h. moved r ws (t .moved ws h) }
+        where
+          moved : (r : Taken) (ws : List Assignment) → Staged es buffer g o k content next list′ stage′ ws r
+              → Moved es buffer (item-at (g .bare) (asked-given es g) o k ∷ []) (s .at) list′ stage′ ws r
+          moved (At u) ws x = (record { place = spot (asked-given es g) o k; bare = g .bare; bytes = x .0 } ∷ [], given-here ∙ rw (x .1, x .2), x .3)
+          moved (Refused y) ws x = given-here ∙ rw x

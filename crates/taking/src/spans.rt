@@ -1,0 +1,270 @@
+// The values of a span, one after the other: its occurrences, in each its fields, and of each field its values.
+ghost use mathlib.Core.Path.{_≡_};
+ghost use mathlib.Core.Bool.{false};
+ghost use mathlib.Core.List.{List, _∷_, []};
+ghost use Prim.Native.Nat.{_+_, _≤_, _<_};
+ghost use lib.ListN.{length, getD};
+ghost use Rattle.rules.specs.Limits.{highest-index};
+ghost use Rattle.rules.specs.Lists.{Bytes};
+ghost use Rattle.rules.specs.Table.{Entry};
+ghost use Rattle.rules.specs.Use.{value-items, just};
+ghost use Rattle.rules.proofs.Ranges.{from-to, item-at};
+ghost use Rattle.values.specs.Fits.{Convertible};
+ghost use Rattle.tables.specs.Entries.{Valid, entries-of, blank, is-group};
+ghost use Rattle.tables.specs.Groups.{field-at};
+ghost use Rattle.uses.specs.Meant.{Good-span, asked-of};
+ghost use Rattle.taking.specs.Taking.{Roomy, Takes, Ready, asked-given, Gives, Stages, asked-as, items-between, tested-to};
+ghost use Rattle.taking.specs.declared.Taken.the-variants.{At};
+use crate::Taken;
+use crate::Taking;
+use assignments::Note;
+use filling::Next;
+use rules::Refusal;
+use uses::Span;
+use values::FirstValue;
+
+// A field whose values are taken: its entry, the format and the length in effect, its own, and whether its bare name stands for them.
+pub struct Given {
+    pub entry: usize,
+    pub format: usize,
+    pub size: usize,
+    pub own: usize,
+    pub standard: usize,
+    pub bare: bool,
+}
+
+// The same place, after a value for which the stage has no room.
+fn without_room(next: usize, s: Taking) -> Taken
+    ensures { λ r. ⌜ r ≡ At (tested-to next s) ⌝ }
+{
+    Taken::At(Taking {
+        at: next,
+        staged: s.staged,
+        count: s.count,
+        full: true,
+    })
+}
+
+// Value k of a field in occurrence o, whose content stands in the buffer up to `next` and means something: to the stage, or only tested.
+fn stage_value(
+    content: &[u8],
+    next: usize,
+    g: Given,
+    o: usize,
+    k: usize,
+    list: &mut [u16],
+    stage: &mut [u8],
+    s: Taking,
+) -> Taken
+    requires { ⌜ Convertible (g .format) (g .own) (g .standard) (now content) × (1 ≤ o) × (o ≤ highest-index) × (1 ≤ k) × (k ≤ highest-index) × ((es : List Entry) × (buffer : Bytes) × Gives es g × (s .at < next) × (next ≤ length buffer) × Ready es buffer (now list) (now stage) s) ⌝ }
+    ensures { λ r. ⌜ ((es : List Entry) (buffer : Bytes) → Gives es g → s .at < next → next ≤ length buffer → Roomy buffer (now (list .entry)) (now (stage .entry)) → Stages es buffer g o k (now (content .entry)) next s (now (list .entry)) (now (list .exit)) (now (stage .entry)) (now (stage .exit)) r) ⌝ }
+{
+    let from = if s.full { 0 } else { s.staged };
+    let put = filling::value::put_value(
+        content,
+        g.format,
+        g.own,
+        g.standard,
+        stage,
+        from,
+        stage.len(),
+        !s.full,
+    );
+    match put {
+        Next::Refused(x) => match x {
+            Refusal::BeyondBuffer => without_room(next, s),
+            _ => Taken::Refused(x),
+        },
+        Next::At(upto) => {
+            if s.full {
+                return without_room(next, s);
+            }
+            assignments::put(
+                list,
+                s.count,
+                Note {
+                    entry: g.entry,
+                    occurrence: o,
+                    value: k,
+                    bare: g.bare,
+                    from,
+                    upto,
+                },
+            );
+            Taken::At(Taking {
+                at: next,
+                staged: upto,
+                count: s.count + 1,
+                full: false,
+            })
+        }
+    }
+}
+
+// Value k of a field in occurrence o.
+fn take_value(
+    buffer: &[u8],
+    g: Given,
+    o: usize,
+    k: usize,
+    list: &mut [u16],
+    stage: &mut [u8],
+    s: Taking,
+) -> Taken
+    requires { ⌜ (1 ≤ o) × (o ≤ highest-index) × (1 ≤ k) × (k ≤ highest-index) × ((es : List Entry) × Gives es g × Ready es (now buffer) (now list) (now stage) s) ⌝ }
+    ensures { λ r. ⌜ ((es : List Entry) → Gives es g → Roomy (now (buffer .entry)) (now (list .entry)) (now (stage .entry)) → Takes es (now (buffer .entry)) (item-at (g .bare) (asked-given es g) o k ∷ []) s (now (list .entry)) (now (list .exit)) (now (stage .entry)) (now (stage .exit)) r) ⌝ }
+{
+    match values::first_value(buffer, s.at, g.size) {
+        FirstValue::Refused(x) => Taken::Refused(x),
+        FirstValue::Value(from, next) => {
+            if values::numbers::is_value(&buffer[from..next], g.format) {
+                return stage_value(&buffer[from..next], next, g, o, k, list, stage, s);
+            }
+            Taken::Refused(Refusal::BadValue)
+        }
+    }
+}
+
+// The values of a field in occurrence o, from value `first` to value `last`.
+fn take_values(
+    buffer: &[u8],
+    g: Given,
+    o: usize,
+    first: usize,
+    last: usize,
+    list: &mut [u16],
+    stage: &mut [u8],
+    s: Taking,
+) -> Taken
+    requires { ⌜ (1 ≤ o) × (o ≤ highest-index) × (1 ≤ first) × (last ≤ highest-index) × ((es : List Entry) × Gives es g × Ready es (now buffer) (now list) (now stage) s) ⌝ }
+    ensures { λ r. ⌜ ((es : List Entry) → Gives es g → Roomy (now (buffer .entry)) (now (list .entry)) (now (stage .entry)) → Takes es (now (buffer .entry)) (value-items (asked-given es g ∷ []) (just o) (from-to first last) (g .bare)) s (now (list .entry)) (now (list .exit)) (now (stage .entry)) (now (stage .exit)) r) ⌝ }
+{
+    let mut state = s;
+    let mut k = first;
+    while k <= last {
+        match take_value(buffer, g, o, k, list, stage, state) {
+            Taken::Refused(x) => {
+                return Taken::Refused(x);
+            }
+            Taken::At(next) => {
+                state = next;
+            }
+        }
+        k += 1;
+    }
+    Taken::At(state)
+}
+
+// The field of entry i, as a span asks for it.
+fn given_at(t: &[u8], i: usize, s: Span) -> Given
+    requires { ⌜ Valid (now t) × Good-span (entries-of (now t)) s × (s .first ≤ i) × (i < s .end) × (is-group (getD (entries-of (now t)) i blank .what) ≡ false) ⌝ }
+    ensures { λ g. ⌜ (g .entry ≡ i) × (g .bare ≡ s .bare) × Gives (entries-of (now (t .entry))) g × (asked-given (entries-of (now (t .entry))) g ≡ asked-as (s .standard) s (field-at (entries-of (now (t .entry))) i)) ⌝ }
+{
+    let e = tables::entry_at(t, i);
+    let own = e.format as usize;
+    let standard = e.size as usize;
+    if s.standard {
+        return Given {
+            entry: i,
+            format: own,
+            size: standard,
+            own,
+            standard,
+            bare: s.bare,
+        };
+    }
+    Given {
+        entry: i,
+        format: s.format,
+        size: s.size,
+        own,
+        standard,
+        bare: s.bare,
+    }
+}
+
+// Entry i of a span in occurrence o: a group takes nothing.
+fn take_entry(
+    t: &[u8],
+    buffer: &[u8],
+    u: Span,
+    i: usize,
+    o: usize,
+    list: &mut [u16],
+    stage: &mut [u8],
+    s: Taking,
+) -> Taken
+    requires { ⌜ Valid (now t) × Good-span (entries-of (now t)) u × (u .first ≤ i) × (i < u .end) × (1 ≤ o) × (o ≤ highest-index) × Ready (entries-of (now t)) (now buffer) (now list) (now stage) s ⌝ }
+    ensures { λ r. ⌜ Takes (entries-of (now (t .entry))) (now (buffer .entry)) (items-between (entries-of (now (t .entry))) u o i (i + 1)) s (now (list .entry)) (now (list .exit)) (now (stage .entry)) (now (stage .exit)) r ⌝ }
+{
+    if tables::group_at(t, i) {
+        return Taken::At(s);
+    }
+    take_values(
+        buffer,
+        given_at(t, i, u),
+        o,
+        u.value_from,
+        u.value_upto,
+        list,
+        stage,
+        s,
+    )
+}
+
+// The fields of a span in occurrence o.
+fn take_fields(
+    t: &[u8],
+    buffer: &[u8],
+    u: Span,
+    o: usize,
+    list: &mut [u16],
+    stage: &mut [u8],
+    s: Taking,
+) -> Taken
+    requires { ⌜ Valid (now t) × Good-span (entries-of (now t)) u × (1 ≤ o) × (o ≤ highest-index) × Ready (entries-of (now t)) (now buffer) (now list) (now stage) s ⌝ }
+    ensures { λ r. ⌜ Takes (entries-of (now (t .entry))) (now (buffer .entry)) (value-items (asked-of (entries-of (now (t .entry))) u) (just o) (from-to (u .«value_from») (u .«value_upto»)) (u .bare)) s (now (list .entry)) (now (list .exit)) (now (stage .entry)) (now (stage .exit)) r ⌝ }
+{
+    let mut state = s;
+    let mut i = u.first;
+    while i < u.end {
+        match take_entry(t, buffer, u, i, o, list, stage, state) {
+            Taken::Refused(x) => {
+                return Taken::Refused(x);
+            }
+            Taken::At(next) => {
+                state = next;
+            }
+        }
+        i += 1;
+    }
+    Taken::At(state)
+}
+
+// The occurrences of a span.
+pub fn take_occurrences(
+    t: &[u8],
+    buffer: &[u8],
+    u: Span,
+    list: &mut [u16],
+    stage: &mut [u8],
+    s: Taking,
+) -> Taken
+    requires { ⌜ Valid (now t) × Good-span (entries-of (now t)) u × Ready (entries-of (now t)) (now buffer) (now list) (now stage) s ⌝ }
+    ensures { λ r. ⌜ Takes (entries-of (now (t .entry))) (now (buffer .entry)) (value-items (asked-of (entries-of (now (t .entry))) u) (from-to (u .from) (u .upto)) (from-to (u .«value_from») (u .«value_upto»)) (u .bare)) s (now (list .entry)) (now (list .exit)) (now (stage .entry)) (now (stage .exit)) r ⌝ }
+{
+    let mut state = s;
+    let mut o = u.from;
+    while o <= u.upto {
+        match take_fields(t, buffer, u, o, list, stage, state) {
+            Taken::Refused(x) => {
+                return Taken::Refused(x);
+            }
+            Taken::At(next) => {
+                state = next;
+            }
+        }
+        o += 1;
+    }
+    Taken::At(state)
+}
