@@ -52,3 +52,18 @@ maximum-none = refl
 pub maximum-more : (x : ℕ) (xs : List ℕ) → maximum (x ∷ xs) ≡ max x (maximum xs)
 unfolding maximum
 maximum-more x xs = refl
+
+pub filter-nothing : (p : ℕ → Bool) (i n : ℕ) → ((m : ℕ) → i ≤ m → m < i + n → p m ≡ false) → filter p (count-from i n) ≡ []
+unfolding run
+filter-nothing p i zero h = filter-none p
+filter-nothing p i (suc n) h = filter-out p i _ (h i (omega arith) (omega arith)) ∙ filter-nothing p (suc i) n (λ m a b. h m (omega arith) (omega arith))
+
+pub maximum-most : (f : ℕ → ℕ) (p : ℕ → Bool) (most i n : ℕ) → ((m : ℕ) → i ≤ m → m < i + n → f m ≤ most) → maximum (map f (filter p (count-from i n))) ≤ most
+unfolding run
+maximum-most f p most i zero h = rw (filter-none p, maximum-none) (omega arith)
+maximum-most f p most i (suc n) h =
+    let rest = maximum-most f p most (suc i) n (λ m a b. h m (omega arith) (omega arith)) in
+    let here = h i (omega arith) (omega arith) in
+    by-test (p i)
+    (λ e. rw (filter-in p i _ e, maximum-more) (omega arith))
+    (λ e. rw (filter-out p i _ e) rest)

@@ -4,3 +4,5 @@ pub mod Listing
 pub mod Filters
 pub mod Searching
 pub mod Seeking
+pub mod Tallying
+pub mod Heights

@@ -58,6 +58,9 @@ assigned-field (a ∷ ws) p =
     (λ s. assigned-there a ws p s ∙ assigned-field ws p ∙ sym (assigned-there a (filter q ws) p s) ∙ ap (λ vs. assigned vs p) (sym (filter-in q a ws e))))
     (λ e. assigned-there a ws p (elsewhere (a .place) p e) ∙ assigned-field ws p ∙ ap (λ vs. assigned vs p) (sym (filter-out q a ws e)))
 
+pub assigned-cell : (es : List Entry) (ws : List Assignment) (i o k : ℕ) → assigned ws (place-at es i o k) ≡ assigned (to-field ws (getD es i blank .name) o) (place-at es i o k)
+assigned-cell es ws i o k = assigned-field ws (place-at es i o k) ∙ ap (λ n. assigned (to-field ws n o) (place-at es i o k)) (name-at es i)
+
 -- A note of a cell is one to a place there where it has the value of the place.
 pub same-value : (es : List Entry) (list : List ℕ) (stage : Bytes) (i o k m : ℕ) → in-cell list i o m ≡ true
     → same-place (noted es list stage m .place) (place-at es i o k) ≡ eqb (value-noted list m) k
@@ -72,13 +75,8 @@ Seeking list i o k n = (es : List Entry) (stage : Bytes) (staged : ℕ) (ws : Li
     × (T (differ (names es)) → i < length es → assigned ws (place-at es i o k) ≡ assigned (left es list stage i o w) (place-at es i o k))
 
 pub seek-start : (list : List ℕ) (i o k : ℕ) → Seeking list i o k (getD list (chain-of i o) 0)
-seek-start list i o k es stage staged ws x = (
-  walk-start x i o,
-  λ d h.
-      assigned-field ws (place-at es i o k)
-      ∙ ap (λ n. assigned (to-field ws n o) (place-at es i o k)) (name-at es i)
-      ∙ ap (λ vs. assigned vs (place-at es i o k)) (left-all x d i h o),
-)
+seek-start list i o k es stage staged ws x =
+    (walk-start x i o, λ d h. assigned-cell es ws i o k ∙ ap (λ vs. assigned vs (place-at es i o k)) (left-all x d i h o))
 
 module _ (list : List ℕ) (i o k n : ℕ) (s : Seeking list i o k n) where
   pub seek-end : n ≤ 0 → Assigned list i o k Nothing

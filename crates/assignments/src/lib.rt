@@ -111,3 +111,50 @@ pub fn assigned(list: &[u16], i: usize, o: usize, k: usize) -> Staged
     }
     Staged::Nothing
 }
+
+// What is named of entry i in occurrence o. At each value that is named stands one above the number of its note.
+pub fn named(list: &[u16], i: usize, o: usize, by: &mut [u16; VALUES]) -> Naming
+    requires { ⌜ Has-index (now list) × (i < most-entries) × (o ≤ highest-index) × (length (now by) ≡ highest-index + 1) × ((k : ℕ) → getD (now by) k 0 ≡ 0) ⌝ }
+    ensures { λ r. ⌜ Of-each (now (list .entry)) (λ es stage ws. i < length es → Names es (now (list .entry)) stage ws i o (now (by .exit)) r) ⌝ }
+{
+    let mut highest = 0;
+    let mut bare = true;
+    let mut n = list[chain_of(i, o)] as usize;
+    while 0 < n {
+        let at = NOTES + NUMBERS * (n - 1);
+        if in_cell(list, at, i, o) {
+            let k = list[at + 2] as usize;
+            if by[k] == 0 {
+                by[k] = n as u16;
+            }
+            if highest < k {
+                highest = k;
+            }
+            if list[at + 3] != 1 {
+                bare = false;
+            }
+        }
+        n = list[at + 6] as usize;
+    }
+    Naming {
+        highest,
+        bare: if highest == 0 { false } else { bare },
+    }
+}
+
+// The highest occurrence in which a field among the entries from first to end is named: 0 where none is.
+pub fn highest_occurrence(list: &[u16], first: usize, end: usize) -> usize
+    requires { ⌜ Has-index (now list) × (end ≤ most-entries) ⌝ }
+    ensures { λ r. ⌜ Highest (now (list .entry)) first end r × (r ≤ highest-index) ⌝ }
+{
+    let mut highest = 0;
+    let mut i = first;
+    while i < end {
+        let o = list[HIGHEST + i] as usize;
+        if highest < o {
+            highest = o;
+        }
+        i += 1;
+    }
+    highest
+}

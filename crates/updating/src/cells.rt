@@ -160,7 +160,31 @@ fn put_counted(
     requires { ⌜ Valid (now t) × (i < length (entries-of (now t))) × (is-multiple (getD (entries-of (now t)) i blank .what) ≡ true) × (o ≤ highest-index) × Has-cell (entries-of (now t)) (now b) (now list) (now stage) i o cell × Roomy at end (now out) ⌝ }
     ensures { λ n. ⌜ Puts-cell (entries-of (now (t .entry))) (now (b .entry)) (now (list .entry)) (now (stage .entry)) i o cell (λ w. cell-laid w o (field-at (entries-of (now (t .entry))) i)) at end (now (out .entry)) (now (out .exit)) n ⌝ }
 {
-    put_plain(t, b, list, stage, i, o, cell, out, at, end)
+    let e = tables::entry_at(t, i);
+    let old = old_values(b, cell);
+    let mut by = [0u16; assignments::VALUES];
+    let named = assignments::named(list, i, o, &mut by);
+    let n = if named.bare {
+        named.highest
+    } else {
+        larger(old.count, named.highest)
+    };
+    match put_count(n, out, at, end) {
+        Next::Refused(x) => Next::Refused(x),
+        Next::At(p) => put_values(
+            b,
+            list,
+            stage,
+            &by,
+            old,
+            n,
+            e.format as usize,
+            e.size as usize,
+            out,
+            p,
+            end,
+        ),
+    }
 }
 
 // The cell of entry i, a field that is not MU, in occurrence o.
