@@ -6,3 +6,4 @@ pub mod Fitting
 pub mod Sums
 pub mod BodyPlaces
 pub mod Staged
+pub mod OldValues
