@@ -7,3 +7,6 @@ pub mod Sums
 pub mod BodyPlaces
 pub mod Staged
 pub mod OldValues
+pub mod InRoom
+pub mod NewCells
+pub mod NewValues
