@@ -10,7 +10,7 @@ use Rattle.rules.specs.declared.Refusal.{Refusal}
 use Rattle.filling.specs.Filling.{in-room, together, Filling, Continues}
 use Rattle.filling.specs.declared.Next.{Next}
 use Rattle.filling.specs.declared.Next.the-variants.{At, Refused}
-use Rattle.filling.proofs.Continues.{continues-last, turn, turn-within, stop}
+use Rattle.filling.proofs.Continues.{continues-start, continues-last, turn, turn-within, stop}
 use Rattle.filling.proofs.Singles.{nothing-put}
 use Rattle.filling.proofs.Together.{together-one, together-done}
 
@@ -43,3 +43,17 @@ module _ (end : ℕ) (a l : Bytes) {whole : Outcome Bytes} {start at : ℕ} {out
 pub runs-end : (room : ℕ) {whole : Outcome Bytes} {start at : ℕ} {out₀ out left : Bytes} → Continues whole (in-room room (done left)) start at true out₀ out → left ≡ []
     → Filling whole start true out₀ out (At at)
 runs-end room {at = at} {out = out} {left} g e = continues-last g (nothing-put room at out true left e)
+
+-- Two runs, one after the other.
+module _ (end : ℕ) (a l : Bytes) {at : ℕ} {out out′ : Bytes} {n : Next} (f : Filling (in-room (end - at) (done a)) at true out out′ n) (fits : at ≤ end) (room : end ≤ length out) where
+  whole : Continues (in-room (end - at) (done (a ++ l))) (in-room (end - at) (done (a ++ l))) at at true out out
+  whole = continues-start (in-room (end - at) (done (a ++ l))) at true out
+
+  pub both-within : (at′ : ℕ) → n ≡ At at′ → at′ ≤ end
+  both-within at′ e = run-within end a l whole f fits room at′ e .1
+
+  pub both-on : (at′ : ℕ) → n ≡ At at′ → {out″ : Bytes} {m : Next} → Filling (in-room (end - at′) (done l)) at′ true out′ out″ m → Filling (in-room (end - at) (done (a ++ l))) at true out out″ m
+  both-on at′ e = continues-last (run-on end a l whole f fits room at′ e)
+
+  pub both-off : (x : Refusal) → n ≡ Refused x → Filling (in-room (end - at) (done (a ++ l))) at true out out′ (Refused x)
+  both-off = run-off end a l whole f fits room

@@ -1,16 +1,18 @@
 -- A cell of the new record, by the numbers that the code has of its entry: each value is what is assigned to it, or what the cell had, or null.
 use mathlib.Core.Path.{_≡_, refl, sym, _∙_, ap}
 use mathlib.Core.Bool.{Bool, true, false, false≢true}
-use mathlib.Core.List.{List, [], _∷_}
-use Prim.Native.Nat.{ℕ, pred, _<_}
-use lib.ListN.{length, drop, getD}
-use Rattle.rules.specs.Limits.{formats}
-use Rattle.rules.specs.Lists.{Bytes}
+use mathlib.Core.List.{List, [], _∷_, _++_}
+use mathlib.Core.Option.{Option}
+use Prim.Native.Nat.{ℕ, zero, suc, pred, max, _+_, _≤_, _<_}
+use native.Mathlib.Omega.{arith}
+use lib.ListN.{length, drop, getD, replicate}
+use Rattle.rules.specs.Limits.{formats, highest-index, greatest-count}
+use Rattle.rules.specs.Lists.{Bytes, join, run}
 use Rattle.rules.specs.Values.{allowed, null}
 use Rattle.rules.specs.Table.{Entry, Field, parts}
 use Rattle.rules.specs.Use.{Place}
-use Rattle.rules.specs.Record.{Record, count-or-one, counted, stored-value, stored-cell, values-at, value-at}
-use Rattle.rules.specs.Update.{Assignment, assigned, new-value, update-plan}
+use Rattle.rules.specs.Record.{Record, count-or-one, counted, stored-value, stored-cell, count-bytes, values-at, value-at, value-count-at}
+use Rattle.rules.specs.Update.{Assignment, assigned, new-value, new-value-count, update-plan}
 use Rattle.rules.proofs.Steps.{by-option}
 use Rattle.value_formats.specs.Formats.{format-at}
 use Rattle.value_formats.proofs.Letters.{number-back}
@@ -24,9 +26,24 @@ use Rattle.records.specs.declared.places.Cell.the-variants.{At, Nothing}
 use Rattle.records.proofs.Cells.{counted-once}
 use Rattle.records.proofs.Placed.{by-field, field-is, cell-numbers}
 use Rattle.assignments.specs.Notes.{place-at}
-use Rattle.updating.specs.Laid.{cell-laid}
-use Rattle.updating.specs.New.{Was, Had, taken}
-use Rattle.updating.proofs.Turns.{plain-cell}
+use Rattle.assignments.specs.Answers.{Names, bytes-noted}
+use Rattle.assignments.specs.declared.Naming.{Naming}
+use Rattle.updating.specs.Laid.{values-laid, cell-laid}
+use Rattle.updating.specs.New.{Assigns, Was, Had, taken, new-values}
+use Rattle.updating.proofs.Turns.{plain-cell, multiple-cell}
+
+-- A stored count is an index, and an index can be a count.
+pub counts-and-indexes : (greatest-count ≤ highest-index) × (highest-index ≤ greatest-count)
+counts-and-indexes = (omega arith, omega arith)
+
+pub larger-index : (a b : ℕ) → a ≤ greatest-count → b ≤ highest-index → max a b ≤ highest-index
+larger-index a b h h₂ = let c = counts-and-indexes .0 in omega arith
+
+-- No value has a note yet.
+pub no-notes : (n k : ℕ) → _≡_ {A = ℕ} (getD (replicate n 0) k 0) 0
+no-notes zero k = refl
+no-notes (suc n) zero = refl
+no-notes (suc n) (suc k) = no-notes n k
 
 new-taken : (ws : List Assignment) (old : Bytes) (p : Place) → new-value ws old p ≡ taken (assigned ws p) old
 unfolding new-value
@@ -72,3 +89,42 @@ module _ (es : List Entry) (i : ℕ) (what : is-group (getD es i blank .what) �
         plain-laid ws =
             plain-cell (update-plan (parts es) r ws) o (field-at es i) (rw field-numbers plain) (once (field-at es i .multiple) _ (rw field-numbers plain))
             ∙ new-taken ws (value-at (parts es) r (field-at es i) o 1) (place-at es i o 1) ∙ ap (taken (assigned ws (place-at es i o 1))) (old-value 1)
+
+      -- An MU field: its count, and as many values.
+      module _ (multiple : is-multiple (getD es i blank .what) ≡ true) where
+        pub multiple-had : (c : Cell) → Cell-of es b i o r c → Had b (format-at (e .format)) (e .size) had c
+        multiple-had (At q) x = (x .0, x .1, rw multiple at (sym (cell-read (drop q b)) ∙ x .2))
+        multiple-had Nothing x = x
+
+        module _ (list : List ℕ) (stage : Bytes) (ws : List Assignment) (by : List ℕ) (named : Naming) (names : Names es list stage ws i o by named) where
+          counted-new : update-plan (parts es) r ws .values (field-at es i) o ≡ new-value-count ws (getD es i blank .name) o (length had)
+          unfolding update-plan value-count-at count-or-one
+          counted-new = rw (field-numbers, multiple) refl
+
+          -- By bare names only the count is the number of names, which is the highest value.
+          pub count-bare : Assigns es list stage ws → named .bare ≡ true → update-plan (parts es) r ws .values (field-at es i) o ≡ named .highest
+          unfolding new-value-count
+          count-bare a t =
+              let t₂ = sym (names .bare) ∙ t in
+              counted-new ∙ rw (t₂, new-value-count) (a .bare (getD es i blank .name) o t₂ ∙ sym (names .highest))
+
+          pub count-larger : named .bare ≡ false → update-plan (parts es) r ws .values (field-at es i) o ≡ max (length had) (named .highest)
+          unfolding new-value-count
+          count-larger t = let t₂ = sym (names .bare) ∙ t in counted-new ∙ rw (t₂, new-value-count, names .highest) refl
+
+          value-new : (k : ℕ) → k ≤ highest-index
+              → update-plan (parts es) r ws .value (field-at es i) o k ≡ taken (bytes-noted es list stage (getD by k 0)) (getD had (pred k) (null (format-at (e .format)) (e .size)))
+          unfolding update-plan
+          value-new k h =
+              new-taken ws (value-at (parts es) r (field-at es i) o k) (place-at es i o k) ∙ ap (taken (assigned ws (place-at es i o k))) (old-value k)
+              ∙ ap (λ (x : Option Bytes). taken x (getD had (pred k) (null (format-at (e .format)) (e .size)))) (names .each k h)
+
+          values-new : (k n : ℕ) → k + n ≤ suc highest-index
+              → values-laid (update-plan (parts es) r ws) (field-at es i) o k n ≡ new-values es list stage by (format-at (e .format)) (e .size) had k n
+          unfolding values-laid new-values run join
+          values-new k zero h = refl
+          values-new k (suc n) h = rw (value-new k (omega arith), values-new (suc k) n (omega arith)) refl
+
+          pub multiple-laid : (n : ℕ) → update-plan (parts es) r ws .values (field-at es i) o ≡ n → n ≤ highest-index
+              → cell-laid (update-plan (parts es) r ws) o (field-at es i) ≡ count-bytes n ++ new-values es list stage by (format-at (e .format)) (e .size) had 1 n
+          multiple-laid n c h = multiple-cell (update-plan (parts es) r ws) o (field-at es i) (rw field-numbers multiple) ∙ rw (c, values-new 1 n (omega arith)) refl

@@ -3,7 +3,7 @@ ghost use mathlib.Core.Path.{_≡_};
 ghost use mathlib.Core.Bool.{true, false};
 ghost use mathlib.Core.List.{List};
 ghost use mathlib.Core.Option.{Option};
-ghost use Prim.Native.Nat.{ℕ, _+_, _-_, _≤_, _<_, max};
+ghost use Prim.Native.Nat.{ℕ, _-_, _≤_, _<_, max};
 ghost use lib.ListN.{length, getD};
 ghost use Rattle.rules.specs.Outcome.{done};
 ghost use Rattle.rules.specs.Limits.{formats, highest-index, greatest-count};
@@ -103,7 +103,7 @@ fn put_values(
     at: usize,
     end: usize,
 ) -> Next
-    requires { ⌜ (format < formats) × (allowed (format-at format) size ≡ true) × (n ≤ highest-index) × (length (now by) ≡ highest-index + 1) × ((es : List Entry) × Notes-by es (now list) (now stage) (now by)) × ((vs : List Bytes) × Old (now b) (format-at format) size vs old) × Roomy at end (now out) ⌝ }
+    requires { ⌜ (format < formats) × (allowed (format-at format) size ≡ true) × (n ≤ highest-index) × ((es : List Entry) × Notes-by es (now list) (now stage) (now by)) × ((vs : List Bytes) × Old (now b) (format-at format) size vs old) × Roomy at end (now out) ⌝ }
     ensures { λ r. ⌜ ((es : List Entry) (vs : List Bytes) → Notes-by es (now (list .entry)) (now (stage .entry)) (now (by .entry)) → Old (now (b .entry)) (format-at format) size vs old → Filling (in-room (end - at) (done (new-values es (now (list .entry)) (now (stage .entry)) (now (by .entry)) (format-at format) size vs 1 n))) at true (now (out .entry)) (now (out .exit)) r) ⌝ }
 {
     let mut q = old.from;

@@ -63,7 +63,7 @@ loop-holds : tie.Need-loop-holds Inv-loop μ-loop
 loop-holds c es vs x y =
     let s = c .before .before .before .before in
     let a = s .args in
-    putting-start es (a .list .now) (a .stage .now) (a .by .now) (format-at (a .format)) (a .size) vs (a .b .now) (a .old) y (a .n) (a .end) (a .at) (a .out .now) (s .pre .6 .0) (s .pre .6 .1)
+    putting-start es (a .list .now) (a .stage .now) (a .by .now) (format-at (a .format)) (a .size) vs (a .b .now) (a .old) y (a .n) (a .end) (a .at) (a .out .now) (s .pre .5 .0) (s .pre .5 .1)
 
 mul-bytes-of : tie.Need-mul-bytes-of Inv-loop μ-loop
 mul-bytes-of c = search needs
@@ -74,21 +74,21 @@ element-copy-out-bytes-of c = search needs
 cast-bytes-of : tie.Need-cast-bytes-of Inv-loop μ-loop
 cast-bytes-of c =
     let l = c .before .before .before .before in
-    let x = start l .pre .4 .1 in
+    let x = start l .pre .3 .1 in
     omega (arith, x .few (l .loop .k), x .indexed .listed .few)
 
 bytes-of-requires : tie.Need-bytes-of-requires Inv-loop μ-loop
 bytes-of-requires c κs =
     let l = c .before .before .before .before in
-    let x = start l .pre .4 .1 in
-    (start l .pre .4 .0, start l .args .stage .now, x .staged, x .assigned, x .indexed, x .few (l .loop .k))
+    let x = start l .pre .3 .1 in
+    (start l .pre .3 .0, start l .args .stage .now, x .staged, x .assigned, x .indexed, x .few (l .loop .k))
 
 put-value-requires : tie.Need-put-value-requires Inv-loop μ-loop
 put-value-requires c κs =
     let d = c .before in
     let s = start (turn d) in
-    let e = s .pre .4 in
-    let v = s .pre .5 in
+    let e = s .pre .3 in
+    let v = s .pre .4 in
     let g = turn d .loop .inv (e .0) (v .0) (e .1) (v .1) in
     (s .pre .0, s .pre .1, (_, stands d (e .0) (e .1)), (_, was d (e .0) (v .0) (e .1) (v .1)), (g .fits, g .room))
 
@@ -99,7 +99,7 @@ same-length : tie.Need-same-length Inv-loop μ-loop
 same-length c =
     let d = c .before .before .before .before .before .before .before in
     let s = start (turn d) in
-    let g = turn d .loop .inv (s .pre .4 .0) (s .pre .5 .0) (s .pre .4 .1) (s .pre .5 .1) .continues .same in
+    let g = turn d .loop .inv (s .pre .3 .0) (s .pre .4 .0) (s .pre .3 .1) (s .pre .4 .1) .continues .same in
     omega arith
 
 returns : tie.Need-returns Inv-loop μ-loop
@@ -119,9 +119,9 @@ values-end-requires c κs =
     let s = start l in
     let a = s .args in
     let f = format-at (a .format) in
-    let v = s .pre .5 in
-    let g = l .loop .inv (s .pre .4 .0) (v .0) (s .pre .4 .1) (v .1) in
-    let w = stands-next (s .pre .4 .0) (a .list .now) (a .stage .now) (a .by .now) f (a .size) (v .0) g (v .1) (leb-true _ _ (c .if2 .taken)) in
+    let v = s .pre .4 in
+    let g = l .loop .inv (s .pre .3 .0) (v .0) (s .pre .3 .1) (v .1) in
+    let w = stands-next (s .pre .3 .0) (a .list .now) (a .stage .now) (a .by .now) f (a .size) (v .0) g (v .1) (leb-true _ _ (c .if2 .taken)) in
     (g .were .0, (f, was-ends (a .b .now) f (a .size) (getD (v .0) (g .put) (null f (a .size))) (l .loop .q) w))
 
 add-k : tie.Need-add-k Inv-loop μ-loop
@@ -154,7 +154,7 @@ loop-again c es vs x y =
     (c .before .before .before .before .before .before .put-value .ensures _ _ (stands d es x) (was d es vs x y)) _ (c .before .before .next .given .1) _ (were c es vs x y)
 
 same-length-2 : tie.Need-same-length-2 Inv-loop μ-loop
-same-length-2 c = let s = start (c .before) in c .before .loop .inv (s .pre .4 .0) (s .pre .5 .0) (s .pre .4 .1) (s .pre .5 .1) .continues .same
+same-length-2 c = let s = start (c .before) in c .before .loop .inv (s .pre .3 .0) (s .pre .4 .0) (s .pre .3 .1) (s .pre .4 .1) .continues .same
 
 returns-2 : tie.Need-returns-2 Inv-loop μ-loop
 returns-2 c es vs x y =
