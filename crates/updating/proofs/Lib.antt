@@ -9,3 +9,7 @@ pub mod Fitting
 pub mod Sums
 pub mod BodyPlaces
 pub mod Staged
+pub mod OldValues
+pub mod InRoom
+pub mod NewCells
+pub mod NewValues

@@ -3,7 +3,7 @@ ghost use mathlib.Core.Path.{_≡_};
 ghost use mathlib.Core.Bool.{true, false};
 ghost use mathlib.Core.List.{List};
 ghost use mathlib.Core.Option.{Option};
-ghost use Prim.Native.Nat.{ℕ, _+_, _-_, _≤_, _<_, max};
+ghost use Prim.Native.Nat.{ℕ, _-_, _≤_, _<_, max};
 ghost use lib.ListN.{length, getD};
 ghost use Rattle.rules.specs.Outcome.{done};
 ghost use Rattle.rules.specs.Limits.{formats, highest-index, greatest-count};
@@ -103,7 +103,7 @@ fn put_values(
     at: usize,
     end: usize,
 ) -> Next
-    requires { ⌜ (format < formats) × (allowed (format-at format) size ≡ true) × (n ≤ highest-index) × (length (now by) ≡ highest-index + 1) × ((es : List Entry) × Notes-by es (now list) (now stage) (now by)) × ((vs : List Bytes) × Old (now b) (format-at format) size vs old) × Roomy at end (now out) ⌝ }
+    requires { ⌜ (format < formats) × (allowed (format-at format) size ≡ true) × (n ≤ highest-index) × ((es : List Entry) × Notes-by es (now list) (now stage) (now by)) × ((vs : List Bytes) × Old (now b) (format-at format) size vs old) × Roomy at end (now out) ⌝ }
     ensures { λ r. ⌜ ((es : List Entry) (vs : List Bytes) → Notes-by es (now (list .entry)) (now (stage .entry)) (now (by .entry)) → Old (now (b .entry)) (format-at format) size vs old → Filling (in-room (end - at) (done (new-values es (now (list .entry)) (now (stage .entry)) (now (by .entry)) (format-at format) size vs 1 n))) at true (now (out .entry)) (now (out .exit)) r) ⌝ }
 {
     let mut q = old.from;
@@ -160,7 +160,31 @@ fn put_counted(
     requires { ⌜ Valid (now t) × (i < length (entries-of (now t))) × (is-multiple (getD (entries-of (now t)) i blank .what) ≡ true) × (o ≤ highest-index) × Has-cell (entries-of (now t)) (now b) (now list) (now stage) i o cell × Roomy at end (now out) ⌝ }
     ensures { λ n. ⌜ Puts-cell (entries-of (now (t .entry))) (now (b .entry)) (now (list .entry)) (now (stage .entry)) i o cell (λ w. cell-laid w o (field-at (entries-of (now (t .entry))) i)) at end (now (out .entry)) (now (out .exit)) n ⌝ }
 {
-    put_plain(t, b, list, stage, i, o, cell, out, at, end)
+    let e = tables::entry_at(t, i);
+    let old = old_values(b, cell);
+    let mut by = [0u16; assignments::VALUES];
+    let named = assignments::named(list, i, o, &mut by);
+    let n = if named.bare {
+        named.highest
+    } else {
+        larger(old.count, named.highest)
+    };
+    match put_count(n, out, at, end) {
+        Next::Refused(x) => Next::Refused(x),
+        Next::At(p) => put_values(
+            b,
+            list,
+            stage,
+            &by,
+            old,
+            n,
+            e.format as usize,
+            e.size as usize,
+            out,
+            p,
+            end,
+        ),
+    }
 }
 
 // The cell of entry i, a field that is not MU, in occurrence o.
