@@ -28,8 +28,7 @@ fn output_area() -> [u8; LINE_SIZE]
     [0; LINE_SIZE]
 }
 
-// The number and the length that a service returned. What is no call has no known answer, and so has an update until that
-// service is there.
+// The number and the length that a service returned. What is no call has no known answer.
 struct Answered {
     number: u8,
     length: usize,
@@ -66,7 +65,12 @@ fn answer_update(
 ) -> Answered
     ensures { λ r. ⌜ r .length ≤ length (now (room .entry)) ⌝ }
 {
-    no_call()
+    let answer = lyrecanyon::update(table, record, format, buffer, room);
+    Answered {
+        number: answer.number(),
+        length: answer.length(),
+        known: true,
+    }
 }
 
 fn answer_empty(table: &[u8], room: &mut [u8]) -> Answered
