@@ -9,4 +9,5 @@ pub mod Sharing
 pub mod Numbers
 pub mod Decoding
 pub mod Meeting
+pub mod Marking
 pub mod Together

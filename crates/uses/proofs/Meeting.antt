@@ -88,6 +88,12 @@ module _ (es : List Entry) (kept : List ℕ) (u : Use) (i : ℕ) (f : Bytes) whe
     pub met-elsewhere : b ≡ false → met-by (uses-kept es f kept (i - 1)) (use-meant es f u) ≡ met-by (uses-kept es f kept i) (use-meant es f u)
     met-elsewhere t = sym (met-first ∙ rw t)
 
+-- None of the first n uses names what a use names.
+pub none-before : (es : List Entry) (kept : List ℕ) (u : Use) (n : ℕ) → ((i : ℕ) → i < n → Alike es (use-at kept i) u false) → Met es kept n u false
+none-before es kept u zero h f = sym (met-none es f kept (use-meant es f u))
+none-before es kept u (suc n) h f =
+    sym (met-last es f kept n (use-meant es f u) ∙ rw (← h n (omega arith) f, ← none-before es kept u n (λ i l. h i (omega arith)) f))
+
 -- A use in other words.
 pub alike-as : (es : List Entry) (v : Use) {u u′ : Use} {r : Bool} → u ≡ u′ → Alike es u′ v r → Alike es u v r
 alike-as es v {r = r} e a = subst (λ (w : Use). Alike es w v r) (sym e) a

@@ -25,17 +25,21 @@ use Rattle.uses.specs.declared.Use.the-variants as code
 use Rattle.uses.proofs.Spreading.{ordered-within}
 use Rattle.uses.proofs.Sharing.{from-or}
 
--- Numbers set from a place on: those before it, and those set.
-sets-below : (vs l : List ℕ) (at k : ℕ) → k < at → getD (sets l at vs) k 0 ≡ getD l k 0
+-- Numbers set from a place on: those before it, those set, and those behind them.
+pub sets-below : (vs l : List ℕ) (at k : ℕ) → k < at → getD (sets l at vs) k 0 ≡ getD l k 0
 sets-below [] l at k h = refl
 sets-below (v ∷ vs) l at k h = sets-below vs (set l at v) (suc at) k (omega arith) ∙ getD-set-other l at k v 0 (λ e. absurd (omega arith))
 
-sets-at : (vs l : List ℕ) (at j k : ℕ) → k ≡ at + j → at + length vs ≤ length l → j < length vs → getD (sets l at vs) k 0 ≡ getD vs j 0
+pub sets-at : (vs l : List ℕ) (at j k : ℕ) → k ≡ at + j → at + length vs ≤ length l → j < length vs → getD (sets l at vs) k 0 ≡ getD vs j 0
 sets-at [] l at j k e h i = absurd (omega arith)
 sets-at (v ∷ vs) l at zero k e h i =
     let q : k ≡ at = omega arith in
     ap (λ n. getD (sets l at (v ∷ vs)) n 0) q ∙ sets-below vs (set l at v) (suc at) at (omega arith) ∙ getD-set-same l at v 0 (omega arith)
 sets-at (v ∷ vs) l at (suc j) k e h i = sets-at vs (set l at v) (suc at) j k (omega arith) (rw (length-set l at v) (omega arith)) (omega arith)
+
+pub sets-above : (vs l : List ℕ) (at k : ℕ) → at + length vs ≤ k → getD (sets l at vs) k 0 ≡ getD l k 0
+sets-above [] l at k h = refl
+sets-above (v ∷ vs) l at k h = sets-above vs (set l at v) (suc at) k (omega arith) ∙ getD-set-other l at k v 0 (λ e. absurd (omega arith))
 
 pub three-sets : (l : List ℕ) (at a b c : ℕ) → set (set (set l at a) (at + 1) b) (at + 2) c ≡ sets l at (a ∷ b ∷ c ∷ [])
 three-sets l at a b c =
@@ -198,7 +202,7 @@ allowed-small packed n e = let q = leb→le n longest-packed (and-right (leb 1 n
 allowed-small unpacked n e = let q = leb→le n longest-unpacked (and-right (leb 1 n) (leb n longest-unpacked) (true-T e)) in omega arith
 
 module _ (es : List Entry) (l : length es ≤ most-entries) where
-  span-small : {s : Span} → Good-span es s → Small-span s
+  pub span-small : {s : Span} → Good-span es s → Small-span s
   span-small {s} h =
       let o = ordered-within (range (s .from) (s .upto)) (h .occurrences) in
       let v = ordered-within (range (s .«value_from») (s .«value_upto»)) (h .values) in

@@ -79,6 +79,17 @@ share-any : (fs gs : List Asked) → share fs gs ≡ any (λ a. any (λ b. eqb (
 unfolding share
 share-any fs gs = refl
 
+-- A field that two spans share is one entry of both: entries of one name are one entry.
+pub from-shared : {C : Type 0} (es : List Entry) (first end low high : ℕ) → end ≤ length es → high ≤ length es
+    → ((j k : ℕ) → j < length es → k < length es → getD es j blank .name ≡ getD es k blank .name → j ≡ k)
+    → share (stored-fields es first end) (stored-fields es low high) ≡ true
+    → ((j : ℕ) → first ≤ j → j < end → low ≤ j → j < high → is-group (getD es j blank .what) ≡ false → C) → C
+from-shared es first end low high l m one t k =
+    from-any es _ end first end (omega arith) l (sym (share-any _ _) ∙ t) λ j a b g u.
+    from-any es _ high low high (omega arith) m u λ i c d q v.
+    let e : j ≡ i = one j i (omega arith) (omega arith) (sym (stored-name es j) ∙ eqb→eq _ _ (true-T v) ∙ stored-name es i) in
+    k j a b (omega arith) (omega arith) g
+
 -- The entries of both spans before entry i are groups.
 pub record Apart (es : List Entry) (first low i : ℕ) : Type 0 where
   pub first-in : first ≤ i
@@ -104,15 +115,11 @@ module _ {es : List Entry} {first low i : ℕ} (w : Apart es first low i) where
         ∙ any-at es _ (i - first) first end i (omega (arith, w .first-in)) c l g
         (any-at es _ (i - low) low high i (omega (arith, w .low-in)) d m g (eqb-same (as-stored (field-at es i) .field .name)))
 
-    -- Entries of one name are one entry.
     pub apart : ((j k : ℕ) → j < length es → k < length es → getD es j blank .name ≡ getD es k blank .name → j ≡ k) → min end high ≤ i
         → share (stored-fields es first end) (stored-fields es low high) ≡ false
     apart one h =
         by-test (share (stored-fields es first end) (stored-fields es low high))
-        (λ t. from-any es _ end first end (omega arith) l (sym (share-any _ _) ∙ t) λ j a b g u.
-        from-any es _ high low high (omega arith) m u λ k c d q v.
-        let e : j ≡ k = one j k (omega arith) (omega arith) (sym (stored-name es j) ∙ eqb→eq _ _ (true-T v) ∙ stored-name es k) in
-        absurd (true≢false (sym (w .groups j a (omega arith) (omega arith)) ∙ g)))
+        (λ t. from-shared es first end low high l m one t λ j a b c d g. absurd (true≢false (sym (w .groups j a c (omega arith)) ∙ g)))
         (λ t. t)
 
 -- A span that is one field is that entry alone, and its field is compared by its name.
@@ -148,7 +155,7 @@ module _ {es : List Entry} {a b : Span} (h : Good-span es a) (k : Good-span es b
   abbrev values-met : Bool
   values-met = meet (range (a .«value_from») (a .«value_upto»)) (range (b .«value_from») (b .«value_upto»))
 
-  spans-met : (f : Bytes) → name-alike (use-meant es f (Values a)) (use-meant es f (Values b)) ≡ (fields-met && occurrences-met && values-met)
+  pub spans-met : (f : Bytes) → name-alike (use-meant es f (Values a)) (use-meant es f (Values b)) ≡ (fields-met && occurrences-met && values-met)
   unfolding name-alike
   spans-met f = ap (λ c. c && occurrences-met && values-met) (left-stored es a h (asked-of es b) ∙ right-stored es b k _)
 

@@ -1,8 +1,10 @@
 // The use rules: what an element means by a valid table, or why it is refused.
+mod boxes;
 mod effect;
 pub mod kept;
 mod meaning;
 mod memory;
+mod ranges;
 mod spread;
 pub mod twice;
 

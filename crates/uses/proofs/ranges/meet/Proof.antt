@@ -1,8 +1,8 @@
--- `uses::twice::meet` meets its contract: each range begins before the other ends.
+-- `uses::ranges::meet` meets its contract: each range begins before the other ends.
 use borrow.Author.Tests.{le-leb, lt-leb}
 use Rattle.rules.specs.Update.{meet}
-use Rattle.uses.proofs.twice.meet.Statement.{statement}
-use Rattle.uses.proofs.twice.meet.Tie as tie
+use Rattle.uses.proofs.ranges.meet.Statement.{statement}
+use Rattle.uses.proofs.ranges.meet.Tie as tie
 
 returns : tie.Need-returns
 unfolding meet
