@@ -1,6 +1,6 @@
 -- What a test leaves of a list, and the greatest of what is left.
 use mathlib.Core.Path.{_≡_, refl, sym, ap, _∙_}
-use mathlib.Core.Bool.{Bool, true, false, _||_}
+use mathlib.Core.Bool.{Bool, true, false}
 use mathlib.Core.List.{List, [], _∷_, map}
 use Prim.Native.Nat.{ℕ, zero, suc, _+_, _<_, _≤_, max}
 use native.Mathlib.Omega.{arith}
@@ -25,6 +25,16 @@ filter-map f p [] = filter-none p ∙ sym (ap (map f) (filter-none (λ x. p (f x
 filter-map f p (x ∷ xs) = by-test (p (f x))
     (λ e. filter-in p (f x) (map f xs) e ∙ ap (_∷_ (f x)) (filter-map f p xs) ∙ sym (ap (map f) (filter-in (λ y. p (f y)) x xs e)))
     (λ e. filter-out p (f x) (map f xs) e ∙ filter-map f p xs ∙ sym (ap (map f) (filter-out (λ y. p (f y)) x xs e)))
+
+pub filter-alike : {A : Type 0} (p q : A → Bool) → ((x : A) → p x ≡ q x) → (xs : List A) → filter p xs ≡ filter q xs
+filter-alike p q h [] = filter-none p ∙ sym (filter-none q)
+filter-alike p q h (x ∷ xs) = by-test (p x)
+    (λ e. filter-in p x xs e ∙ ap (_∷_ x) (filter-alike p q h xs) ∙ sym (filter-in q x xs (sym (h x) ∙ e)))
+    (λ e. filter-out p x xs e ∙ filter-alike p q h xs ∙ sym (filter-out q x xs (sym (h x) ∙ e)))
+
+pub map-alike : {A B : Type 0} (f g : A → B) → ((x : A) → f x ≡ g x) → (xs : List A) → map f xs ≡ map g xs
+map-alike f g h [] = refl
+map-alike f g h (x ∷ xs) = ap (λ y. y ∷ map f xs) (h x) ∙ ap (_∷_ (g x)) (map-alike f g h xs)
 
 -- The numbers from i on, n of them.
 abbrev pub count-from : ℕ → ℕ → List ℕ

@@ -1,16 +1,16 @@
 -- The highest occurrence named of the fields among some entries: the higher of that of the first entry and that of the others.
-use mathlib.Core.Path.{_≡_, refl, sym, ap, subst, _∙_}
+use mathlib.Core.Path.{_≡_, refl, sym, ap, _∙_}
 use mathlib.Core.Bool.{Bool, true, false, not, _||_, true≢false}
 use mathlib.Core.List.{List, [], _∷_, map}
-use Prim.Native.Nat.{ℕ, zero, suc, _+_, _<_, _≤_, max}
+use Prim.Native.Nat.{ℕ, suc, _+_, _<_, _≤_, max}
 use native.Mathlib.Omega.{arith}
 use native.Mathlib.Numerals.{add-one}
 use lib.Dec.{T, eqb}
-use lib.ListN.{length, getD, drop, take, drop-of-length-le}
+use lib.ListN.{length, getD, take, drop-of-length-le}
 use lib.Seq.{slice, slice-cons, length-take-le}
 use Rattle.rules.specs.Limits.{most-entries, highest-index}
-use Rattle.rules.specs.Lists.{Bytes, absent, filter, maximum, run}
-use Rattle.rules.specs.Table.{What, field, group, Field, Entry, Part, member, differ, names}
+use Rattle.rules.specs.Lists.{Bytes, absent, filter, maximum}
+use Rattle.rules.specs.Table.{What, field, group, Field, Entry, member, differ, names}
 use Rattle.rules.specs.Update.{Assignment, to-part, highest-occurrence}
 use Rattle.rules.proofs.Steps.{by-test}
 use Rattle.tables.specs.Entries.{blank, is-group}

@@ -6,3 +6,5 @@ pub mod Searching
 pub mod Seeking
 pub mod Tallying
 pub mod Heights
+pub mod Linking
+pub mod Indexing

@@ -3,7 +3,7 @@
 use mathlib.Core.Path.{_≡_, refl, sym, ap, _∙_}
 use mathlib.Core.Bool.{Bool, true, false, cond}
 use mathlib.Core.List.{List, [], _∷_, _++_, append-assoc}
-use Prim.Native.Nat.{ℕ, zero, suc, _+_, _*_, _<_, _≤_}
+use Prim.Native.Nat.{ℕ, suc, _+_, _<_, _≤_}
 use native.Mathlib.Omega.{arith}
 use native.Mathlib.Numerals.{add-one}
 use lib.Dec.{eqb}
@@ -17,7 +17,7 @@ use Rattle.buffer.specs.Splice.{splice}
 use Rattle.buffer.proofs.Laws.{length-splice}
 use Rattle.buffer.proofs.Cases.{by-order}
 use Rattle.tables.specs.Entries.{blank, is-group}
-use Rattle.assignments.specs.Notes.{note-place, numbers, place-at, noted, Good-note, Listed, Unindexed, entry-noted, occurrence-noted, value-noted, bare-noted, from-noted, upto-noted}
+use Rattle.assignments.specs.Notes.{note-place, numbers, place-at, noted, Good-note, Listed, Unindexed, entry-noted, occurrence-noted, value-noted, from-noted, upto-noted}
 use Rattle.assignments.specs.declared.Note.{Note}
 use Rattle.assignments.proofs.Setting.{sets-below, sets-at}
 use Rattle.assignments.proofs.Runs.{run-last, run-agree}

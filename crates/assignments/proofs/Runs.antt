@@ -1,9 +1,8 @@
 -- Lists by their numbers: a run with one more at its end, and two runs of what agrees.
-use mathlib.Core.Path.{_≡_, refl, sym, ap, _∙_}
+use mathlib.Core.Path.{_≡_, refl, ap, _∙_}
 use mathlib.Core.List.{List, [], _∷_, _++_}
 use Prim.Native.Nat.{ℕ, zero, suc, _+_, _<_, _≤_}
 use native.Mathlib.Omega.{arith}
-use lib.ListN.{length}
 use Rattle.rules.specs.Lists.{run}
 
 module _ {A : Type 0} (f : ℕ → A) where

@@ -1,25 +1,22 @@
 -- A walk over the chain of a cell: the notes of the cell that are left, as assignments, are those of the field in the occurrence from the
 -- first on.
-use mathlib.Core.Path.{_≡_, refl, sym, ap, subst, _∙_}
+use mathlib.Core.Path.{_≡_, refl, sym, ap, _∙_}
 use mathlib.Core.Bool.{Bool, true, false, _&&_}
 use mathlib.Core.List.{List, [], _∷_, map}
-use mathlib.Core.Option.{Option, none, some}
-use Prim.Native.Nat.{ℕ, zero, suc, _+_, _-_, _*_, _%_, _<_, _≤_}
+use Prim.Native.Nat.{ℕ, zero, suc, _+_, _-_, _<_, _≤_}
 use native.Mathlib.Omega.{arith}
 use lib.Dec.{T, eqb}
 use lib.ListN.{length, getD}
-use lib.Seq.{slice}
 use Rattle.rules.specs.Limits.{longest-new-record}
 use Rattle.rules.specs.Lists.{Bytes, filter}
 use Rattle.rules.specs.Table.{Entry, differ, names}
 use Rattle.rules.specs.Update.{Assignment, to-field}
 use Rattle.rules.proofs.Steps.{by-test, T-true, eqb-same}
 use Rattle.tables.specs.Entries.{blank}
-use Rattle.tables.specs.Groups.{field-at}
 use Rattle.tables.proofs.EntryFields.{name-at}
 use Rattle.tables.proofs.Names.{one-name}
 use borrow.Author.Tests.{eqb-true, eqb-false, ne-eqb}
-use Rattle.assignments.specs.Notes.{note-place, noted, Listed, Indexed, in-cell, chain-of, chained, next-noted, entry-noted, occurrence-noted, from-noted, upto-noted}
+use Rattle.assignments.specs.Notes.{note-place, noted, Indexed, in-cell, chain-of, chained, next-noted, entry-noted, occurrence-noted, from-noted, upto-noted}
 use Rattle.assignments.specs.Answers.{Stands, bytes-noted}
 use Rattle.assignments.specs.declared.Staged.the-variants.{At}
 use Rattle.assignments.proofs.Filters.{filter-in, filter-out, filter-none, filter-map, filter-agree, count-from, map-count}
@@ -66,7 +63,7 @@ pub record Walk (count n : ℕ) : Type 0 where
 abbrev pub left : (es : List Entry) (list : List ℕ) (stage : Bytes) (i o : ℕ) {count n : ℕ} → Walk count n → List Assignment
 left es list stage i o {n = n} w = map (noted es list stage) (filter (in-cell list i o) (chained list (w .most) n))
 
-chained-end : (list : List ℕ) (most : ℕ) → chained list most 0 ≡ []
+pub chained-end : (list : List ℕ) (most : ℕ) → chained list most 0 ≡ []
 unfolding chained
 chained-end list zero = refl
 chained-end list (suc most) = refl

@@ -3,7 +3,7 @@ use mathlib.Core.Path.{_≡_, refl, sym, ap, subst, _∙_}
 use mathlib.Core.Bool.{Bool, true, false, _&&_}
 use mathlib.Core.List.{List, [], _∷_}
 use mathlib.Core.Option.{Option, none, some}
-use Prim.Native.Nat.{ℕ, suc, _-_, _<_, _≤_}
+use Prim.Native.Nat.{ℕ, _-_, _<_, _≤_}
 use native.Mathlib.Omega.{arith}
 use lib.Dec.{T, eqb}
 use lib.ListN.{length, getD}
@@ -20,7 +20,7 @@ use borrow.Author.Tests.{eqb-true, eq-eqb, ne-eqb}
 use Rattle.assignments.specs.Notes.{noted, place-at, Indexed, in-cell, chain-of, next-noted, entry-noted, occurrence-noted, value-noted}
 use Rattle.assignments.specs.Answers.{Stands, bytes-noted, Of-each, Assigned}
 use Rattle.assignments.specs.declared.Staged.{Staged}
-use Rattle.assignments.specs.declared.Staged.the-variants.{At, Nothing}
+use Rattle.assignments.specs.declared.Staged.the-variants.{Nothing}
 use Rattle.assignments.proofs.Filters.{filter-none, filter-in, filter-out}
 use Rattle.assignments.proofs.Searching.{Walk, left, number-less, walk-start, walk-next, left-none, left-in, left-out, left-all}
 

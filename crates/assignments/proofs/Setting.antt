@@ -26,3 +26,17 @@ six-sets l at a b c d e g =
     let four : at + 4 ≡ suc (suc (suc (suc at))) = omega arith in
     let five : at + 5 ≡ suc (suc (suc (suc (suc at)))) = omega arith in
     rw (one, two, three, four, five)
+
+-- Three numbers set at three places: what stands at each, and elsewhere.
+module _ (l : List ℕ) (p a q b r c : ℕ) where
+  pub three-elsewhere : (j : ℕ) → (j ≡ p → ⊥) → (j ≡ q → ⊥) → (j ≡ r → ⊥) → getD (set (set (set l p a) q b) r c) j 0 ≡ getD l j 0
+  three-elsewhere j x y z = getD-set-other (set (set l p a) q b) r j c 0 z ∙ getD-set-other (set l p a) q j b 0 y ∙ getD-set-other l p j a 0 x
+
+  pub three-first : p < length l → (p ≡ q → ⊥) → (p ≡ r → ⊥) → getD (set (set (set l p a) q b) r c) p 0 ≡ a
+  three-first h y z = getD-set-other (set (set l p a) q b) r p c 0 z ∙ getD-set-other (set l p a) q p b 0 y ∙ getD-set-same l p a 0 h
+
+  pub three-second : q < length l → (q ≡ r → ⊥) → getD (set (set (set l p a) q b) r c) q 0 ≡ b
+  three-second h z = getD-set-other (set (set l p a) q b) r q c 0 z ∙ getD-set-same (set l p a) q b 0 (rw (length-set l p a) h)
+
+  pub three-third : r < length l → getD (set (set (set l p a) q b) r c) r 0 ≡ c
+  three-third h = getD-set-same (set (set l p a) q b) r c 0 (rw (length-set (set l p a) q b, length-set l p a) h)

@@ -13,15 +13,12 @@ use lib.Seq.{getD-set-same, getD-set-other}
 use Rattle.rules.specs.Limits.{highest-index}
 use Rattle.rules.specs.Lists.{Bytes, all, maximum}
 use Rattle.rules.specs.Table.{Entry, differ, names}
-use Rattle.rules.specs.Use.{Place}
 use Rattle.rules.specs.Update.{Assignment, assigned, to-field, bare-only, highest-value}
 use Rattle.rules.proofs.Steps.{by-test}
 use Rattle.tables.specs.Entries.{blank}
-use Rattle.tables.proofs.EntryFields.{name-at}
 use borrow.Author.Tests.{eqb-true, eqb-false, eq-eqb, ne-eqb}
 use Rattle.assignments.specs.Notes.{note-place, noted, place-at, Indexed, in-cell, chain-of, next-noted, value-noted, bare-noted}
 use Rattle.assignments.specs.Answers.{bytes-noted, Of-each, Names}
-use Rattle.assignments.specs.declared.Naming.{Naming}
 use Rattle.assignments.proofs.Filters.{maximum-none, maximum-more}
 use Rattle.assignments.proofs.Searching.{Walk, left, number-less, walk-start, walk-next, left-none, left-in, left-out, left-all}
 use Rattle.assignments.proofs.Seeking.{assigned-none, assigned-here, assigned-there, assigned-cell, same-value}

@@ -3,9 +3,9 @@
 use mathlib.Core.Path.{_≡_}
 use mathlib.Core.Bool.{Bool, true, false, cond, _&&_}
 use mathlib.Core.List.{List, [], _∷_, map}
-use Prim.Native.Nat.{ℕ, zero, suc, _+_, _*_, _%_, _≤_, _<_}
+use Prim.Native.Nat.{ℕ, zero, suc, _+_, _*_, _%_, _≤_, _<_, max}
 use lib.Dec.{eqb}
-use lib.ListN.{length, getD}
+use lib.ListN.{length, getD, set}
 use lib.Seq.{slice}
 use Rattle.rules.specs.Limits.{most-entries, highest-index, longest-new-record}
 use Rattle.rules.specs.Lists.{Bytes, filter, maximum, run}
@@ -104,6 +104,20 @@ Unindexed list = (j : ℕ) → j < notes-from → getD list j 0 ≡ 0
 -- The chain of entry i in occurrence o.
 unfoldable pub chain-of : ℕ → ℕ → ℕ
 chain-of i o = (i * 67 + o) % chains
+
+-- Note m can be put before those of its chain; and the list with it there, and with its occurrence among those of its entry.
+pub record Can-link (list : List ℕ) (m : ℕ) : Type 0 where
+  pub few : m < longest-new-record
+  pub room : note-place (m + 1) ≤ length list
+  pub entry : entry-noted list m < most-entries
+  pub occurrence : occurrence-noted list m ≤ highest-index
+
+abbrev pub linked-by : List ℕ → (m i o chain : ℕ) → List ℕ
+linked-by list m i o chain =
+    set (set (set list (note-place m + 6) (getD list chain 0)) chain (m + 1)) (highest-from + i) (max (getD list (highest-from + i) 0) o)
+
+unfoldable pub linked : List ℕ → ℕ → List ℕ
+linked list m = linked-by list m (entry-noted list m) (occurrence-noted list m) (chain-of (entry-noted list m) (occurrence-noted list m))
 
 -- Whether note m is of entry i in occurrence o.
 unfoldable pub in-cell : List ℕ → ℕ → ℕ → ℕ → Bool

@@ -9,7 +9,7 @@ ghost use Rattle.rules.specs.Limits.{most-entries, highest-index, longest-new-r
 ghost use Rattle.rules.specs.Lists.{Bytes};
 ghost use Rattle.rules.specs.Table.{Entry};
 ghost use Rattle.rules.specs.Update.{Assignment};
-ghost use Rattle.assignments.specs.Notes.{numbers-noted, note-place, numbers, Small-note, in-cell, chain-of, Listed, Unindexed, Indexed, Has-index, Has-note};
+ghost use Rattle.assignments.specs.Notes.{numbers-noted, note-place, numbers, Small-note, in-cell, chain-of, Listed, Unindexed, Can-link, linked, Indexed, Has-index, Has-note};
 ghost use Rattle.assignments.specs.Answers.{Stands, bytes-noted, Of-each, Assigned, Names, Highest};
 
 // The numbers of a list in three regions: the heads of the chains; from HIGHEST on the highest occurrence named of each entry; and from
@@ -69,6 +69,34 @@ fn chain_of(i: usize, o: usize) -> usize
     ensures { λ r. ⌜ r ≡ chain-of i o ⌝ }
 {
     (i * 67 + o) % CHAINS
+}
+
+// Puts note m before those of its chain.
+fn link(list: &mut [u16], m: usize)
+    requires { ⌜ Can-link (now list) m ⌝ }
+    ensures { λ _. ⌜ now (list .exit) ≡ linked (now (list .entry)) m ⌝ }
+{
+    let at = NOTES + NUMBERS * m;
+    let i = list[at] as usize;
+    let o = list[at + 1] as usize;
+    let chain = chain_of(i, o);
+    list[at + 6] = list[chain];
+    list[chain] = (m + 1) as u16;
+    if list[HIGHEST + i] < o as u16 {
+        list[HIGHEST + i] = o as u16;
+    }
+}
+
+// Makes a list of `count` notes one that can be searched. The notes are put before their chains from the last to the first.
+pub fn index(list: &mut [u16], count: usize)
+    requires { ⌜ Unindexed (now list) × ((es : List Entry) × (stage : Bytes) × (staged : ℕ) × (ws : List Assignment) × Listed es (now list) stage staged ws × (length ws ≡ count)) ⌝ }
+    ensures { λ _. ⌜ ((es : List Entry) (stage : Bytes) (staged : ℕ) (ws : List Assignment) → Listed es (now (list .entry)) stage staged ws → length ws ≡ count → Indexed es (now (list .exit)) stage staged ws) ⌝ }
+{
+    let mut m = count;
+    while 0 < m {
+        m -= 1;
+        link(list, m);
+    }
 }
 
 // Whether the note at a place is of entry i in occurrence o.

@@ -1,6 +1,6 @@
 -- `assignments::bytes_of` meets its contract: the bytes of a note stand where its numbers say.
-use mathlib.Core.Path.{_≡_, refl, ap, _∙_}
-use Prim.Native.Nat.{suc, _+_, _-_}
+use mathlib.Core.Path.{_≡_, ap}
+use Prim.Native.Nat.{_+_, _-_}
 use native.Mathlib.Omega.{arith}
 use Rattle.assignments.specs.Notes.{note-place}
 use Rattle.assignments.specs.Answers.{bytes-noted}

@@ -1,5 +1,5 @@
 -- `assignments::in_cell` meets its contract: both numbers are compared, the second only where the first is right.
-use mathlib.Core.Path.{_≡_, sym, ap, _∙_}
+use mathlib.Core.Path.{sym, ap, _∙_}
 use mathlib.Core.Bool.{_&&_}
 use Prim.Native.Nat.{_+_}
 use native.Mathlib.Omega.{arith}

@@ -9,7 +9,7 @@ use lib.ListN.{getD}
 use Rattle.rules.specs.Limits.{highest-index}
 use Rattle.rules.specs.Lists.{Bytes}
 use Rattle.rules.specs.Table.{Entry, parts}
-use Rattle.rules.specs.Record.{Record, count-bytes, values-at}
+use Rattle.rules.specs.Record.{Record, count-bytes}
 use Rattle.rules.specs.Update.{Assignment, update-plan}
 use Rattle.rules.proofs.Steps.{true-T}
 use Rattle.value_formats.specs.Formats.{format-at}

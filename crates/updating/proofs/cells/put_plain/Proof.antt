@@ -4,13 +4,11 @@ use mathlib.Core.List.{List}
 use Prim.Native.Nat.{_-_}
 use lib.ListN.{getD}
 use Rattle.rules.specs.Lists.{Bytes}
-use Rattle.rules.specs.Values.{null}
-use Rattle.rules.specs.Table.{parts}
-use Rattle.rules.specs.Record.{Record, values-at}
+use Rattle.rules.specs.Record.{Record}
 use Rattle.rules.specs.Update.{Assignment, assigned}
 use Rattle.rules.proofs.Steps.{true-T}
 use Rattle.value_formats.specs.Formats.{format-at}
-use Rattle.tables.specs.Entries.{entries-of, blank}
+use Rattle.tables.specs.Entries.{entries-of}
 use Rattle.tables.proofs.Tables.{valid-names}
 use Rattle.records.specs.Places.{Cell-of}
 use Rattle.assignments.specs.Notes.{place-at}
