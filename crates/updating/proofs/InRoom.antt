@@ -1,7 +1,7 @@
 -- Bytes that are put run by run into room: what is left of them, from where it stands, ends and writes as the whole does from its start.
 use mathlib.Core.Path.{_≡_, sym, _∙_, ap, subst}
 use mathlib.Core.Bool.{true}
-use mathlib.Core.List.{List, [], _∷_, _++_, append-nil}
+use mathlib.Core.List.{[], _∷_, _++_, append-nil}
 use Prim.Native.Nat.{ℕ, _-_, _≤_}
 use lib.ListN.{length}
 use Rattle.rules.specs.Outcome.{Outcome, done}

@@ -1,14 +1,14 @@
 -- The values of an MU field one after the other: each takes what its note gives, or stays as it was, and those that are left fill the room
 -- that is left as all of them do from the start.
-use mathlib.Core.Path.{_≡_, refl, sym, _∙_, ap, subst}
+use mathlib.Core.Path.{_≡_, refl, sym, _∙_, subst}
 use mathlib.Core.Bool.{true}
 use mathlib.Core.List.{List, [], _∷_, _++_}
-use Prim.Native.Nat.{ℕ, zero, suc, pred, _+_, _-_, _≤_, _<_}
+use Prim.Native.Nat.{ℕ, suc, _+_, _-_, _≤_, _<_}
 use native.Mathlib.Nat.{sub-zero}
 use native.Mathlib.Omega.{arith}
 use lib.ListN.{length, drop, getD, List·getD-eq-default, drop-of-length-le}
 use lib.Seq.{drop-cons}
-use Rattle.rules.specs.Outcome.{Outcome, done}
+use Rattle.rules.specs.Outcome.{done}
 use Rattle.rules.specs.Lists.{Bytes, join, run}
 use Rattle.rules.specs.Values.{Format, null}
 use Rattle.rules.specs.Table.{Entry}
@@ -16,7 +16,7 @@ use Rattle.rules.specs.Record.{times, stored-value}
 use Rattle.rules.specs.declared.Refusal.{Refusal}
 use Rattle.records.specs.Walk.{rest-of, Behind}
 use Rattle.records.specs.declared.places.Cell.the-variants as cell
-use Rattle.records.proofs.Cells.{times-first, times-none}
+use Rattle.records.proofs.Cells.{times-first}
 use Rattle.assignments.specs.Answers.{bytes-noted}
 use Rattle.filling.specs.Filling.{in-room, Filling, Continues}
 use Rattle.filling.specs.declared.Next.{Next}
@@ -27,15 +27,15 @@ use Rattle.updating.specs.declared.cells.Run.{Run}
 use Rattle.updating.proofs.OldValues.{was-within, was-rest}
 use Rattle.updating.proofs.InRoom.{run-within, run-on, run-off, runs-end}
 
--- Those of the values of a field from one on: what they take, and what they were.
+-- The value after the first j: what it was and what it is; and the values from there on.
 module _ (es : List Entry) (list : List ℕ) (stage : Bytes) (by : List ℕ) (f : Format) (size : ℕ) (vs : List Bytes) where
-  abbrev pub old-at : ℕ → Bytes
+  abbrev old-at : ℕ → Bytes
   old-at j = getD vs j (null f size)
 
-  abbrev pub new-at : ℕ → Bytes
+  abbrev new-at : ℕ → Bytes
   new-at j = taken (bytes-noted es list stage (getD by (suc j) 0)) (old-at j)
 
-  abbrev pub left-from : ℕ → ℕ → Bytes
+  abbrev left-from : ℕ → ℕ → Bytes
   left-from n j = new-values es list stage by f size vs (suc j) (n - j)
 
   left-first : (n j : ℕ) → j < n → left-from n j ≡ new-at j ++ left-from n (suc j)
@@ -46,11 +46,10 @@ module _ (es : List Entry) (list : List ℕ) (stage : Bytes) (by : List ℕ) (f 
   unfolding new-values run join
   left-none n j h = let e : n - j ≡ 0 = omega arith in rw e refl
 
-  -- A loop over the values, of which j are put: the old ones after those stand at q.
+  -- A loop over the values, some of which are put: the old ones after those stand at q.
   pub record Putting (b : Bytes) (run : Run) (n end start k q at : ℕ) (out₀ out : Bytes) : Type 0 where
     pub put : ℕ
     pub next : k ≡ suc put
-    pub upto : put ≤ n
     pub were : Were b f size q (run .count - put) (drop put vs)
     pub fits : at ≤ end
     pub room : end ≤ length out
@@ -60,7 +59,6 @@ module _ (es : List Entry) (list : List ℕ) (stage : Bytes) (by : List ℕ) (f 
   putting-start b run x n end at out h h₂ = record {
     put = 0;
     next = refl;
-    upto = omega arith;
     were = subst (λ (m : ℕ). Were b f size (run .from) m vs) (sym (sub-zero (run .count))) (x .were);
     fits = h;
     room = h₂;
@@ -117,7 +115,6 @@ module _ (es : List Entry) (list : List ℕ) (stage : Bytes) (by : List ℕ) (f 
         record {
           put = suc j;
           next = omega (arith, g .next);
-          upto = omega (arith, g .next);
           were = w;
           fits = run-within end (new-at j) (left-from n (suc j)) begun filled (g .fits) (g .room) at′ e .1;
           room = omega (arith, p .same, g .room);

@@ -8,7 +8,7 @@ use native.Mathlib.Numerals.{add-one}
 use native.Mathlib.Omega.{arith}
 use lib.ListN.{length, take, drop, getD, replicate, length-append, length-drop}
 use lib.Seq.{take-at, take-nil, drop-nil, slice}
-use Rattle.rules.specs.Outcome.{Outcome, done}
+use Rattle.rules.specs.Outcome.{done}
 use Rattle.rules.specs.Limits.{greatest-count, count-size}
 use Rattle.rules.specs.Lists.{Bytes, join}
 use Rattle.rules.specs.Values.{Format}

@@ -9,7 +9,7 @@ use lib.ListN.{getD}
 use Rattle.rules.specs.Limits.{highest-index}
 use Rattle.rules.specs.Lists.{Bytes}
 use Rattle.rules.specs.Table.{Entry, parts}
-use Rattle.rules.specs.Record.{Record, count-bytes, values-at}
+use Rattle.rules.specs.Record.{Record, count-bytes}
 use Rattle.rules.specs.Update.{Assignment, update-plan}
 use Rattle.rules.proofs.Steps.{true-T}
 use Rattle.value_formats.specs.Formats.{format-at}
@@ -23,7 +23,7 @@ use Rattle.updating.specs.Laid.{cell-laid}
 use Rattle.updating.specs.New.{Assigns, Old, Notes-by, new-values}
 use Rattle.updating.proofs.OldValues.{filling-as}
 use Rattle.updating.proofs.InRoom.{both-within, both-on, both-off}
-use Rattle.updating.proofs.NewCells.{counts-and-indexes, larger-index, no-notes, entry-known, multiple-had, count-bare, count-larger, multiple-laid}
+use Rattle.updating.proofs.NewCells.{counts-and-indexes, larger-index, no-notes, values-had, entry-known, multiple-had, count-bare, count-larger, multiple-laid}
 use borrow.Author.Needs.{needs}
 use Rattle.updating.proofs.cells.put_counted.Statement.{statement}
 use Rattle.updating.proofs.cells.put_counted.Tie as tie
@@ -43,7 +43,7 @@ abbrev entries : tie.After-named → List Entry
 entries c = entries-of (start c .args .t .now)
 
 abbrev had : tie.After-named → Record → List Bytes
-had c r = values-at (parts (entries c)) r (getD (entries c) (start c .args .i) blank .name) (start c .args .o)
+had c r = values-had (entries c) (start c .args .i) r (start c .args .o)
 
 abbrev by : tie.After-named → List ℕ
 by c = c .named .last .1 .1 .1 .0

@@ -4,20 +4,18 @@ use mathlib.Core.List.{List}
 use Prim.Native.Nat.{_-_}
 use lib.ListN.{getD}
 use Rattle.rules.specs.Lists.{Bytes}
-use Rattle.rules.specs.Values.{null}
-use Rattle.rules.specs.Table.{parts}
-use Rattle.rules.specs.Record.{Record, values-at}
+use Rattle.rules.specs.Record.{Record}
 use Rattle.rules.specs.Update.{Assignment, assigned}
 use Rattle.rules.proofs.Steps.{true-T}
 use Rattle.value_formats.specs.Formats.{format-at}
-use Rattle.tables.specs.Entries.{entries-of, blank}
+use Rattle.tables.specs.Entries.{entries-of}
 use Rattle.tables.proofs.Tables.{valid-names}
 use Rattle.records.specs.Places.{Cell-of}
 use Rattle.assignments.specs.Notes.{place-at}
 use Rattle.assignments.specs.Answers.{Stands}
 use Rattle.updating.specs.New.{Assigns, Was}
 use Rattle.updating.proofs.OldValues.{filling-as}
-use Rattle.updating.proofs.NewCells.{entry-known, plain-was, plain-laid}
+use Rattle.updating.proofs.NewCells.{values-had, null-of, entry-known, plain-was, plain-laid}
 use borrow.Author.Needs.{needs}
 use Rattle.updating.proofs.cells.put_plain.Statement.{statement}
 use Rattle.updating.proofs.cells.put_plain.Tie as tie
@@ -29,9 +27,7 @@ start c = c .before .before .before .before .before .before .before
 -- The old value, and what is assigned.
 abbrev old : tie.After-assigned → Record → Bytes
 old c r =
-    let es = entries-of (start c .args .t .now) in
-    let e = c .before .entry-at .result in
-    getD (values-at (parts es) r (getD es (start c .args .i) blank .name) (start c .args .o)) 0 (null (format-at (e .format)) (e .size))
+    getD (values-had (entries-of (start c .args .t .now)) (start c .args .i) r (start c .args .o)) 0 (null-of (c .before .entry-at .result))
 
 was : (c : tie.After-assigned) (r : Record) → Cell-of (entries-of (start c .args .t .now)) (start c .args .b .now) (start c .args .i) (start c .args .o) r (start c .args .cell)
     → Was (start c .args .b .now) (format-at (c .before .entry-at .result .format)) (c .before .entry-at .result .size) (old c r) (start c .args .cell)

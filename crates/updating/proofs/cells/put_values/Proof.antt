@@ -13,7 +13,7 @@ use Rattle.value_formats.specs.Formats.{format-at}
 use Rattle.assignments.specs.Answers.{Stands, bytes-noted}
 use Rattle.updating.specs.New.{Notes-by, Old, Was, Were}
 use Rattle.updating.proofs.OldValues.{was-ends}
-use Rattle.updating.proofs.NewValues.{Putting, old-at, putting-start, stands-next, missing-next, were-after, were-none, putting-on, putting-off, putting-end}
+use Rattle.updating.proofs.NewValues.{Putting, putting-start, stands-next, missing-next, were-after, were-none, putting-on, putting-off, putting-end}
 use borrow.Author.Needs.{needs}
 use Rattle.updating.proofs.cells.put_values.Statement.{statement}
 use Rattle.updating.proofs.cells.put_values.Tie as tie
