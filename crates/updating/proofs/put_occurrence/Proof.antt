@@ -84,8 +84,7 @@ loop-holds : tie.Need-loop-holds Inv-loop μ-loop
 loop-holds c =
     let s = c .before .before .before .before .before .before .before in
     let a = s .args in
-    let es = entries-of (a .t .now) in
-    (
+    let es = entries-of (a .t .now) in (
       omega arith,
       end-start es 1 (a .g) (sym (periodic-level (a .t .now) (s .pre .0) (a .g) (s .pre .1) (s .pre .2))) ∙ sym (c .before .group-end .ensures),
       c .first-cell .ensures,
@@ -140,8 +139,7 @@ loop-again c =
     let m = c .before .before .before .before .before .before in
     let l = m .before .before in
     let s = start (l .before) in
-    let i = l .before .loop .inv in
-    (
+    let i = l .before .loop .inv in (
       omega (arith, i .0),
       run-on (entries-of (s .args .t .now)) (l .before .loop .i) _ (i .1) (l .loop-test .taken) (upto (l .before) .1),
       (λ r held. c .next-cell .ensures (s .args .places .now) (s .args .g) (s .args .o) r (entered l r held)),

@@ -69,8 +69,7 @@ loop-holds c =
     let s = c .before .before .before .before .before .before .before .before .before .before in
     let a = s .args in
     let es = entries-of (a .t .now) in
-    let m = c .before .before in
-    (
+    let m = c .before .before in (
       insides-start es,
       lay-on (lay-start (λ w r. record-head ++ laid-from w (group-count-at (parts es) r) false es) (s .pre .1) (omega arith) (omega arith)) (λ w r. record-head)
           (λ w r. laid-from w (group-count-at (parts es) r) false es) (λ w r. refl)
