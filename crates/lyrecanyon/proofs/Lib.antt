@@ -2,3 +2,5 @@ pub mod OneOutcome
 pub mod Settling
 pub mod Empties
 pub mod Readings
+pub mod Makings
+pub mod Updates

@@ -14,10 +14,10 @@ pub mod HeadLaws
 pub mod Normals
 pub mod Directories
 pub mod Placed
-pub mod Members
 pub mod Contents
 pub mod Skips
 pub mod Widths
 pub mod Pieces
 pub mod Strips
+pub mod Members
 pub mod Adjacent

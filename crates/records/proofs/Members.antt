@@ -1,25 +1,36 @@
 -- The cells of an occurrence one after the other: where one ends the next begins, since the fields up to an entry and the entry itself are
 -- the fields up to the next.
 use mathlib.Core.Path.{_≡_, sym, _∙_, ap}
+use mathlib.Core.Bool.{false}
 use mathlib.Core.List.{List}
 use Prim.Native.Nat.{ℕ, _+_, _-_, _≤_, _<_}
 use native.Mathlib.Omega.{arith}
-use lib.ListN.{length, drop}
+use lib.ListN.{length, drop, getD}
 use lib.Seq.{slice}
 use Rattle.rules.specs.Lists.{Bytes}
 use Rattle.rules.specs.Record.{Record, each, stored-cell}
-use Rattle.tables.specs.Entries.{Valid, entries-of, blank}
+use Rattle.tables.specs.Entries.{Valid, entries-of, blank, is-group}
 use Rattle.tables.specs.Groups.{group-end, fields-in}
 use Rattle.tables.proofs.Tables.{valid-names}
 use Rattle.tables.proofs.Known.{periodic-level}
 use Rattle.records.specs.Walk.{rest-of, Ends, Behind}
-use Rattle.records.specs.Places.{Entered, Member-entered}
+use Rattle.records.specs.Places.{Entered, Member-entered, Cell-of}
+use Rattle.records.specs.declared.places.Cell.{Cell}
 use Rattle.records.specs.declared.places.Cell.the-variants.{At}
 use Rattle.records.proofs.Walks.{walked-as}
 use Rattle.records.proofs.Checking.{each-on}
 use Rattle.records.proofs.Groups.{fields-split}
-use Rattle.records.proofs.Ends.{group-within}
-use Rattle.records.proofs.Placed.{members-end}
+use Rattle.records.proofs.Placed.{members-end, cell-entered}
+use Rattle.records.proofs.Strips.{home-in}
+
+-- What is found of a field among the members of a periodic group is its cell.
+pub member-cell : (t : Bytes) → Valid t → {b : Bytes} {places : List ℕ} {g i o : ℕ} {r : Record} (c : Cell) → i < length (entries-of t)
+    → is-group (getD (entries-of t) i blank .what) ≡ false → Member-entered (entries-of t) b places g i o r c → Cell-of (entries-of t) b i o r c
+member-cell t valid {g = g} {i} {o} c less what m =
+    let after = m .after in
+    let there : g < length (entries-of t) = omega arith in
+    cell-entered (m .held) (valid-names t valid) i g o less what (m .some)
+    (home-in t valid (m .held) g o (m .some) (periodic-level t valid g there (m .periodic)) (m .periodic) there i after (m .within)) c (m .entered)
 
 module _ (t : Bytes) (valid : Valid t) {b : Bytes} {places : List ℕ} {g i o : ℕ} {r : Record} {q : ℕ} (less : i < length (entries-of t))
     (m : Member-entered (entries-of t) b places g i o r (At q)) where

@@ -51,7 +51,8 @@ module _ (t : Bytes) (valid : Valid t) {b : Bytes} {places : List ℕ} {r : Reco
   abbrev es : List Entry
   es = entries-of t
 
-  home-in : (k : ℕ) → g < k → k < group-end es g → Home es k g
+  -- What lies among its members has it for its home.
+  pub home-in : (k : ℕ) → g < k → k < group-end es g → Home es k g
   unfolding group-end
   home-in k l m = record {
     upto = omega arith;
