@@ -94,6 +94,10 @@ module _ {es : List Entry} {b : Bytes} {places list : List ℕ} {stage : Bytes} 
   pub lay-last : {out′ : Bytes} {n : Next} → Puts es b places list stage rest at end out out′ n → Puts es b places list stage whole start end out₀ out′ n
   lay-last f r ws p a = continues-last (g .continues r ws p a) (f r ws p a)
 
+  -- The same, where the room's end is otherwise said.
+  pub lay-upto : {end′ : ℕ} → end ≡ end′ → {out′ : Bytes} {n : Next} → Puts es b places list stage rest at end out out′ n → Puts es b places list stage whole start end′ out₀ out′ n
+  lay-upto e {out′} {n} f = subst (λ z. Puts es b places list stage whole start z out₀ out′ n) e (lay-last f)
+
   -- The room's length does not change.
   pub lay-same : length out ≡ length out₀
   lay-same = let (r, p) = g .both .0 in let (ws, a) = g .both .1 in g .continues r ws p a .same

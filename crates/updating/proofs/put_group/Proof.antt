@@ -1,5 +1,5 @@
 -- `updating::put_group` meets its contract: the count that it puts is the new one, and then the occurrences are as many.
-use mathlib.Core.Path.{_≡_, refl, ap, _∙_}
+use mathlib.Core.Path.{_≡_, refl, sym, ap, _∙_}
 use mathlib.Core.Bool.{true}
 use mathlib.Core.List.{List, _++_}
 use Prim.Native.Nat.{ℕ, _+_, _-_, _≤_}
@@ -57,7 +57,9 @@ members : (c : tie.After-larger)
 members c =
     let s = start c in
     let a = s .args in
-    rw (c .before .before .group-end .ensures, add-one (a .g)) (rw (add-one (a .g)) at (group-fields (entries-of (a .t .now)) (a .g) (periodic-level (a .t .now) (s .pre .0) (a .g) (s .pre .1) (s .pre .2))))
+    let es = entries-of (a .t .now) in
+    ap (λ n. fields-below 1 (drop n es)) (add-one (a .g)) ∙ group-fields es (a .g) (periodic-level (a .t .now) (s .pre .0) (a .g) (s .pre .1) (s .pre .2))
+    ∙ ap (λ n. fields-in (slice (a .g + 1) n es)) (sym (c .before .before .group-end .ensures))
 
 count : (c : tie.After-larger) (r : Record) (ws : List Assignment) → Is-record (entries-of (start c .args .t .now)) (start c .args .b .now) (start c .args .places .now) r
     → Assigns (entries-of (start c .args .t .now)) (start c .args .list .now) (start c .args .stage .now) ws → c .larger .result ≡ new c (update-plan (parts (entries-of (start c .args .t .now))) r ws) r
