@@ -28,7 +28,7 @@ use Rattle.values.proofs.Cuts.{first-content, found-content}
 use Rattle.values.proofs.Converted.{bad-value, content-allowed}
 use Rattle.values.proofs.Meant.{converted-itself}
 use Rattle.taking.specs.Taking.{Gives, asked-given, given-bytes, Moved, Takes, Stages, Staged}
-use Rattle.taking.specs.declared.spans.Given.{Given}
+use Rattle.taking.specs.declared.value.Given.{Given}
 use Rattle.taking.specs.declared.Taking.{Taking}
 use Rattle.taking.specs.declared.Taken.{Taken}
 use Rattle.taking.specs.declared.Taken.the-variants.{At, Refused}

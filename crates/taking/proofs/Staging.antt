@@ -34,7 +34,7 @@ use Rattle.assignments.specs.Notes.{note-place, numbers, place-at, Small-note}
 use Rattle.assignments.specs.declared.Note.{Note}
 use Rattle.assignments.proofs.Listing.{listed-more, unindexed-more}
 use Rattle.taking.specs.Taking.{bytes-given, Roomy, Holds, given-bytes, Gives, Stages, tested-to}
-use Rattle.taking.specs.declared.spans.Given.{Given}
+use Rattle.taking.specs.declared.value.Given.{Given}
 use Rattle.taking.specs.declared.Taking.{Taking}
 use Rattle.taking.specs.declared.Taken.the-variants.{At, Refused}
 use Rattle.taking.proofs.Finding.{value-bad}

@@ -20,7 +20,7 @@ use Rattle.tables.specs.Groups.{field-at}
 use Rattle.uses.specs.Meant.{fields-from}
 use Rattle.uses.specs.declared.Span.{Span}
 use Rattle.assignments.specs.Notes.{note-place, place-at, Listed, Unindexed}
-use Rattle.taking.specs.declared.spans.Given.{Given}
+use Rattle.taking.specs.declared.value.Given.{Given}
 use Rattle.taking.specs.declared.Taking.{Taking}
 use Rattle.taking.specs.declared.Taken.{Taken}
 use Rattle.taking.specs.declared.Taken.the-variants.{At, Refused}

@@ -1,4 +1,4 @@
--- `taking::spans::put_given` meets its contract: what its field stores is put as it stands, and what means something is converted.
+-- `taking::value::put_given` meets its contract: what its field stores is put as it stands, and what means something is converted.
 use mathlib.Core.Path.{sym, _∙_, ap}
 use Prim.Native.Nat.{_-_}
 use native.Mathlib.Omega.{arith}
@@ -9,8 +9,8 @@ use Rattle.filling.proofs.Singles.{value-refused}
 use Rattle.taking.specs.Taking.{given-bytes}
 use Rattle.taking.proofs.Finding.{value-bytes, value-long, value-asked, value-bad}
 use borrow.Author.Needs.{needs}
-use Rattle.taking.proofs.spans.put_given.Statement.{statement}
-use Rattle.taking.proofs.spans.put_given.Tie as tie
+use Rattle.taking.proofs.value.put_given.Statement.{statement}
+use Rattle.taking.proofs.value.put_given.Tie as tie
 
 abbrev start : tie.After-as-stored → tie.Start
 start c = c .before .before .before .before

@@ -1,4 +1,4 @@
--- `taking::spans::take_value` meets its contract: the value is the first of the bytes that are left.
+-- `taking::value::take_value` meets its contract: the value is the first of the bytes that are left.
 use mathlib.Core.Path.{subst}
 use lib.ListN.{drop}
 use Rattle.rules.specs.Values.{first-value}
@@ -6,8 +6,8 @@ use Rattle.values.specs.Places.{Located}
 use Rattle.values.specs.declared.FirstValue.the-variants as first
 use Rattle.taking.proofs.Finding.{value-unfound, value-staged}
 use borrow.Author.Needs.{needs}
-use Rattle.taking.proofs.spans.take_value.Statement.{statement}
-use Rattle.taking.proofs.spans.take_value.Tie as tie
+use Rattle.taking.proofs.value.take_value.Statement.{statement}
+use Rattle.taking.proofs.value.take_value.Tie as tie
 
 abbrev start : tie.After-first-value → tie.Start
 start c = c .before .before .before .before

@@ -1,4 +1,4 @@
--- `taking::spans::stage_value` meets its contract: the value comes to the stage with a note of it, or it is only tested, or it is refused.
+-- `taking::value::stage_value` meets its contract: the value comes to the stage with a note of it, or it is only tested, or it is refused.
 use mathlib.Core.Path.{ap, _∙_}
 use mathlib.Core.Logic.{inl, inr, ⊎-elim}
 use mathlib.Core.List.{List}
@@ -11,8 +11,8 @@ use Rattle.taking.specs.Taking.{Roomy, Gives}
 use Rattle.taking.proofs.Finding.{value-place}
 use Rattle.taking.proofs.Staging.{not-beyond, Begins, begins-at, begins-inside, Puts, stage-beyond, stage-refused, stage-tested, note-room, note-small, stage-on}
 use borrow.Author.Needs.{needs}
-use Rattle.taking.proofs.spans.stage_value.Statement.{statement}
-use Rattle.taking.proofs.spans.stage_value.Tie as tie
+use Rattle.taking.proofs.value.stage_value.Statement.{statement}
+use Rattle.taking.proofs.value.stage_value.Tie as tie
 
 abbrev start : tie.Joined1 → tie.Start
 start c = c .before .before .before .before

@@ -1,4 +1,4 @@
--- `taking::spans::as_stored` meets its contract: at its field's own format and length, what is in normal form is given as it is.
+-- `taking::value::as_stored` meets its contract: at its field's own format and length, what is in normal form is given as it is.
 use mathlib.Core.Path.{_≡_, sym, _∙_, subst}
 use mathlib.Core.Bool.{false≢true}
 use mathlib.Core.Logic.{_⊎_}
@@ -9,8 +9,8 @@ use Rattle.values.proofs.Chosen.{own-length}
 use Rattle.values.proofs.Normals.{any-allowed}
 use Rattle.taking.proofs.Finding.{value-normal}
 use borrow.Author.Needs.{needs}
-use Rattle.taking.proofs.spans.as_stored.Statement.{statement}
-use Rattle.taking.proofs.spans.as_stored.Tie as tie
+use Rattle.taking.proofs.value.as_stored.Statement.{statement}
+use Rattle.taking.proofs.value.as_stored.Tie as tie
 
 abbrev start : tie.Then2 → tie.Start
 start c = c .before .before .before .before .before
