@@ -73,7 +73,7 @@ module _ (buffer : Bytes) (g : Given) (at from next : ℕ)
   abbrev content : Bytes
   content = take (next - from) (drop from buffer)
 
-  pub value-here : first-value (g .size) (drop at buffer) ≡ done (content, drop next buffer)
+  value-here : first-value (g .size) (drop at buffer) ≡ done (content, drop next buffer)
   value-here = sym (l .answer)
 
   pub value-place : (from ≤ next) × (next ≤ length buffer) × (at < next)
