@@ -16,7 +16,7 @@ use Rattle.uses.specs.Meant.{fields-from, asked-by, asked-of, Good-span, One-fi
 use Rattle.uses.specs.declared.Span.{Span}
 use Rattle.uses.proofs.SpanFields.{no-entry, field-entry, group-entry}
 use Rattle.taking.specs.Taking.{asked-given, asked-as, items-between}
-use Rattle.taking.specs.declared.spans.Given.{Given}
+use Rattle.taking.specs.declared.value.Given.{Given}
 
 module _ (es : List Entry) (u : Span) (o : ℕ) where
   abbrev asks : List Field → List Asked

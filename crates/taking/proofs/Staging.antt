@@ -16,7 +16,7 @@ use Rattle.rules.specs.Outcome.{Outcome, done, refused, is-done}
 use Rattle.rules.specs.Limits.{highest-index, longest-new-record}
 use Rattle.rules.specs.Lists.{Bytes, bytes-of, join}
 use Rattle.rules.specs.Numbers.{refusal-number}
-use Rattle.rules.specs.Values.{converted-bytes}
+use Rattle.rules.specs.Values.{meaning}
 use Rattle.rules.specs.Table.{Entry}
 use Rattle.rules.specs.Update.{Assignment}
 use Rattle.rules.specs.declared.Refusal.{Refusal}
@@ -24,8 +24,8 @@ use Rattle.rules.specs.declared.Refusal.the-variants.{BadTable, BadRecord, BadS
 use Rattle.rules.proofs.Steps.{by-test, not-done, done-inj, refused-inj, from-bind, from-need}
 use Rattle.buffer.specs.Splice.{splice}
 use Rattle.value_formats.specs.Formats.{format-at}
-use Rattle.values.specs.Fits.{Convertible, converted-length}
-use Rattle.values.proofs.Chosen.{asked-refused, asked-bytes}
+use Rattle.values.specs.Fits.{converted-length}
+use Rattle.values.proofs.Converted.{no-fit, carried-size-is}
 use Rattle.filling.specs.Filling.{in-room, Filling}
 use Rattle.filling.specs.declared.Next.{Next}
 use Rattle.filling.specs.declared.Next.the-variants as put
@@ -33,10 +33,11 @@ use Rattle.filling.proofs.Continues.{put-on, put-off}
 use Rattle.assignments.specs.Notes.{note-place, numbers, place-at, Small-note}
 use Rattle.assignments.specs.declared.Note.{Note}
 use Rattle.assignments.proofs.Listing.{listed-more, unindexed-more}
-use Rattle.taking.specs.Taking.{bytes-given, Roomy, Holds, Gives, Stages, tested-to}
-use Rattle.taking.specs.declared.spans.Given.{Given}
+use Rattle.taking.specs.Taking.{bytes-given, Roomy, Holds, given-bytes, Gives, Stages, tested-to}
+use Rattle.taking.specs.declared.value.Given.{Given}
 use Rattle.taking.specs.declared.Taking.{Taking}
 use Rattle.taking.specs.declared.Taken.the-variants.{At, Refused}
+use Rattle.taking.proofs.Finding.{value-bad}
 
 -- A refusal of another variant than BeyondBuffer, as a match tells it, has another number.
 pub not-beyond : (x : Refusal) → OneOf (0 ∷ 1 ∷ 2 ∷ 3 ∷ 4 ∷ 5 ∷ 7 ∷ 8 ∷ 9 ∷ []) (tagOf the-type x) → refusal-number x ≡ 7 → ⊥
@@ -99,7 +100,6 @@ begins-inside {s = s} h g = by-test (s .full) (λ t. omega (arith, g .tested t))
 
 -- A value that stands in the buffer up to a place is put to the stage, or tested there, from a place on.
 pub record Puts (es : List Entry) (buffer : Bytes) (g : Given) (content : Bytes) (next : ℕ) (s : Taking) (list : List ℕ) (stage : Bytes) (from : ℕ) : Type 0 where
-  pub asked : Convertible (g .format) (g .own) (g .standard) content
   pub gives : Gives es g
   pub less : s .at < next
   pub within : next ≤ length buffer
@@ -108,10 +108,10 @@ pub record Puts (es : List Entry) (buffer : Bytes) (g : Given) (content : Bytes)
 
 module _ {es : List Entry} {buffer : Bytes} {g : Given} {content : Bytes} {next : ℕ} {s : Taking} {list : List ℕ} {stage stage′ : Bytes} {from : ℕ} {r : Next}
     (p : Puts es buffer g content next s list stage from)
-    (f : Filling (in-room (length stage - from) (converted-bytes (format-at (g .format)) (format-at (g .own)) (g .standard) content)) from (not (s .full)) stage stage′ r)
+    (f : Filling (in-room (length stage - from) (given-bytes g content)) from (not (s .full)) stage stage′ r)
     (o k : ℕ) where
   abbrev there : Outcome Bytes
-  there = converted-bytes (format-at (g .format)) (format-at (g .own)) (g .standard) content
+  there = given-bytes g content
 
   abbrev assignment : Bytes → Assignment
   assignment b = record { place = place-at es (g .entry) o k; bare = g .bare; bytes = b }
@@ -121,7 +121,7 @@ module _ {es : List Entry} {buffer : Bytes} {g : Given} {content : Bytes} {next 
 
   some-bytes : (b : Bytes) → there ≡ done b → 1 ≤ length b
   some-bytes b e =
-      let q = asked-bytes (p .asked) (ap is-done e) .1 ∙ ap length (bytes-done there b e) in
+      let q = carried-size-is (format-at (g .format)) (format-at (g .own)) (g .standard) content (p .gives .own-allowed) (ap is-done e) ∙ ap length (bytes-done there b e) in
       omega (arith, q, some-length (g .standard) content)
 
   -- The new record is too long.
@@ -137,9 +137,12 @@ module _ {es : List Entry} {buffer : Bytes} {g : Given} {content : Bytes} {next 
     few = λ e. absurd (true≢false e);
   }
 
-  -- Not refused for want of room, for then there is a value.
+  -- Not refused for want of room: what it gives is refused because it means nothing or does not fit.
   not-short : there ≡ refused 7 → ⊥
-  not-short e = let n : _≡_ {A = ℕ} 9 7 = refused-inj (sym (asked-refused (p .asked) (ap is-done e)) ∙ e) in omega arith
+  not-short e =
+      by-test (is-done (meaning (format-at (g .format)) content))
+      (λ t. let n : _≡_ {A = ℕ} 9 7 = refused-inj (sym (no-fit (format-at (g .format)) (format-at (g .own)) (g .standard) content t (ap is-done e)) ∙ e) in omega arith)
+      (λ t. let n : _≡_ {A = ℕ} 8 7 = refused-inj (sym (value-bad g content t) ∙ e) in omega arith)
 
   pub stage-beyond : r ≡ put.Refused BeyondBuffer → Stages es buffer g o k content next s list list stage stage′ (At (tested-to next s))
   stage-beyond q = record {

@@ -4,7 +4,7 @@ use mathlib.Core.Bool.{Bool, true, false}
 use mathlib.Core.List.{List, [], _∷_, _++_, map}
 use Prim.Native.Nat.{ℕ, _+_, min, _≤_, _<_}
 use lib.ListN.{length, drop, getD}
-use Rattle.rules.specs.Outcome.{done, refused}
+use Rattle.rules.specs.Outcome.{Outcome, done, refused}
 use Rattle.rules.specs.Limits.{formats, longest-new-record}
 use Rattle.rules.specs.Lists.{Bytes, join}
 use Rattle.rules.specs.Numbers.{refusal-number}
@@ -20,7 +20,7 @@ use Rattle.tables.specs.Groups.{field-at}
 use Rattle.uses.specs.Meant.{fields-from}
 use Rattle.uses.specs.declared.Span.{Span}
 use Rattle.assignments.specs.Notes.{note-place, place-at, Listed, Unindexed}
-use Rattle.taking.specs.declared.spans.Given.{Given}
+use Rattle.taking.specs.declared.value.Given.{Given}
 use Rattle.taking.specs.declared.Taking.{Taking}
 use Rattle.taking.specs.declared.Taken.{Taken}
 use Rattle.taking.specs.declared.Taken.the-variants.{At, Refused}
@@ -93,13 +93,17 @@ abbrev pub items-between : List Entry → Span → ℕ → ℕ → ℕ → List 
 items-between es u o i end =
     value-items (map (asked-as (u .standard) u) (fields-from es i end)) (just o) (from-to (u .«value_from») (u .«value_upto»)) (u .bare)
 
+-- What the content of a value gives at its field's own format and length.
+abbrev pub given-bytes : Given → Bytes → Outcome Bytes
+given-bytes g = converted-bytes (format-at (g .format)) (format-at (g .own)) (g .standard)
+
 -- One value, which stands in the buffer up to `next`, came to what was held, or it is refused.
 abbrev pub Staged : List Entry → Bytes → Given → ℕ → ℕ → Bytes → ℕ → List ℕ → Bytes → List Assignment → Taken → Type 0
 Staged es buffer g o k content next list stage ws (At s) =
-    (b : Bytes) × (converted-bytes (format-at (g .format)) (format-at (g .own)) (g .standard) content ≡ done b) × (s .at ≡ next)
+    (b : Bytes) × (given-bytes g content ≡ done b) × (s .at ≡ next)
     × Holds es buffer list stage s (ws ++ (record { place = place-at es (g .entry) o k; bare = g .bare; bytes = b } ∷ []))
 Staged es buffer g o k content next list stage ws (Refused x) =
-    converted-bytes (format-at (g .format)) (format-at (g .own)) (g .standard) content ≡ refused (refusal-number x)
+    given-bytes g content ≡ refused (refusal-number x)
 
 pub record Stages (es : List Entry) (buffer : Bytes) (g : Given) (o k : ℕ) (content : Bytes) (next : ℕ) (s : Taking) (list list′ : List ℕ)
     (stage stage′ : Bytes) (r : Taken) : Type 0 where

@@ -11,6 +11,7 @@ ghost use Rattle.assignments.specs.Notes.{Unindexed};
 ghost use Rattle.taking.specs.Taking.{Roomy, Takes, Ready, Gave, Passed};
 
 mod spans;
+mod value;
 
 use rules::Refusal;
 use uses::Use;

@@ -3,127 +3,20 @@ ghost use mathlib.Core.Path.{_≡_};
 ghost use mathlib.Core.Bool.{false};
 ghost use mathlib.Core.List.{List, _∷_, []};
 ghost use Prim.Native.Nat.{_+_, _≤_, _<_};
-ghost use lib.ListN.{length, getD};
+ghost use lib.ListN.{getD};
 ghost use Rattle.rules.specs.Limits.{highest-index};
-ghost use Rattle.rules.specs.Lists.{Bytes};
 ghost use Rattle.rules.specs.Table.{Entry};
 ghost use Rattle.rules.specs.Use.{value-items, just};
-ghost use Rattle.rules.proofs.Ranges.{from-to, item-at};
-ghost use Rattle.values.specs.Fits.{Convertible};
+ghost use Rattle.rules.proofs.Ranges.{from-to};
 ghost use Rattle.tables.specs.Entries.{Valid, entries-of, blank, is-group};
 ghost use Rattle.tables.specs.Groups.{field-at};
 ghost use Rattle.uses.specs.Meant.{Good-span, asked-of};
-ghost use Rattle.taking.specs.Taking.{Roomy, Takes, Ready, asked-given, Gives, Stages, asked-as, items-between, tested-to};
-ghost use Rattle.taking.specs.declared.Taken.the-variants.{At};
+ghost use Rattle.taking.specs.Taking.{Roomy, Takes, Ready, asked-given, Gives, asked-as, items-between};
 use crate::Taken;
 use crate::Taking;
-use assignments::Note;
-use filling::Next;
-use rules::Refusal;
+use crate::value;
+use crate::value::Given;
 use uses::Span;
-use values::FirstValue;
-
-// A field whose values are taken: its entry, the format and the length in effect, its own, and whether its bare name stands for them.
-pub struct Given {
-    pub entry: usize,
-    pub format: usize,
-    pub size: usize,
-    pub own: usize,
-    pub standard: usize,
-    pub bare: bool,
-}
-
-// The same place, after a value for which the stage has no room.
-fn without_room(next: usize, s: Taking) -> Taken
-    ensures { λ r. ⌜ r ≡ At (tested-to next s) ⌝ }
-{
-    Taken::At(Taking {
-        at: next,
-        staged: s.staged,
-        count: s.count,
-        full: true,
-    })
-}
-
-// Value k of a field in occurrence o, whose content stands in the buffer up to `next` and means something: to the stage, or only tested.
-fn stage_value(
-    content: &[u8],
-    next: usize,
-    g: Given,
-    o: usize,
-    k: usize,
-    list: &mut [u16],
-    stage: &mut [u8],
-    s: Taking,
-) -> Taken
-    requires { ⌜ Convertible (g .format) (g .own) (g .standard) (now content) × (1 ≤ o) × (o ≤ highest-index) × (1 ≤ k) × (k ≤ highest-index) × ((es : List Entry) × (buffer : Bytes) × Gives es g × (s .at < next) × (next ≤ length buffer) × Ready es buffer (now list) (now stage) s) ⌝ }
-    ensures { λ r. ⌜ ((es : List Entry) (buffer : Bytes) → Gives es g → s .at < next → next ≤ length buffer → Roomy buffer (now (list .entry)) (now (stage .entry)) → Stages es buffer g o k (now (content .entry)) next s (now (list .entry)) (now (list .exit)) (now (stage .entry)) (now (stage .exit)) r) ⌝ }
-{
-    let from = if s.full { 0 } else { s.staged };
-    let put = filling::value::put_value(
-        content,
-        g.format,
-        g.own,
-        g.standard,
-        stage,
-        from,
-        stage.len(),
-        !s.full,
-    );
-    match put {
-        Next::Refused(x) => match x {
-            Refusal::BeyondBuffer => without_room(next, s),
-            _ => Taken::Refused(x),
-        },
-        Next::At(upto) => {
-            if s.full {
-                return without_room(next, s);
-            }
-            assignments::put(
-                list,
-                s.count,
-                Note {
-                    entry: g.entry,
-                    occurrence: o,
-                    value: k,
-                    bare: g.bare,
-                    from,
-                    upto,
-                },
-            );
-            Taken::At(Taking {
-                at: next,
-                staged: upto,
-                count: s.count + 1,
-                full: false,
-            })
-        }
-    }
-}
-
-// Value k of a field in occurrence o.
-fn take_value(
-    buffer: &[u8],
-    g: Given,
-    o: usize,
-    k: usize,
-    list: &mut [u16],
-    stage: &mut [u8],
-    s: Taking,
-) -> Taken
-    requires { ⌜ (1 ≤ o) × (o ≤ highest-index) × (1 ≤ k) × (k ≤ highest-index) × ((es : List Entry) × Gives es g × Ready es (now buffer) (now list) (now stage) s) ⌝ }
-    ensures { λ r. ⌜ ((es : List Entry) → Gives es g → Roomy (now (buffer .entry)) (now (list .entry)) (now (stage .entry)) → Takes es (now (buffer .entry)) (item-at (g .bare) (asked-given es g) o k ∷ []) s (now (list .entry)) (now (list .exit)) (now (stage .entry)) (now (stage .exit)) r) ⌝ }
-{
-    match values::first_value(buffer, s.at, g.size) {
-        FirstValue::Refused(x) => Taken::Refused(x),
-        FirstValue::Value(from, next) => {
-            if values::numbers::is_value(&buffer[from..next], g.format) {
-                return stage_value(&buffer[from..next], next, g, o, k, list, stage, s);
-            }
-            Taken::Refused(Refusal::BadValue)
-        }
-    }
-}
 
 // The values of a field in occurrence o, from value `first` to value `last`.
 fn take_values(
@@ -142,7 +35,7 @@ fn take_values(
     let mut state = s;
     let mut k = first;
     while k <= last {
-        match take_value(buffer, g, o, k, list, stage, state) {
+        match value::take_value(buffer, g, o, k, list, stage, state) {
             Taken::Refused(x) => {
                 return Taken::Refused(x);
             }

@@ -1,0 +1,161 @@
+// One value of the record buffer: to the stage at its field's own format and length, with a note of it in the list.
+ghost use mathlib.Core.Path.{_≡_};
+ghost use mathlib.Core.Bool.{true};
+ghost use mathlib.Core.Logic.{_⊎_};
+ghost use mathlib.Core.List.{List, _∷_, []};
+ghost use Prim.Native.Nat.{_-_, _≤_, _<_};
+ghost use lib.ListN.{length, take, drop};
+ghost use Rattle.rules.specs.Outcome.{done};
+ghost use Rattle.rules.specs.Limits.{formats, highest-index, longest-alpha};
+ghost use Rattle.rules.specs.Values.{allowed, first-value, with-length-byte};
+ghost use Rattle.rules.specs.Table.{Entry};
+ghost use Rattle.rules.proofs.Ranges.{item-at};
+ghost use Rattle.value_formats.specs.Formats.{format-at};
+ghost use Rattle.values.specs.Places.{Located};
+ghost use Rattle.values.specs.declared.FirstValue.the-variants.{Value};
+ghost use Rattle.filling.specs.Filling.{Filling, in-room};
+ghost use Rattle.taking.specs.Taking.{Roomy, Takes, Ready, asked-given, given-bytes, Gives, Stages, tested-to};
+ghost use Rattle.taking.specs.declared.Taken.the-variants.{At};
+use crate::Taken;
+use crate::Taking;
+use assignments::Note;
+use filling::Next;
+use rules::Refusal;
+use values::FirstValue;
+
+// A field whose values are taken: its entry, the format and the length in effect, its own, and whether its bare name stands for them.
+pub struct Given {
+    pub entry: usize,
+    pub format: usize,
+    pub size: usize,
+    pub own: usize,
+    pub standard: usize,
+    pub bare: bool,
+}
+
+// The same place, after a value for which the stage has no room.
+fn without_room(next: usize, s: Taking) -> Taken
+    ensures { λ r. ⌜ r ≡ At (tested-to next s) ⌝ }
+{
+    Taken::At(Taking {
+        at: next,
+        staged: s.staged,
+        count: s.count,
+        full: true,
+    })
+}
+
+// Whether a value at the format and the length in effect, by its content, is known to be what its field stores.
+fn as_stored(content: &[u8], g: Given) -> bool
+    requires { ⌜ (g .own < formats) × (allowed (format-at (g .own)) (g .standard) ≡ true) × (((g .size ≡ 0) × (length (now content) ≤ longest-alpha)) ⊎ (g .size ≡ length (now content))) ⌝ }
+    ensures { λ r. ⌜ (r ≡ true → given-bytes g (now (content .entry)) ≡ done (with-length-byte (g .size) (now (content .entry)))) ⌝ }
+{
+    if g.format == g.own {
+        if g.size == g.standard {
+            if values::any_bytes(g.own, g.standard) {
+                return true;
+            }
+            return values::is_normal(content, g.own, g.standard);
+        }
+    }
+    false
+}
+
+// A value that stands in the buffer from `at` up to `next`, and its content from `from` on: to the stage at its field's own format and length.
+fn put_given(
+    buffer: &[u8],
+    at: usize,
+    from: usize,
+    next: usize,
+    g: Given,
+    stage: &mut [u8],
+    to: usize,
+    write: bool,
+) -> Next
+    requires { ⌜ ((es : List Entry) × Gives es g) × Located (now buffer) at (first-value (g .size) (drop at (now buffer))) (Value from next) × (to ≤ length (now stage)) ⌝ }
+    ensures { λ r. ⌜ Filling (in-room (length (now (stage .entry)) - to) (given-bytes g (take (next - from) (drop from (now (buffer .entry)))))) to write (now (stage .entry)) (now (stage .exit)) r ⌝ }
+{
+    if as_stored(&buffer[from..next], g) {
+        return filling::put_bytes(&buffer[at..next], stage, to, stage.len(), write);
+    }
+    if values::numbers::is_value(&buffer[from..next], g.format) {
+        return filling::value::put_value(
+            &buffer[from..next],
+            g.format,
+            g.own,
+            g.standard,
+            stage,
+            to,
+            stage.len(),
+            write,
+        );
+    }
+    Next::Refused(Refusal::BadValue)
+}
+
+// Value k of a field in occurrence o, whose content stands in the buffer from `from` up to `next`: to the stage, or only tested.
+fn stage_value(
+    buffer: &[u8],
+    from: usize,
+    next: usize,
+    g: Given,
+    o: usize,
+    k: usize,
+    list: &mut [u16],
+    stage: &mut [u8],
+    s: Taking,
+) -> Taken
+    requires { ⌜ Located (now buffer) (s .at) (first-value (g .size) (drop (s .at) (now buffer))) (Value from next) × (1 ≤ o) × (o ≤ highest-index) × (1 ≤ k) × (k ≤ highest-index) × ((es : List Entry) × Gives es g × Ready es (now buffer) (now list) (now stage) s) ⌝ }
+    ensures { λ r. ⌜ ((es : List Entry) → Gives es g → Roomy (now (buffer .entry)) (now (list .entry)) (now (stage .entry)) → Stages es (now (buffer .entry)) g o k (take (next - from) (drop from (now (buffer .entry)))) next s (now (list .entry)) (now (list .exit)) (now (stage .entry)) (now (stage .exit)) r) ⌝ }
+{
+    let to = if s.full { 0 } else { s.staged };
+    let put = put_given(buffer, s.at, from, next, g, stage, to, !s.full);
+    match put {
+        Next::Refused(x) => match x {
+            Refusal::BeyondBuffer => without_room(next, s),
+            _ => Taken::Refused(x),
+        },
+        Next::At(upto) => {
+            if s.full {
+                return without_room(next, s);
+            }
+            assignments::put(
+                list,
+                s.count,
+                Note {
+                    entry: g.entry,
+                    occurrence: o,
+                    value: k,
+                    bare: g.bare,
+                    from: to,
+                    upto,
+                },
+            );
+            Taken::At(Taking {
+                at: next,
+                staged: upto,
+                count: s.count + 1,
+                full: false,
+            })
+        }
+    }
+}
+
+// Value k of a field in occurrence o.
+pub fn take_value(
+    buffer: &[u8],
+    g: Given,
+    o: usize,
+    k: usize,
+    list: &mut [u16],
+    stage: &mut [u8],
+    s: Taking,
+) -> Taken
+    requires { ⌜ (1 ≤ o) × (o ≤ highest-index) × (1 ≤ k) × (k ≤ highest-index) × ((es : List Entry) × Gives es g × Ready es (now buffer) (now list) (now stage) s) ⌝ }
+    ensures { λ r. ⌜ ((es : List Entry) → Gives es g → Roomy (now (buffer .entry)) (now (list .entry)) (now (stage .entry)) → Takes es (now (buffer .entry)) (item-at (g .bare) (asked-given es g) o k ∷ []) s (now (list .entry)) (now (list .exit)) (now (stage .entry)) (now (stage .exit)) r) ⌝ }
+{
+    match values::first_value(buffer, s.at, g.size) {
+        FirstValue::Refused(x) => Taken::Refused(x),
+        FirstValue::Value(from, next) => stage_value(buffer, from, next, g, o, k, list, stage, s),
+    }
+}
