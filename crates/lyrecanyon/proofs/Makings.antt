@@ -12,7 +12,7 @@ use lib.ListN.{length, take, replicate, getD}
 use lib.Seq.{take-all, take-length}
 use Rattle.rules.specs.Outcome.{Outcome, done, refused, _>>=_, need, is-done}
 use Rattle.rules.specs.Limits.{longest-format, longest-items, longest-new-record}
-use Rattle.rules.specs.Lists.{Bytes}
+use Rattle.rules.specs.Lists.{Bytes, bytes-of}
 use Rattle.rules.specs.Numbers.{refusal-number}
 use Rattle.rules.specs.declared.Refusal.{Refusal}
 use Rattle.rules.specs.declared.Refusal.the-variants.{NoRoom}
@@ -43,6 +43,7 @@ use Rattle.updating.proofs.Counted.{update-laid}
 use Rattle.updating.proofs.Fitting.{fits, too-long}
 use Rattle.updating.proofs.Staged.{staged-beyond}
 use Rattle.lyrecanyon.specs.Making.{Makes, new-record, Apart, given}
+use Rattle.lyrecanyon.specs.declared.Answer.{Answer}
 use Rattle.lyrecanyon.specs.declared.Answer.the-variants.{Done, Refused}
 
 pub tabled : (t : Bytes) → Valid t → table t ≡ done (entries-of t)
@@ -69,12 +70,14 @@ module _ (t : Bytes) (valid : Valid t) {b : Bytes} {places list : List ℕ} {sta
   put = subst (λ (z : Bytes). Filling (in-room (longest-new-record - 0) (done z)) 0 true entry exit n) (sym (update-laid t (entries-of t) r ws (tabled t valid))) (f r ws held a)
 
   pub record-made : (k : ℕ) → n ≡ next.At k → Makes (new-record (entries-of t) r ws) exit (Done k)
+  unfolding bytes-of
   record-made k q = put-on put k q λ c h e w.
       let (same, l) = room-done (longest-new-record - 0) new c h in
       let z : k ≡ length c = omega arith in
       let m = ap length same in
+      let v : exit ≡ splice 0 c entry = w in
       let d : fitting longest-new-record new ≡ done new = fits longest-new-record new (omega arith) (omega arith) in
-      (omega (arith, put .same, m, z), d ∙ ap done (same ∙ sym (ap (take k) w ∙ take-splice c entry k z)))
+      (omega (arith, put .same, m, z), d ∙ ap done (same ∙ sym (ap (take k) v ∙ take-splice c entry k z)))
 
   pub record-over : (x : Refusal) → n ≡ next.Refused x → Makes (new-record (entries-of t) r ws) exit (Refused NoRoom)
   record-over x q = let l = room-off (longest-new-record - 0) (refusal-number x) new (put-off put x q) in too-long longest-new-record new (omega arith)
@@ -84,7 +87,7 @@ meant-by : (es : List Entry) (f : Bytes) (us : List Use) → uses-of es f ≡ do
 unfolding uses-of
 meant-by es f us p = from-bind (elements f) _ p λ xs h k. (xs, k)
 
-module _ (t : Bytes) (valid : Valid t) {f : Bytes} {kept : List ℕ} {n : ℕ} (apart : Apart (entries-of t) f kept n) {buffer : Bytes} {ws : List Assignment}
+module _ (t : Bytes) (valid : Valid t) {f : Bytes} {kept : List ℕ} {n : ℕ} (apart : Apart (entries-of t) f kept n) (buffer : Bytes) {ws : List Assignment}
     (gives : given (entries-of t) f kept n buffer ≡ done ws) where
   abbrev us : List Use
   us = uses-kept (entries-of t) f kept n
@@ -108,7 +111,7 @@ take-least b n = by-order (length b) n
     (λ l. let z : min (length b) n ≡ n = omega arith in rw z)
 
 -- Zeros.
-pub zeros : (n j : ℕ) → getD (replicate n 0) j 0 ≡ 0
+pub zeros : (n j : ℕ) → _≡_ {A = ℕ} (getD (replicate n 0) j 0) 0
 zeros zero j = refl
 zeros (suc n) zero = refl
 zeros (suc n) (suc j) = zeros n j
@@ -135,3 +138,7 @@ module _ (es : List Entry) (f buffer : Bytes) where
 
   pub format-long : longest-format < length f → assignments-of es f buffer ≡ refused 3
   format-long l = uses-refused 3 (long-off l)
+
+-- What is made by an outcome is made by one that is the same.
+pub makes-by : (es : List Entry) (r : Record) {o p : Outcome (List Assignment)} (made : Bytes) (n : Answer) → o ≡ p → Makes (p >>= new-record es r) made n → Makes (o >>= new-record es r) made n
+makes-by es r made n e m = subst (λ (z : Outcome (List Assignment)). Makes (z >>= new-record es r) made n) (sym e) m

@@ -1,6 +1,7 @@
 -- Update is refused by its table and its record in this order, and else it is the new record by what is assigned: first within its own limit,
 -- and then within the room that is lent.
 use mathlib.Core.Path.{_≡_, refl, sym, _∙_, ap}
+use mathlib.Core.Bool.{false}
 use Prim.Native.Nat.{ℕ, _≤_, _<_}
 use mathlib.Core.List.{List}
 use native.Mathlib.Omega.{arith}
@@ -60,19 +61,19 @@ update-lent t b f buffer room = by-outcome (table t)
     (λ n e. rw e)
 
 -- What was made, in the room that is lent.
-module _ {o : Outcome Bytes} {record : Bytes} where
-  pub lent-refused : (room : Bytes) (x : Refusal) → Makes o record (Refused x) → Settled (in-lent (length room) o) room room (Refused x)
+module _ {o : Outcome Bytes} (made : Bytes) where
+  pub lent-refused : (room : Bytes) (x : Refusal) → Makes o made (Refused x) → Settled (in-lent (length room) o) room room (Refused x)
   lent-refused room x m = settled-refused _ room x (rw m)
 
-  module _ {n : ℕ} (m : Makes o record (Done n)) where
-    made-long : length (take n record) ≡ n
-    made-long = length-take-le n record (m .0)
+  module _ (n : ℕ) (m : Makes o made (Done n)) where
+    made-long : length (take n made) ≡ n
+    made-long = length-take-le n made (m .0)
 
     pub lent-over : (room : Bytes) → length room < n → Settled (in-lent (length room) o) room room (Refused NoRoom)
-    lent-over room l = settled-refused _ room NoRoom (rw (m .1, lt-leb (length (take n record)) (length room) (omega (arith, made-long))))
+    lent-over room l = settled-refused _ room NoRoom (rw (m .1, lt-leb (length (take n made)) (length room) (omega (arith, made-long))))
 
-    pub lent-done : (room exit : Bytes) → n ≤ length room → exit ≡ splice 0 (take n record) room → Settled (in-lent (length room) o) room exit (Done n)
-    lent-done room exit l w = settled-done _ (take n record) room exit n (rw (m .1, le-leb (length (take n record)) (length room) (omega (arith, made-long)))) (sym made-long) w
+    pub lent-done : (room exit : Bytes) → n ≤ length room → exit ≡ splice 0 (take n made) room → Settled (in-lent (length room) o) room exit (Done n)
+    lent-done room exit l w = settled-done _ (take n made) room exit n (rw (m .1, le-leb (length (take n made)) (length room) (omega (arith, made-long)))) (sym made-long) w
 
 -- The same bytes, otherwise said.
 pub settled-as : {o p : Outcome Bytes} (entry exit : Bytes) (a : Answer) → o ≡ p → Settled p entry exit a → Settled o entry exit a

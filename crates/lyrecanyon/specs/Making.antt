@@ -22,8 +22,8 @@ use Rattle.lyrecanyon.specs.declared.Answer.the-variants.{Done, Refused}
 
 -- An outcome stands at the front of an array, or it is refused.
 abbrev pub Makes : Outcome Bytes → Bytes → Answer → Type 0
-Makes o record (Done n) = (n ≤ length record) × (o ≡ done (take n record))
-Makes o record (Refused x) = o ≡ refused (refusal-number x)
+Makes o made (Done n) = (n ≤ length made) × (o ≡ done (take n made))
+Makes o made (Refused x) = o ≡ refused (refusal-number x)
 
 -- The new record by what is assigned, as far as its own limit.
 abbrev pub new-record : List Entry → Record → List Assignment → Outcome Bytes
@@ -31,7 +31,7 @@ new-record es r ws = fitting longest-new-record (record-bytes (parts es) (after-
 
 -- The same of whatever record the bytes hold.
 abbrev pub Makes-new : List Entry → Bytes → List ℕ → Outcome (List Assignment) → Bytes → Answer → Type 0
-Makes-new es b places o record n = (r : Record) → Is-record es b places r → Makes (o >>= new-record es r) record n
+Makes-new es b places o made n = (r : Record) → Is-record es b places r → Makes (o >>= new-record es r) made n
 
 -- The uses of a format are kept, and no two of them name an occurrence in common.
 pub record Apart (es : List Entry) (f : Bytes) (kept : List ℕ) (n : ℕ) : Type 0 where

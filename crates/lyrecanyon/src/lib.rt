@@ -7,6 +7,7 @@ ghost use Rattle.rules.specs.Services as Rules;
 ghost use Rattle.tables.specs.Entries.{Valid, entries-of};
 ghost use Rattle.records.specs.Places.{Has-record};
 ghost use Rattle.lyrecanyon.specs.Answers.{Settled, Exported, answer-number, answer-length};
+
 mod making;
 
 use filling::Next;
@@ -162,13 +163,7 @@ pub extern "C" fn lyrecanyon_read(
 }
 
 // Stores new values: the new record, to the front of the room. It is made by itself first, so that a refusal changes nothing.
-pub fn update(
-    table: &[u8],
-    stored: &[u8],
-    format: &[u8],
-    buffer: &[u8],
-    room: &mut [u8],
-) -> Answer
+pub fn update(table: &[u8], stored: &[u8], format: &[u8], buffer: &[u8], room: &mut [u8]) -> Answer
     ensures { λ r. ⌜ Settled (Rules.update (now (table .entry)) (now (stored .entry)) (now (format .entry)) (now (buffer .entry)) (length (now (room .entry)))) (now (room .entry)) (now (room .exit)) r ⌝ }
 {
     let mut record = [0u8; rules::LONGEST_NEW_RECORD];
@@ -195,19 +190,13 @@ pub extern "C" fn lyrecanyon_update(
 
 // Stores new values where the record stands, which is the first `used` bytes of a slice: the new record takes the place of the old one, or
 // nothing changes.
-pub fn apply(
-    table: &[u8],
-    record: &mut [u8],
-    used: usize,
-    format: &[u8],
-    buffer: &[u8],
-) -> Answer
-    ensures { λ r. ⌜ Settled (Rules.update (now (table .entry)) (take used (now (record .entry))) (now (format .entry)) (now (buffer .entry)) (length (now (record .entry)))) (now (record .entry)) (now (record .exit)) r ⌝ }
+pub fn apply(table: &[u8], stored: &mut [u8], used: usize, format: &[u8], buffer: &[u8]) -> Answer
+    ensures { λ r. ⌜ Settled (Rules.update (now (table .entry)) (take used (now (stored .entry))) (now (format .entry)) (now (buffer .entry)) (length (now (stored .entry)))) (now (stored .entry)) (now (stored .exit)) r ⌝ }
 {
-    let end = least(used, record.len());
+    let end = least(stored.len(), used);
     let mut new = [0u8; rules::LONGEST_NEW_RECORD];
-    let answer = making::make(table, &record[..end], format, buffer, &mut new);
-    making::lend(answer, &new, record)
+    let answer = making::make(table, &stored[..end], format, buffer, &mut new);
+    making::lend(answer, &new, stored)
 }
 
 // The empty record of a table, to the front of the room. It is built by itself first, so that a refusal changes nothing.

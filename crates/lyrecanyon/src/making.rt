@@ -42,12 +42,12 @@ fn make_record(
     places: &[u16; DIRECTORY],
     list: &[u16],
     stage: &[u8],
-    record: &mut [u8],
+    made: &mut [u8],
 ) -> Answer
-    requires { ⌜ Valid (now table) × Has-both (entries-of (now table)) (now stored) (now places) (now list) (now stage) × (length (now record) ≡ longest-new-record) ⌝ }
-    ensures { λ n. ⌜ ((ws : List Assignment) → Assigns (entries-of (now (table .entry))) (now (list .entry)) (now (stage .entry)) ws → Makes-new (entries-of (now (table .entry))) (now (stored .entry)) (now (places .entry)) (done ws) (now (record .exit)) n) ⌝ }
+    requires { ⌜ Valid (now table) × Has-both (entries-of (now table)) (now stored) (now places) (now list) (now stage) × (length (now made) ≡ longest-new-record) ⌝ }
+    ensures { λ n. ⌜ ((ws : List Assignment) → Assigns (entries-of (now (table .entry))) (now (list .entry)) (now (stage .entry)) ws → Makes-new (entries-of (now (table .entry))) (now (stored .entry)) (now (places .entry)) (done ws) (now (made .exit)) n) ⌝ }
 {
-    match updating::put_record(table, stored, places, list, stage, record) {
+    match updating::put_record(table, stored, places, list, stage, made) {
         Next::Refused(_) => Answer::Refused(Refusal::NoRoom),
         Next::At(n) => Answer::Done(n),
     }
@@ -62,10 +62,10 @@ fn make_items(
     kept: &[Index],
     count: usize,
     list: &mut [u16],
-    record: &mut [u8],
+    made: &mut [u8],
 ) -> Answer
-    requires { ⌜ Valid (now table) × Has-record (entries-of (now table)) (now stored) (now places) × ((f : Bytes) × Apart (entries-of (now table)) f (now kept) count) × (note-place (min (length (now buffer)) longest-new-record) ≤ length (now list)) × Unindexed (now list) × (length (now record) ≡ longest-new-record) ⌝ }
-    ensures { λ n. ⌜ ((f : Bytes) → Apart (entries-of (now (table .entry))) f (now (kept .entry)) count → Makes-new (entries-of (now (table .entry))) (now (stored .entry)) (now (places .entry)) (given (entries-of (now (table .entry))) f (now (kept .entry)) count (now (buffer .entry))) (now (record .exit)) n) ⌝ }
+    requires { ⌜ Valid (now table) × Has-record (entries-of (now table)) (now stored) (now places) × ((f : Bytes) × Apart (entries-of (now table)) f (now kept) count) × (note-place (min (length (now buffer)) longest-new-record) ≤ length (now list)) × Unindexed (now list) × (length (now made) ≡ longest-new-record) ⌝ }
+    ensures { λ n. ⌜ ((f : Bytes) → Apart (entries-of (now (table .entry))) f (now (kept .entry)) count → Makes-new (entries-of (now (table .entry))) (now (stored .entry)) (now (places .entry)) (given (entries-of (now (table .entry))) f (now (kept .entry)) count (now (buffer .entry))) (now (made .exit)) n) ⌝ }
 {
     let mut stage = [0u8; rules::LONGEST_NEW_RECORD];
     match taking::take(table, buffer, kept, count, list, &mut stage) {
@@ -75,7 +75,7 @@ fn make_items(
                 return Answer::Refused(Refusal::NoRoom);
             }
             assignments::index(list, s.count);
-            make_record(table, stored, places, list, &stage, record)
+            make_record(table, stored, places, list, &stage, made)
         }
     }
 }
@@ -88,20 +88,19 @@ fn make_listed(
     buffer: &[u8],
     kept: &[Index],
     count: usize,
-    record: &mut [u8],
+    made: &mut [u8],
 ) -> Answer
-    requires { ⌜ Valid (now table) × Has-record (entries-of (now table)) (now stored) (now places) × ((f : Bytes) × Apart (entries-of (now table)) f (now kept) count) × (length (now record) ≡ longest-new-record) ⌝ }
-    ensures { λ n. ⌜ ((f : Bytes) → Apart (entries-of (now (table .entry))) f (now (kept .entry)) count → Makes-new (entries-of (now (table .entry))) (now (stored .entry)) (now (places .entry)) (given (entries-of (now (table .entry))) f (now (kept .entry)) count (take longest-items (now (buffer .entry)))) (now (record .exit)) n) ⌝ }
+    requires { ⌜ Valid (now table) × Has-record (entries-of (now table)) (now stored) (now places) × ((f : Bytes) × Apart (entries-of (now table)) f (now kept) count) × (length (now made) ≡ longest-new-record) ⌝ }
+    ensures { λ n. ⌜ ((f : Bytes) → Apart (entries-of (now (table .entry))) f (now (kept .entry)) count → Makes-new (entries-of (now (table .entry))) (now (stored .entry)) (now (places .entry)) (given (entries-of (now (table .entry))) f (now (kept .entry)) count (take longest-items (now (buffer .entry)))) (now (made .exit)) n) ⌝ }
 {
     let end = least(buffer.len(), rules::LONGEST_ITEMS);
     let items = &buffer[..end];
     if end <= SHORT_BUFFER {
         let mut list = [0u16; assignments::NOTES + assignments::NUMBERS * SHORT_BUFFER];
-        return make_items(table, stored, places, items, kept, count, &mut list, record);
+        return make_items(table, stored, places, items, kept, count, &mut list, made);
     }
-    let mut list =
-        [0u16; assignments::NOTES + assignments::NUMBERS * rules::LONGEST_NEW_RECORD];
-    make_items(table, stored, places, items, kept, count, &mut list, record)
+    let mut list = [0u16; assignments::NOTES + assignments::NUMBERS * rules::LONGEST_NEW_RECORD];
+    make_items(table, stored, places, items, kept, count, &mut list, made)
 }
 
 // The same, by the format, whose uses are decoded once.
@@ -112,10 +111,10 @@ fn make_decoded(
     format: &[u8],
     buffer: &[u8],
     kept: &mut [Index],
-    record: &mut [u8],
+    made: &mut [u8],
 ) -> Answer
-    requires { ⌜ Valid (now table) × Has-record (entries-of (now table)) (now stored) (now places) × (numbers-kept * length (now format) ≤ element-bytes * length (now kept)) × (length (now record) ≡ longest-new-record) ⌝ }
-    ensures { λ n. ⌜ Makes-new (entries-of (now (table .entry))) (now (stored .entry)) (now (places .entry)) (assignments-of (entries-of (now (table .entry))) (now (format .entry)) (now (buffer .entry))) (now (record .exit)) n ⌝ }
+    requires { ⌜ Valid (now table) × Has-record (entries-of (now table)) (now stored) (now places) × (numbers-kept * length (now format) ≤ element-bytes * length (now kept)) × (length (now made) ≡ longest-new-record) ⌝ }
+    ensures { λ n. ⌜ Makes-new (entries-of (now (table .entry))) (now (stored .entry)) (now (places .entry)) (assignments-of (entries-of (now (table .entry))) (now (format .entry)) (now (buffer .entry))) (now (made .exit)) n ⌝ }
 {
     match uses::kept::decode(table, format, kept) {
         Decoded::Refused(x) => Answer::Refused(x),
@@ -123,7 +122,7 @@ fn make_decoded(
             if uses::twice::named_twice(table, kept, n) {
                 return Answer::Refused(Refusal::NamedTwice);
             }
-            make_listed(table, stored, places, buffer, kept, n, record)
+            make_listed(table, stored, places, buffer, kept, n, made)
         }
     }
 }
@@ -135,32 +134,26 @@ fn make_assigned(
     places: &[u16; DIRECTORY],
     format: &[u8],
     buffer: &[u8],
-    record: &mut [u8],
+    made: &mut [u8],
 ) -> Answer
-    requires { ⌜ Valid (now table) × Has-record (entries-of (now table)) (now stored) (now places) × (length (now record) ≡ longest-new-record) ⌝ }
-    ensures { λ n. ⌜ Makes-new (entries-of (now (table .entry))) (now (stored .entry)) (now (places .entry)) (assignments-of (entries-of (now (table .entry))) (now (format .entry)) (now (buffer .entry))) (now (record .exit)) n ⌝ }
+    requires { ⌜ Valid (now table) × Has-record (entries-of (now table)) (now stored) (now places) × (length (now made) ≡ longest-new-record) ⌝ }
+    ensures { λ n. ⌜ Makes-new (entries-of (now (table .entry))) (now (stored .entry)) (now (places .entry)) (assignments-of (entries-of (now (table .entry))) (now (format .entry)) (now (buffer .entry))) (now (made .exit)) n ⌝ }
 {
     if format.len() <= SHORT_FORMAT {
         let mut kept: [Index; uses::kept::NUMBERS * FEW_USES] = [0; uses::kept::NUMBERS * FEW_USES];
-        return make_decoded(table, stored, places, format, buffer, &mut kept, record);
+        return make_decoded(table, stored, places, format, buffer, &mut kept, made);
     }
     if rules::LONGEST_FORMAT < format.len() {
         return Answer::Refused(Refusal::BadSyntax);
     }
     let mut kept: [Index; uses::kept::NUMBERS * MOST_USES] = [0; uses::kept::NUMBERS * MOST_USES];
-    make_decoded(table, stored, places, format, buffer, &mut kept, record)
+    make_decoded(table, stored, places, format, buffer, &mut kept, made)
 }
 
 // The new record of an update, to the front of an array that has room for the longest.
-pub fn make(
-    table: &[u8],
-    stored: &[u8],
-    format: &[u8],
-    buffer: &[u8],
-    record: &mut [u8],
-) -> Answer
-    requires { ⌜ length (now record) ≡ longest-new-record ⌝ }
-    ensures { λ n. ⌜ Makes (Rules.update (now (table .entry)) (now (stored .entry)) (now (format .entry)) (now (buffer .entry)) longest-new-record) (now (record .exit)) n ⌝ }
+pub fn make(table: &[u8], stored: &[u8], format: &[u8], buffer: &[u8], made: &mut [u8]) -> Answer
+    requires { ⌜ length (now made) ≡ longest-new-record ⌝ }
+    ensures { λ n. ⌜ Makes (Rules.update (now (table .entry)) (now (stored .entry)) (now (format .entry)) (now (buffer .entry)) longest-new-record) (now (made .exit)) n ⌝ }
 {
     if !tables::valid(table) {
         return Answer::Refused(Refusal::BadTable);
@@ -169,13 +162,13 @@ pub fn make(
     if !records::walk::check(table, stored, &mut places) {
         return Answer::Refused(Refusal::BadRecord);
     }
-    make_assigned(table, stored, &places, format, buffer, record)
+    make_assigned(table, stored, &places, format, buffer, made)
 }
 
 // A record that was made, to the front of the room that is lent for it, if it has room enough.
-pub fn lend(answer: Answer, record: &[u8], room: &mut [u8]) -> Answer
-    requires { ⌜ ((o : Outcome Bytes) × Makes o (now record) answer) ⌝ }
-    ensures { λ n. ⌜ ((o : Outcome Bytes) → Makes o (now (record .entry)) answer → Settled (in-lent (length (now (room .entry))) o) (now (room .entry)) (now (room .exit)) n) ⌝ }
+pub fn lend(answer: Answer, made: &[u8], room: &mut [u8]) -> Answer
+    requires { ⌜ ((o : Outcome Bytes) × Makes o (now made) answer) ⌝ }
+    ensures { λ n. ⌜ ((o : Outcome Bytes) → Makes o (now (made .entry)) answer → Settled (in-lent (length (now (room .entry))) o) (now (room .entry)) (now (room .exit)) n) ⌝ }
 {
     match answer {
         Answer::Refused(x) => Answer::Refused(x),
@@ -183,7 +176,7 @@ pub fn lend(answer: Answer, record: &[u8], room: &mut [u8]) -> Answer
             if room.len() < n {
                 return Answer::Refused(Refusal::NoRoom);
             }
-            buffer::put(&record[..n], room, 0);
+            buffer::put(&made[..n], room, 0);
             Answer::Done(n)
         }
     }
