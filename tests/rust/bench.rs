@@ -1,9 +1,13 @@
-//! Times reads: each row is a call, and both services are timed on it in turn, in one run.
+//! Times calls: both services are timed on each in turn, in one run.
 
 use std::time::{Duration, Instant};
 
+mod rows;
 #[allow(dead_code)]
 mod service;
+mod updates;
+
+use rows::Call;
 
 extern "C" {
     fn lyrecanyon_read(
@@ -17,230 +21,109 @@ extern "C" {
         buffer_length: usize,
         used: *mut usize,
     ) -> u8;
+
+    fn lyrecanyon_update(
+        table: *const u8,
+        table_length: usize,
+        record: *const u8,
+        record_length: usize,
+        format: *const u8,
+        format_length: usize,
+        buffer: *const u8,
+        buffer_length: usize,
+        room: *mut u8,
+        room_length: usize,
+        used: *mut usize,
+    ) -> u8;
 }
 
-/// The proved service, by its export to C.
-fn proved(table: &[u8], record: &[u8], format: &[u8], buffer: &mut [u8]) -> (u8, usize) {
+/// The proved services, by their export to C.
+fn proved(call: &Call, lent: &mut [u8]) -> (u8, usize) {
     let mut used = 0;
-    let number = unsafe {
-        lyrecanyon_read(
-            table.as_ptr(),
-            table.len(),
-            record.as_ptr(),
-            record.len(),
-            format.as_ptr(),
-            format.len(),
-            buffer.as_mut_ptr(),
-            buffer.len(),
-            &mut used,
-        )
+    let (table, record, format) = (&call.table, &call.record, &call.format);
+    let number = match &call.values {
+        None => unsafe {
+            lyrecanyon_read(
+                table.as_ptr(),
+                table.len(),
+                record.as_ptr(),
+                record.len(),
+                format.as_ptr(),
+                format.len(),
+                lent.as_mut_ptr(),
+                lent.len(),
+                &mut used,
+            )
+        },
+        Some(values) => unsafe {
+            lyrecanyon_update(
+                table.as_ptr(),
+                table.len(),
+                record.as_ptr(),
+                record.len(),
+                format.as_ptr(),
+                format.len(),
+                values.as_ptr(),
+                values.len(),
+                lent.as_mut_ptr(),
+                lent.len(),
+                &mut used,
+            )
+        },
     };
     (number, used)
+}
+
+/// The services in Rust.
+fn rust(call: &Call, lent: &mut [u8]) -> (u8, usize) {
+    match &call.values {
+        None => service::read(&call.table, &call.record, &call.format, lent),
+        Some(values) => service::update(&call.table, &call.record, &call.format, values, lent),
+    }
 }
 
 /// Times of a call in nanoseconds, by the Rust service and by the proved one, and the second as a multiple of the first.
 fn main() {
     println!("| call | number | length | Rust, ns | proved, ns | times |");
     println!("|---|---|---|---|---|---|");
-    for call in rows() {
-        let (mut rust, mut lyrecanyon) = (f64::MAX, f64::MAX);
+    for call in rows::rows() {
+        let (mut first, mut second) = (f64::MAX, f64::MAX);
+        let ((number, length), answer) = answered(&call, rust);
+        assert!(answered(&call, proved) == ((number, length), answer), "the services differ on {}", call.row);
         for _ in 0..12 {
-            let (answer, nanoseconds) = time(&call, service::read);
-            let (other, others) = time(&call, proved);
-            assert_eq!(answer, other, "the services differ on {}", call.row);
-            rust = rust.min(nanoseconds);
-            lyrecanyon = lyrecanyon.min(others);
+            first = first.min(time(&call, rust));
+            second = second.min(time(&call, proved));
         }
-        let (number, length) = proved(&call.table, &call.record, &call.format, &mut vec![0; call.buffer]);
-        println!("| {} | {} | {} | {:.0} | {:.0} | {:.2} |", call.row, number, length, rust, lyrecanyon, lyrecanyon / rust);
+        println!("| {} | {} | {} | {:.0} | {:.0} | {:.2} |", call.row, number, length, first, second, second / first);
     }
 }
 
-pub struct Call {
-    pub row: String,
-    pub table: Vec<u8>,
-    pub record: Vec<u8>,
-    pub format: Vec<u8>,
-    pub buffer: usize,
+/// What a service answers, and what it leaves in the slice that it is lent.
+fn answered<F>(call: &Call, service: F) -> ((u8, usize), Vec<u8>)
+where
+    F: Fn(&Call, &mut [u8]) -> (u8, usize),
+{
+    let mut lent = vec![0x5A; call.lent];
+    (service(call, &mut lent), lent)
 }
 
-/// The answer of a call and the least time it took, in nanoseconds.
-pub fn time<F>(call: &Call, service: F) -> ((u8, usize), f64)
+/// The least time that a call took, in nanoseconds.
+fn time<F>(call: &Call, service: F) -> f64
 where
-    F: Fn(&[u8], &[u8], &[u8], &mut [u8]) -> (u8, usize),
+    F: Fn(&Call, &mut [u8]) -> (u8, usize),
 {
-    let mut buffer = vec![0; call.buffer];
+    let mut lent = vec![0; call.lent];
     let mut run = |times: u32| {
         let start = Instant::now();
-        for _ in 1..times {
-            service(&call.table, &call.record, &call.format, &mut buffer);
+        for _ in 0..times {
+            service(call, &mut lent);
         }
-        let answer = service(&call.table, &call.record, &call.format, &mut buffer);
-        (answer, start.elapsed())
+        start.elapsed()
     };
     let mut times = 1;
-    while run(times).1 < Duration::from_micros(500) {
+    while run(times) < Duration::from_micros(500) {
         times *= 2;
     }
-    let (answer, _) = run(1);
-    let least = (0..20).map(|_| run(times).1).min().unwrap_or_default();
-    (answer, least.as_nanos() as f64 / f64::from(times))
-}
-
-pub fn rows() -> Vec<Call> {
-    let mut rows = specimen_reads();
-    rows.push(nine_elements());
-    rows.extend(forty_fields());
-    rows.extend(hundred_occurrences());
-    rows.extend(hundred_conversions());
-    rows.push(most_elements());
-    rows.push(most_items());
-    rows
-}
-
-const SPECIMEN: &str = "1AA A5  1AB P3  1MF U2 M  1GB _0 P  2BA B1  2CB U1 M  1HB _0 P  2BB B1  2BD A2  1ZV A0";
-
-fn specimen(format: &str) -> Call {
-    let record = b"\xE5\xD9\xC3\x00\x01\xC3\xC1\xC2\x40\x40\x00\x15\x0F\x02\xF1\xF5\xF5\xF0\x01\x07\x01\xF3\x00\x01";
-    call(&format!("specimen {}", format), SPECIMEN, record.to_vec(), format)
-}
-
-pub fn specimen_reads() -> Vec<Call> {
-    let formats =
-        ["AA,AB.", "AB,2.", "AB,5,U.", "AB,2,B.", "MF,MF,MF.", "MFC,3X,MF2.", "CB1(1-2),CB2C.", "HB2.", "ZV."];
-    formats.iter().map(|format| specimen(format)).collect()
-}
-
-pub fn nine_elements() -> Call {
-    specimen("AA,AB,5,U,MFC,MF1-2,3X,'KG',CB1(1-2),HB1-2,ZV.")
-}
-
-/// A group of forty plain fields, by group, by series and by names.
-pub fn forty_fields() -> Vec<Call> {
-    let forms = ["A5", "B2", "F4", "P3", "U2"];
-    let values: [&[u8]; 5] = [b"\xC3\xC1\xC2\x40\x40", b"\x00\x96", b"\xFF\xFF\xFF\x6A", b"\x00\x15\x0F", b"\xF1\xF5"];
-    let names: Vec<String> = (0..40).map(|i| format!("{}{}", (b'P' + i / 10) as char, i % 10)).collect();
-    let fields = names.iter().enumerate().map(|(i, name)| format!("  2{} {}", name, forms[i % 5]));
-    let table = "1GG _0".to_string() + &fields.collect::<String>();
-    let record = || record((0..40).map(|i| values[i % 5].to_vec()));
-    vec![
-        call("forty fields by group", &table, record(), "GG."),
-        call("forty fields by series", &table, record(), &format!("{}-{}.", names[0], names[39])),
-        call("forty fields by names", &table, record(), &(names.join(",") + ".")),
-    ]
-}
-
-/// A hundred occurrences of a periodic group, without and with an MU and a variable-length field.
-pub fn hundred_occurrences() -> Vec<Call> {
-    let plain = "1PG _0 P  2PA B2  2PB A4  2PC P3";
-    let mixed = "1PG _0 P  2PA B2  2PM U2 M  2PV A0  2PC P3";
-    let count = || vec![vec![100]];
-    let plain_record = || record(count().into_iter().chain((0..100).map(|i| plain_occurrence(i).to_vec())));
-    let mixed_record = || record(count().into_iter().chain((0..100).map(mixed_occurrence)));
-    let row = |name: &str| format!("a hundred occurrences, {}", name);
-    vec![
-        call(&row("group"), plain, plain_record(), "PG1-100."),
-        call(&row("last field"), plain, plain_record(), "PC1-100."),
-        call(&row("fields in turn"), plain, plain_record(), "PA1-100,PB1-100,PC1-100."),
-        call(&row("MU field"), mixed, mixed_record(), "PM1-100(1-2)."),
-        call(&row("variable length"), mixed, mixed_record(), "PV1-100."),
-        call(&row("after both"), mixed, mixed_record(), "PC1-100."),
-    ]
-}
-
-fn plain_occurrence(i: u8) -> [u8; 9] {
-    [0, i, 0xC1, 0xC2, 0x40, 0x40, 0, ((i / 10 % 10) << 4) | (i % 10), 0x5F]
-}
-
-fn mixed_occurrence(i: u8) -> Vec<u8> {
-    let mut bytes = vec![0, i, i % 3];
-    bytes.extend((0..i % 3).flat_map(|_| vec![0xF1, 0xF5]));
-    bytes.push(1 + i % 7);
-    bytes.extend((0..i % 7).map(|_| 0xC1));
-    bytes.extend(&[0, 0x15, 0x0F]);
-    bytes
-}
-
-/// Conversions of a hundred values of an MU field.
-pub fn hundred_conversions() -> Vec<Call> {
-    let conversions: [(&str, &str, &[u8]); 10] = [
-        ("P5", "9,U", b"\x01\x23\x45\x67\x8D"),
-        ("P5", "4,B", b"\x01\x23\x45\x67\x8F"),
-        ("P5", "4,F", b"\x01\x23\x45\x67\x8D"),
-        ("P15", "5,P", b"\0\0\0\0\0\0\0\0\0\0\x01\x23\x45\x67\x8D"),
-        ("U9", "5,P", b"\xF0\xF0\xF1\xF2\xF3\xF4\xF5\xF6\xD7"),
-        ("F4", "6,P", b"\xFF\xFE\x1D\xC0"),
-        ("F4", "2,F", b"\xFF\xFF\x85\xEE"),
-        ("B2", "5,U", b"\x30\x39"),
-        ("A9", "20", b"\xC3\xC1\xC2\x40\x40\x40\x40\x40\x40"),
-        ("A9", "0", b"\xC3\xC1\xC2\x40\x40\x40\x40\x40\x40"),
-    ];
-    let convert = |&(from, to, value): &(&str, &str, &[u8])| {
-        let values = (0..100).map(|_| value.to_vec());
-        let record = record(vec![vec![100]].into_iter().chain(values));
-        let row = format!("a hundred conversions, {} to {}", from, to);
-        call(&row, &format!("1MF {} M", from), record, &format!("MF1-100,{}.", to))
-    };
-    conversions.iter().map(convert).collect()
-}
-
-/// As many elements as a format buffer holds: three bytes each.
-pub fn most_elements() -> Call {
-    let names: Vec<String> =
-        (b'A'..=b'Z').filter(|&letter| letter != b'E').map(|c| format!("{}1", c as char)).collect();
-    let table: String = names.iter().map(|name| format!("  1{} B2", name)).collect();
-    let record = record((0..names.len()).map(|_| vec![0x30, 0x39]));
-    let elements: Vec<&str> = names.iter().cycle().take(682).map(|name| name.as_str()).collect();
-    call("682 elements", &table, record, &(elements.join(",") + "."))
-}
-
-/// As many items as one call may have, of one byte each.
-pub fn most_items() -> Call {
-    let occurrence = |i: u8| vec![7, 3, 0xF0 | (i % 10), 0xF5, 0xF9];
-    let record = record(vec![vec![191]].into_iter().chain((0..191).map(occurrence)));
-    call("32,767 items", "1PG _0 P  2PA B1  2PM U1 M", record, "PM1-171(1-191),PM172(1-106).")
-}
-
-fn call(row: &str, table: &str, record: Vec<u8>, format: &str) -> Call {
-    let format = format.bytes().map(ebcdic).collect();
-    Call { row: row.to_string(), table: table_bytes(table), record, format, buffer: 32_767 }
-}
-
-/// A table from words: level and name, format and length, and M for MU or P for PE. A group has format _.
-fn table_bytes(table: &str) -> Vec<u8> {
-    let mut bytes = vec![0xE5, 0xC6, 0xE3, 0x00, 0x01, 0];
-    for word in table.split_whitespace() {
-        let characters = word.as_bytes();
-        match characters.len() {
-            3 if characters[0].is_ascii_digit() => {
-                bytes.extend(&[ebcdic(characters[1]), ebcdic(characters[2]), characters[0] - b'0']);
-                bytes[5] += 1;
-            }
-            1 => *bytes.last_mut().unwrap() = if word == "M" { 1 } else { 2 },
-            _ => bytes.extend(&[ebcdic(characters[0]), word[1..].parse().unwrap(), 0]),
-        }
-    }
-    bytes
-}
-
-fn record(values: impl Iterator<Item = Vec<u8>>) -> Vec<u8> {
-    let mut bytes = vec![0xE5, 0xD9, 0xC3, 0x00, 0x01];
-    values.for_each(|value| bytes.extend(value));
-    bytes
-}
-
-fn ebcdic(character: u8) -> u8 {
-    match character {
-        b'A'..=b'I' => character - b'A' + 0xC1,
-        b'J'..=b'R' => character - b'J' + 0xD1,
-        b'S'..=b'Z' => character - b'S' + 0xE2,
-        b'0'..=b'9' => character - b'0' + 0xF0,
-        b'.' => 0x4B,
-        b'(' => 0x4D,
-        b')' => 0x5D,
-        b'-' => 0x60,
-        b',' => 0x6B,
-        b'\'' => 0x7D,
-        _ => 0x40,
-    }
+    let least = (0..20).map(|_| run(times)).min().unwrap_or_default();
+    least.as_nanos() as f64 / f64::from(times)
 }

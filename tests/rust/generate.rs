@@ -1,7 +1,9 @@
-//! Writes random calls: `generate SEED COUNT`.
+//! Writes random calls: `generate SEED COUNT calls`, or chains of updates: `generate SEED COUNT chains`.
 //!
-//! Calls come in stories. A story has one table and one record; what an accepted update gives is the record of the next
-//! call. Most calls are good ones, each of the others is made to be refused by one number, and some meet another first.
+//! Calls come in stories. A story has one table and one record; what an accepted update gives is mostly the record of the
+//! next call. Most calls are good ones, each of the others is made to be refused by one number, and some meet another
+//! first. A chain is a story of 8 to 20 updates and nothing else: what an accepted one gives is always the record of the
+//! next, and a refused one leaves the record as it is.
 
 use std::env;
 use std::io::{self, BufWriter, Write};
@@ -17,28 +19,53 @@ const PERIOD: u8 = 0x4B;
 const APOSTROPHE: u8 = 0x7D;
 
 fn main() -> io::Result<()> {
-    let arguments: Vec<u64> = env::args().skip(1).filter_map(|word| word.parse().ok()).collect();
-    let (seed, count) = match arguments[..] {
-        [seed, count] => (seed, count),
-        _ => {
-            eprintln!("generate SEED COUNT");
-            exit(2);
-        }
+    let words: Vec<String> = env::args().skip(1).collect();
+    let (seed, count, kind) = match &words[..] {
+        [seed, count, kind] => (seed.parse(), count.parse(), kind.as_str()),
+        _ => usage(),
+    };
+    let (seed, count) = match (seed, count) {
+        (Ok(seed), Ok(count)) => (seed, count),
+        _ => usage(),
     };
     let mut random = Random::new(seed);
     let mut out = BufWriter::new(io::stdout());
-    let mut story = Story::new(&mut random);
-    for _ in 0..count {
-        if random.chance(9) {
-            story = Story::new(&mut random);
-        }
-        match random.below(20) {
-            0 => story.write_empty(&mut random, &mut out)?,
-            1..=9 => story.write_read(&mut random, &mut out)?,
-            _ => story.write_update(&mut random, &mut out)?,
-        }
+    match kind {
+        "calls" => write_calls(&mut random, count, &mut out)?,
+        "chains" => write_chains(&mut random, count, &mut out)?,
+        _ => usage(),
     }
     out.flush()
+}
+
+fn usage() -> ! {
+    eprintln!("generate SEED COUNT calls|chains");
+    exit(2);
+}
+
+fn write_calls(random: &mut Random, count: u64, out: &mut impl Write) -> io::Result<()> {
+    let mut story = Story::new(random);
+    for _ in 0..count {
+        if random.chance(9) {
+            story = Story::new(random);
+        }
+        match random.below(20) {
+            0 => story.write_empty(random, out)?,
+            1..=9 => story.write_read(random, out)?,
+            _ => story.write_update(random, 80, out)?,
+        }
+    }
+    Ok(())
+}
+
+fn write_chains(random: &mut Random, count: u64, out: &mut impl Write) -> io::Result<()> {
+    for _ in 0..count {
+        let mut story = Story::new(random);
+        for _ in 0..random.between(8, 20) {
+            story.write_update(random, 100, out)?;
+        }
+    }
+    Ok(())
 }
 
 /// The xorshift generator with a multiplication.
@@ -878,7 +905,8 @@ impl Story {
         writeln!(out, "R {} {} {} {}", table, record, format, length)
     }
 
-    fn write_update(&mut self, random: &mut Random, out: &mut impl Write) -> io::Result<()> {
+    /// An update; so many percent of those that are accepted give the record of the next call.
+    fn write_update(&mut self, random: &mut Random, percent: usize, out: &mut impl Write) -> io::Result<()> {
         const PLANS: [(usize, Plan); 10] = [
             (4, Plan::Table),
             (4, Plan::Record),
@@ -898,7 +926,7 @@ impl Story {
         let mut new = vec![0; MOST_RECORD];
         let (number, length) = service::update(&table, &record, &format, &buffer, &mut new);
         let room = choose_length(random, length, plan == Plan::Room);
-        if number == 0 && length <= room && random.chance(80) {
+        if number == 0 && length <= room && random.chance(percent) {
             self.record = new[..length].to_vec();
         }
         let (table, record, format) = (hexadecimal(&table), hexadecimal(&record), hexadecimal(&format));

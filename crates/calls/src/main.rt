@@ -1,7 +1,7 @@
 // Answers calls on the services, given as lines on standard input, by lines on standard output; tests/vectors/README.md has their form.
 // A line that is no call is answered `? 0 -`.
 use lines::Line;
-use protocol::Call;
+use protocol::CallLine;
 ghost use mathlib.Core.Path.{_≡_};
 ghost use Prim.Native.Nat.{_*_, _≤_, _<_};
 ghost use lib.ListN.{length};
@@ -91,7 +91,7 @@ fn least(a: usize, b: usize) -> usize
 }
 
 // Lends the service the bytes that the call's words spelled, and room up to the length asked for.
-fn ask_read(bytes: &[u8], c: Call, room: &mut [u8]) -> Answered
+fn ask_read(bytes: &[u8], c: CallLine, room: &mut [u8]) -> Answered
     requires { ⌜ Called (length (now bytes)) c ⌝ }
     ensures { λ r. ⌜ r .length ≤ length (now (room .entry)) ⌝ }
 {
@@ -107,7 +107,7 @@ fn ask_read(bytes: &[u8], c: Call, room: &mut [u8]) -> Answered
     )
 }
 
-fn ask_update(bytes: &[u8], c: Call, room: &mut [u8]) -> Answered
+fn ask_update(bytes: &[u8], c: CallLine, room: &mut [u8]) -> Answered
     requires { ⌜ Called (length (now bytes)) c ⌝ }
     ensures { λ r. ⌜ r .length ≤ length (now (room .entry)) ⌝ }
 {
@@ -125,7 +125,7 @@ fn ask_update(bytes: &[u8], c: Call, room: &mut [u8]) -> Answered
     )
 }
 
-fn ask_empty(bytes: &[u8], c: Call, room: &mut [u8]) -> Answered
+fn ask_empty(bytes: &[u8], c: CallLine, room: &mut [u8]) -> Answered
     requires { ⌜ Called (length (now bytes)) c ⌝ }
     ensures { λ r. ⌜ r .length ≤ length (now (room .entry)) ⌝ }
 {

@@ -13,9 +13,9 @@ use Rattle.buffer.proofs.Laws.{splice-nil, length-part}
 use Rattle.buffer.specs.Search.{upto-first}
 use Rattle.hexadecimal.specs.Text.{empty-word, is-paired, spelled-bytes, number}
 use Rattle.hexadecimal.specs.Lines.{word-at, word-bytes, place-after, next-at, number-at}
-use Rattle.hexadecimal.specs.Answers.{decoded-upto, Decodes, Takes}
-use Rattle.hexadecimal.specs.declared.Decoded.{Decoded}
-use Rattle.hexadecimal.specs.declared.Decoded.the-variants.{Upto, NoBytes}
+use Rattle.hexadecimal.specs.Answers.{decoded-upto, DecodesWord, TakesWord}
+use Rattle.hexadecimal.specs.declared.BytesWord.{BytesWord}
+use Rattle.hexadecimal.specs.declared.BytesWord.the-variants.{Upto, NoBytes}
 use Rattle.hexadecimal.proofs.Pairs.{length-paired, spelled-bytes-hyphen, spelled-bytes-pairs, spelled-bytes-none}
 
 -- A word takes no more than half its length.
@@ -45,13 +45,13 @@ module _ {C : Type 0} (at : ℕ) (o : Option Bytes) where
 
 -- No bytes, and so no next word.
 gives-none : (line : Bytes) (at start : ℕ) (out : Bytes) → at ≤ length line + 1 → 2 * start ≤ at → word-bytes at line ≡ none
-    → Takes line at start out out (record { end = start; next = length line + 1 })
+    → TakesWord line at start out out (record { end = start; next = length line + 1 })
 unfolding next-at place-after
 gives-none line at start out h k e =
     record { end = rw (e, add-zero); next = rw e; after = rw e (sym (splice-nil start out)); upto = omega arith; within = omega arith }
 
 pub takes-beyond : (line : Bytes) (at start : ℕ) (out : Bytes) → at ≤ length line + 1 → 2 * start ≤ at → length line < at
-    → Takes line at start out out (record { end = start; next = length line + 1 })
+    → TakesWord line at start out out (record { end = start; next = length line + 1 })
 unfolding word-bytes
 takes-beyond line at start out h k b = gives-none line at start out h k (rw (lt-leb at (length line) b))
 
@@ -64,14 +64,14 @@ module _ (line : Bytes) (at stop start : ℕ) (out out′ : Bytes) (h : at ≤ l
   unfolding word-bytes
   bytes-are = rw (le-leb at (length line) h, word-is)
 
-  pub takes-none : (r : Decoded) → r ≡ NoBytes → Decodes (take (stop - at) (drop at line)) start out out′ r → Takes line at start out out′ (record { end = start; next = length line + 1 })
+  pub takes-none : (r : BytesWord) → r ≡ NoBytes → DecodesWord (take (stop - at) (drop at line)) start out out′ r → TakesWord line at start out out′ (record { end = start; next = length line + 1 })
   takes-none r q d =
       from-no-bytes start (spelled-bytes (take (stop - at) (drop at line))) (sym q ∙ d .answer) λ n.
       let e : out′ ≡ out = rw n at (d .after) ∙ splice-nil start out in
       rw e (gives-none line at start out (omega arith) k (bytes-are ∙ n))
 
-  pub takes-some : (r : Decoded) (end : ℕ) → stop ≤ length line → r ≡ Upto end → Decodes (take (stop - at) (drop at line)) start out out′ r
-      → Takes line at start out out′ (record { end = end; next = stop + 1 })
+  pub takes-some : (r : BytesWord) (end : ℕ) → stop ≤ length line → r ≡ Upto end → DecodesWord (take (stop - at) (drop at line)) start out out′ r
+      → TakesWord line at start out out′ (record { end = end; next = stop + 1 })
   unfolding next-at place-after
   takes-some r end l q d =
       from-upto start (spelled-bytes (take (stop - at) (drop at line))) end (sym q ∙ d .answer) λ bs e f.

@@ -10,23 +10,23 @@ use Rattle.rules.specs.Lists.{Bytes, same}
 use Rattle.buffer.specs.Splice.{splice}
 use Rattle.buffer.proofs.Laws.{splice-nil, splice-push}
 use Rattle.hexadecimal.specs.Text.{empty-word, paired, parted, is-paired, spelling}
-use Rattle.hexadecimal.specs.Answers.{Decodes}
-use Rattle.hexadecimal.specs.declared.Decoded.the-variants.{Upto, NoBytes}
+use Rattle.hexadecimal.specs.Answers.{DecodesWord}
+use Rattle.hexadecimal.specs.declared.BytesWord.the-variants.{Upto, NoBytes}
 use Rattle.hexadecimal.proofs.Pairs.{length-parted, spelled-bytes-hyphen, spelled-bytes-pairs, spelled-bytes-none}
 
 module _ (w : Bytes) (at : ℕ) (out : Bytes) where
-  pub way-hyphen : same w empty-word ≡ true → Decodes w at out out (Upto at)
+  pub way-hyphen : same w empty-word ≡ true → DecodesWord w at out out (Upto at)
   way-hyphen e =
       let d = spelled-bytes-hyphen w e in
       record { answer = rw (d, add-zero); after = rw d (sym (splice-nil at out)) }
 
   pub way-pairs : (out′ : Bytes) (r : ℕ) → same w empty-word ≡ false → is-paired w ≡ true → r ≡ at + length (paired w) → out′ ≡ splice at (paired w) out
-      → Decodes w at out out′ (Upto r)
+      → DecodesWord w at out out′ (Upto r)
   way-pairs out′ r e p l s =
       let d = spelled-bytes-pairs w e p in
       record { answer = rw d (ap Upto l); after = rw d s }
 
-  pub way-none : same w empty-word ≡ false → is-paired w ≡ false → Decodes w at out out NoBytes
+  pub way-none : same w empty-word ≡ false → is-paired w ≡ false → DecodesWord w at out out NoBytes
   way-none e p =
       let d = spelled-bytes-none w e p in
       record { answer = rw d; after = rw d (sym (splice-nil at out)) }

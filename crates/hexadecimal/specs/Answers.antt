@@ -8,9 +8,9 @@ use Rattle.rules.specs.Lists.{Bytes}
 use Rattle.buffer.specs.Splice.{splice}
 use Rattle.hexadecimal.specs.Text.{spelled-bytes}
 use Rattle.hexadecimal.specs.Lines.{word-bytes, next-at}
-use Rattle.hexadecimal.specs.declared.Decoded.{Decoded}
-use Rattle.hexadecimal.specs.declared.Decoded.the-variants.{Upto, NoBytes}
-use Rattle.hexadecimal.specs.declared.Taken.{Taken}
+use Rattle.hexadecimal.specs.declared.BytesWord.{BytesWord}
+use Rattle.hexadecimal.specs.declared.BytesWord.the-variants.{Upto, NoBytes}
+use Rattle.hexadecimal.specs.declared.TakenWord.{TakenWord}
 use Rattle.hexadecimal.specs.declared.NumberWord.{NumberWord}
 use Rattle.hexadecimal.specs.declared.NumberWord.the-variants.{Is, NoNumber}
 
@@ -19,7 +19,7 @@ number-read none = NoNumber
 number-read (some n) = Is n
 
 -- The place after the bytes, written from `at`.
-abbrev pub decoded-upto : ℕ → Option Bytes → Decoded
+abbrev pub decoded-upto : ℕ → Option Bytes → BytesWord
 decoded-upto at none = NoBytes
 decoded-upto at (some bs) = Upto (at + length bs)
 
@@ -29,12 +29,12 @@ written-bytes none = []
 written-bytes (some bs) = bs
 
 -- A word is decoded to out from `at`, and nothing is written if it spells no bytes.
-pub record Decodes (word : Bytes) (at : ℕ) (out out′ : Bytes) (r : Decoded) : Type 0 where
+pub record DecodesWord (word : Bytes) (at : ℕ) (out out′ : Bytes) (r : BytesWord) : Type 0 where
   pub answer : r ≡ decoded-upto at (spelled-bytes word)
   pub after : out′ ≡ splice at (written-bytes (spelled-bytes word)) out
 
 -- The word of a line from `at` is decoded to out from start on; the place after its bytes, and the next word's.
-pub record Takes (line : Bytes) (at start : ℕ) (out out′ : Bytes) (r : Taken) : Type 0 where
+pub record TakesWord (line : Bytes) (at start : ℕ) (out out′ : Bytes) (r : TakenWord) : Type 0 where
   pub end : r .end ≡ start + length (written-bytes (word-bytes at line))
   pub next : r .next ≡ next-at at line
   pub after : out′ ≡ splice start (written-bytes (word-bytes at line)) out

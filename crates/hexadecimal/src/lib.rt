@@ -8,10 +8,10 @@ ghost use Rattle.buffer.specs.Splice.{splice};
 ghost use Rattle.rules.specs.Lists.{same};
 ghost use Rattle.hexadecimal.specs.Text as Text;
 ghost use Rattle.hexadecimal.specs.Lines as Lines;
-ghost use Rattle.hexadecimal.specs.Answers.{number-read, Decodes, Takes};
+ghost use Rattle.hexadecimal.specs.Answers.{number-read, DecodesWord, TakesWord};
 
 // The place after the bytes that were written; or the word spells no bytes.
-enum Decoded {
+enum BytesWord {
     Upto(usize),
     NoBytes,
 }
@@ -22,7 +22,7 @@ pub enum NumberWord {
 }
 
 // The place after the bytes that a word gave, and where the next word of the line begins.
-pub struct Taken {
+pub struct TakenWord {
     pub end: usize,
     pub next: usize,
 }
@@ -111,18 +111,18 @@ fn put_pairs(w: &[u8], out: &mut [u8], at: usize) -> usize
 }
 
 // The bytes that a word spells, to out from `at`; a word takes no more than half its own length.
-fn decode(word: &[u8], out: &mut [u8], at: usize) -> Decoded
+fn decode(word: &[u8], out: &mut [u8], at: usize) -> BytesWord
     requires { ⌜ 2 * at + length (now word) ≤ 2 * length (now out) ⌝ }
-    ensures { λ r. ⌜ Decodes (now (word .entry)) at (now (out .entry)) (now (out .exit)) r ⌝ }
+    ensures { λ r. ⌜ DecodesWord (now (word .entry)) at (now (out .entry)) (now (out .exit)) r ⌝ }
 {
     if is_hyphen(word) {
-        return Decoded::Upto(at);
+        return BytesWord::Upto(at);
     }
     if is_paired(word) {
         let end = put_pairs(word, out, at);
-        return Decoded::Upto(end);
+        return BytesWord::Upto(end);
     }
-    Decoded::NoBytes
+    BytesWord::NoBytes
 }
 
 // Two digits for each byte, to out from `at`; the place after them.
@@ -226,12 +226,12 @@ fn put_number(n: usize, out: &mut [u8], at: usize) -> usize
 }
 
 // The bytes of the line's word from `at`, to out from start on. If it spells none, no word follows.
-pub fn take_bytes(line: &[u8], at: usize, out: &mut [u8], start: usize) -> Taken
+pub fn take_bytes(line: &[u8], at: usize, out: &mut [u8], start: usize) -> TakenWord
     requires { ⌜ (at ≤ length (now line) + 1) × (2 * start ≤ at) × (length (now line) ≤ 2 * length (now out)) ⌝ }
-    ensures { λ r. ⌜ Takes (now (line .entry)) at start (now (out .entry)) (now (out .exit)) r ⌝ }
+    ensures { λ r. ⌜ TakesWord (now (line .entry)) at start (now (out .entry)) (now (out .exit)) r ⌝ }
 {
     if line.len() < at {
-        return Taken {
+        return TakenWord {
             end: start,
             next: line.len() + 1,
         };
@@ -239,11 +239,11 @@ pub fn take_bytes(line: &[u8], at: usize, out: &mut [u8], start: usize) -> Taken
     let stop = buffer::find(line, at, b' ');
     let d = decode(&line[at..stop], out, start);
     match d {
-        Decoded::Upto(end) => Taken {
+        BytesWord::Upto(end) => TakenWord {
             end,
             next: stop + 1,
         },
-        Decoded::NoBytes => Taken {
+        BytesWord::NoBytes => TakenWord {
             end: start,
             next: line.len() + 1,
         },

@@ -9,12 +9,12 @@ use Rattle.rules.specs.Lists.{Bytes}
 use Rattle.buffer.specs.Splice.{splice}
 use Rattle.buffer.proofs.Laws.{splice-chain}
 use Rattle.hexadecimal.specs.Lines.{word-bytes, next-at}
-use Rattle.hexadecimal.specs.Answers.{written-bytes, Takes}
-use Rattle.hexadecimal.specs.declared.Taken.{Taken}
+use Rattle.hexadecimal.specs.Answers.{written-bytes, TakesWord}
+use Rattle.hexadecimal.specs.declared.TakenWord.{TakenWord}
 use Rattle.protocol.specs.Calls.{TakesThree, first-bytes, second-bytes, third-bytes}
 
-pub takes-three : (line out out₁ out₂ out₃ : Bytes) (a b c : Taken) → length line ≤ 2 * length out
-    → Takes line 2 0 out out₁ a → Takes line (a .next) (a .end) out₁ out₂ b → Takes line (b .next) (b .end) out₂ out₃ c
+pub takes-three : (line out out₁ out₂ out₃ : Bytes) (a b c : TakenWord) → length line ≤ 2 * length out
+    → TakesWord line 2 0 out out₁ a → TakesWord line (a .next) (a .end) out₁ out₂ b → TakesWord line (b .next) (b .end) out₂ out₃ c
     → TakesThree line out out₃ (record { table = a .end; «record» = b .end; format = c .end; next = c .next })
 unfolding first-bytes second-bytes third-bytes
 takes-three line out out₁ out₂ out₃ a b c h s t u =

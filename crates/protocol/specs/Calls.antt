@@ -8,7 +8,7 @@ use Rattle.buffer.specs.Splice.{splice}
 use Rattle.hexadecimal.specs.Lines.{word-bytes, next-at}
 use Rattle.hexadecimal.specs.Answers.{written-bytes}
 use Rattle.protocol.specs.declared.Three.{Three}
-use Rattle.protocol.specs.declared.Call.{Call}
+use Rattle.protocol.specs.declared.CallLine.{CallLine}
 
 -- The bytes of the words after the first, which is one letter.
 unfoldable pub first-bytes : Bytes → Bytes
@@ -31,7 +31,7 @@ pub record TakesThree (line out out′ : Bytes) (r : Three) : Type 0 where
   pub within : r .next ≤ length line + 1
 
 -- The bytes of a call's words stand one after the other, in n bytes.
-pub record Called (n : ℕ) (c : Call) : Type 0 where
+pub record Called (n : ℕ) (c : CallLine) : Type 0 where
   pub first : c .table ≤ c .record
   pub second : c .record ≤ c .format
   pub third : c .format ≤ c .buffer

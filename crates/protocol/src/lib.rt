@@ -9,7 +9,7 @@ ghost use Rattle.protocol.specs.Answers.{no-call-line, Answers};
 
 // A call that a line makes: its letter, where the bytes of its table, record, format and record buffer end, and the length that it
 // asks for. A word that the call does not have is empty, and what is no call has the letter 0.
-pub struct Call {
+pub struct CallLine {
     pub letter: u8,
     pub table: usize,
     pub record: usize,
@@ -42,10 +42,10 @@ fn take_three(line: &[u8], out: &mut [u8]) -> Three
     }
 }
 
-fn no_call() -> Call
+fn no_call() -> CallLine
     ensures { λ r. ⌜ Called 0 r ⌝ }
 {
-    Call {
+    CallLine {
         letter: 0,
         table: 0,
         record: 0,
@@ -55,14 +55,14 @@ fn no_call() -> Call
     }
 }
 
-fn take_read(line: &[u8], out: &mut [u8]) -> Call
+fn take_read(line: &[u8], out: &mut [u8]) -> CallLine
     requires { ⌜ (2 ≤ length (now line)) × (length (now line) ≤ 2 * length (now out)) ⌝ }
     ensures { λ r. ⌜ Called (length (now (out .entry))) r ⌝ }
 {
     let s = take_three(line, out);
     let n = hexadecimal::take_number(line, s.next);
     match n {
-        NumberWord::Is(asked) => Call {
+        NumberWord::Is(asked) => CallLine {
             letter: b'R',
             table: s.table,
             record: s.record,
@@ -74,7 +74,7 @@ fn take_read(line: &[u8], out: &mut [u8]) -> Call
     }
 }
 
-fn take_update(line: &[u8], out: &mut [u8]) -> Call
+fn take_update(line: &[u8], out: &mut [u8]) -> CallLine
     requires { ⌜ (2 ≤ length (now line)) × (length (now line) ≤ 2 * length (now out)) ⌝ }
     ensures { λ r. ⌜ Called (length (now (out .entry))) r ⌝ }
 {
@@ -82,7 +82,7 @@ fn take_update(line: &[u8], out: &mut [u8]) -> Call
     let buffer = hexadecimal::take_bytes(line, s.next, out, s.format);
     let n = hexadecimal::take_number(line, buffer.next);
     match n {
-        NumberWord::Is(asked) => Call {
+        NumberWord::Is(asked) => CallLine {
             letter: b'U',
             table: s.table,
             record: s.record,
@@ -94,14 +94,14 @@ fn take_update(line: &[u8], out: &mut [u8]) -> Call
     }
 }
 
-fn take_empty(line: &[u8], out: &mut [u8]) -> Call
+fn take_empty(line: &[u8], out: &mut [u8]) -> CallLine
     requires { ⌜ (2 ≤ length (now line)) × (length (now line) ≤ 2 * length (now out)) ⌝ }
     ensures { λ r. ⌜ Called (length (now (out .entry))) r ⌝ }
 {
     let table = hexadecimal::take_bytes(line, 2, out, 0);
     let n = hexadecimal::take_number(line, table.next);
     match n {
-        NumberWord::Is(asked) => Call {
+        NumberWord::Is(asked) => CallLine {
             letter: b'E',
             table: table.end,
             record: table.end,
@@ -114,7 +114,7 @@ fn take_empty(line: &[u8], out: &mut [u8]) -> Call
 }
 
 // The call that a line makes, by its first word, which is one letter; the bytes of its words, to out one after the other.
-pub fn take_call(line: &[u8], out: &mut [u8]) -> Call
+pub fn take_call(line: &[u8], out: &mut [u8]) -> CallLine
     requires { ⌜ length (now line) ≤ 2 * length (now out) ⌝ }
     ensures { λ r. ⌜ Called (length (now (out .entry))) r ⌝ }
 {

@@ -1,6 +1,7 @@
--- `specimen::read` meets its contract: what the service writes lies in the buffer.
-use lib.ListN.{length}
-use Rattle.lyrecanyon.proofs.Readings.{read-within}
+-- `specimen::read` meets its contract: what the service writes lies in the buffer, which is as long as before.
+use mathlib.Core.Path.{ap}
+use native.Mathlib.Omega.{arith}
+use lib.ListN.{length, length-append, length-drop}
 use borrow.Author.Needs.{needs}
 use Rattle.specimen.proofs.read.Statement.{statement}
 use Rattle.specimen.proofs.read.Tie as tie
@@ -18,7 +19,9 @@ same-length : tie.Need-same-length
 same-length c = search needs
 
 returns : tie.Need-returns
-returns c = rw (c .before .before .read .ensures .size-is) (read-within _ _ _ _)
+returns c =
+    let s = c .before .before .read .ensures in
+    omega (arith, same-length c, s .size-is, simp (length-append, length-drop) at (ap length (s .bytes-are)))
 
 pub read-spec : {M : Type 1} → statement M
 read-spec = tie.close (tie.spec slice-aggregate-read slice-aggregate-read-2 read-requires same-length returns)

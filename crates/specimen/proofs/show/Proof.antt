@@ -5,9 +5,6 @@ use borrow.Author.Needs.{needs}
 use Rattle.specimen.proofs.show.Statement.{statement}
 use Rattle.specimen.proofs.show.Tie as tie
 
-read-requires : tie.Need-read-requires
-read-requires c κs = search needs
-
 length-requires : tie.Need-length-requires
 length-requires c κs = search needs
 
@@ -19,9 +16,6 @@ put-requires c κs = search needs
 
 number-requires : tie.Need-number-requires
 number-requires c κs = search needs
-
-slice-reshare-prefix-put-answer : tie.Need-slice-reshare-prefix-put-answer
-slice-reshare-prefix-put-answer c = search needs
 
 slice-aggregate-put-answer : tie.Need-slice-aggregate-put-answer
 slice-aggregate-put-answer c = simp length-take (omega arith)
@@ -38,9 +32,6 @@ slice-aggregate-write c = search needs
 write-requires : tie.Need-write-requires
 write-requires c κs = let e = simp length-take at (c .before .before .put-answer .ensures .short) in omega arith
 
-same-length : tie.Need-same-length
-same-length c = search needs
-
 returns : tie.Need-returns
 returns c = search needs
 
@@ -48,16 +39,13 @@ pub show-spec : {M : Type 1} → statement M
 show-spec =
     tie.close
     (tie.spec
-    read-requires
     length-requires
     slice-aggregate-put
     put-requires
     number-requires
-    slice-reshare-prefix-put-answer
     slice-aggregate-put-answer
     slice-aggregate-put-answer-2
     put-answer-requires
     slice-aggregate-write
     write-requires
-    same-length
     returns)

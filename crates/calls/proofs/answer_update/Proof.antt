@@ -1,0 +1,28 @@
+-- `calls::answer_update` meets its contract: what the service writes lies in the room, which is as long as before.
+use mathlib.Core.Path.{ap}
+use native.Mathlib.Omega.{arith}
+use lib.ListN.{length, length-append, length-drop}
+use borrow.Author.Needs.{needs}
+use Rattle.calls.proofs.answer_update.Statement.{statement}
+use Rattle.calls.proofs.answer_update.Tie as tie
+
+update-requires : tie.Need-update-requires
+update-requires c κs = search needs
+
+number-requires : tie.Need-number-requires
+number-requires c κs = search needs
+
+length-requires : tie.Need-length-requires
+length-requires c κs = search needs
+
+same-length : tie.Need-same-length
+same-length c = search needs
+
+returns : tie.Need-returns
+returns c =
+    let s = c .before .before .before .before .update .ensures in
+    omega (arith, same-length c, c .length .ensures, s .size-is, simp (length-append, length-drop) at (ap length (s .bytes-are)))
+
+pub answer-update-spec : {M : Type 1} → statement M
+answer-update-spec =
+    tie.close (tie.spec update-requires number-requires length-requires same-length returns)
