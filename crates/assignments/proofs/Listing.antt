@@ -17,7 +17,7 @@ use Rattle.buffer.specs.Splice.{splice}
 use Rattle.buffer.proofs.Laws.{length-splice}
 use Rattle.buffer.proofs.Cases.{by-order}
 use Rattle.tables.specs.Entries.{blank, is-group}
-use Rattle.assignments.specs.Notes.{note-place, numbers, place-at, noted, Good-note, Listed, Unindexed, entry-noted, occurrence-noted, value-noted, from-noted, upto-noted}
+use Rattle.assignments.specs.Notes.{note-place, note-numbers, place-at, noted, Good-note, Listed, Unindexed, entry-noted, occurrence-noted, value-noted, from-noted, upto-noted}
 use Rattle.assignments.specs.declared.Note.{Note}
 use Rattle.assignments.proofs.Setting.{sets-below, sets-at}
 use Rattle.assignments.proofs.Runs.{run-last, run-agree}
@@ -90,15 +90,15 @@ module _ {es : List Entry} {list : List ℕ} {stage : Bytes} {staged : ℕ} {ws 
     (room : note-place (length ws + 1) ≤ length list)
     (from : n .from ≡ staged) (upto : n .upto ≡ staged + length bytes) (long : n .upto ≤ length stage) where
   after : List ℕ
-  after = sets list (note-place (length ws)) (numbers n)
+  after = sets list (note-place (length ws)) (note-numbers n)
 
   same-before : (m : ℕ) → m < length ws → Same-note list after m
   unfolding after
-  same-before m h = same-note list after m (λ j i k. sets-below (numbers n) list (note-place (length ws)) j (omega arith))
+  same-before m h = same-note list after m (λ j i k. sets-below (note-numbers n) list (note-place (length ws)) j (omega arith))
 
-  put-number : (k j : ℕ) → j ≡ note-place (length ws) + k → k < 6 → getD after j 0 ≡ getD (numbers n) k 0
+  put-number : (k j : ℕ) → j ≡ note-place (length ws) + k → k < 6 → getD after j 0 ≡ getD (note-numbers n) k 0
   unfolding after
-  put-number k j e i = sets-at (numbers n) list (note-place (length ws)) k j e (omega arith) i
+  put-number k j e i = sets-at (note-numbers n) list (note-place (length ws)) k j e (omega arith) i
 
   put-entry : entry-noted after (length ws) ≡ n .entry
   put-entry = put-number 0 (note-place (length ws)) (omega arith) (omega arith)
@@ -149,13 +149,13 @@ module _ {es : List Entry} {list : List ℕ} {stage : Bytes} {staged : ℕ} {ws 
 
   pub listed-more : n .entry < length es → is-group (getD es (n .entry) blank .what) ≡ false → (1 ≤ n .occurrence) × (n .occurrence ≤ highest-index)
       → (1 ≤ n .value) × (n .value ≤ highest-index) → length ws + 1 ≤ longest-new-record
-      → Listed es (sets list (note-place (length ws)) (numbers n)) (splice staged bytes stage) (n .upto)
+      → Listed es (sets list (note-place (length ws)) (note-numbers n)) (splice staged bytes stage) (n .upto)
       (ws ++ (record { place = place-at es (n .entry) (n .occurrence) (n .value); bare = n .bare; bytes = bytes } ∷ []))
   unfolding after put-assignment
   listed-more e g o v few = let one : length (ws ++ (put-assignment ∷ [])) ≡ suc (length ws) = length-append ws (put-assignment ∷ []) ∙ add-one (length ws) in
       record {
         entries = l .entries;
-        room = rw (one, length-sets list (note-place (length ws)) (numbers n)) (omega arith);
+        room = rw (one, length-sets list (note-place (length ws)) (note-numbers n)) (omega arith);
         few = omega arith;
         long = rw (length-splice staged bytes stage (omega arith)) long;
         notes = put-notes ∙ ap (run (noted es after (splice staged bytes stage)) 0) (sym one);

@@ -36,15 +36,15 @@ abbrev pub note-place : ℕ → ℕ
 note-place m = notes-from + numbers-noted * m
 
 -- The numbers of a note but the last, and that they are small.
-abbrev pub numbers : Note → List ℕ
-numbers n = n .entry ∷ n .occurrence ∷ n .value ∷ cond (n .bare) 1 0 ∷ n .from ∷ n .upto ∷ []
+abbrev pub note-numbers : Note → List ℕ
+note-numbers n = n .entry ∷ n .occurrence ∷ n .value ∷ cond (n .bare) 1 0 ∷ n .from ∷ n .upto ∷ []
 
-abbrev pub number-bound : ℕ
-number-bound = 65536
+abbrev pub note-bound : ℕ
+note-bound = 65536
 
 abbrev pub Small-note : Note → Type 0
 Small-note n =
-    (n .entry < number-bound) × (n .occurrence < number-bound) × (n .value < number-bound) × (n .from < number-bound) × (n .upto < number-bound)
+    (n .entry < note-bound) × (n .occurrence < note-bound) × (n .value < note-bound) × (n .from < note-bound) × (n .upto < note-bound)
 
 abbrev pub entry-noted : List ℕ → ℕ → ℕ
 entry-noted list m = getD list (note-place m) 0
@@ -130,17 +130,17 @@ chained list (suc most) zero = []
 chained list (suc most) (suc m) = m ∷ chained list most (next-noted list m)
 
 -- The numbers below n.
-abbrev pub numbers-below : ℕ → List ℕ
-numbers-below n = run (λ m. m) 0 n
+abbrev pub notes-below : ℕ → List ℕ
+notes-below n = run (λ m. m) 0 n
 
 -- The list can be searched: the chain of a cell has the notes of that cell in their order, and others.
 pub record Indexed (es : List Entry) (list : List ℕ) (stage : Bytes) (staged : ℕ) (ws : List Assignment) : Type 0 where
   pub listed : Listed es list stage staged ws
   pub heads : (x : ℕ) → x < chains → getD list x 0 ≤ length ws
   pub nexts : (m : ℕ) → m < length ws → (next-noted list m ≤ length ws) × (0 < next-noted list m → suc m < next-noted list m)
-  pub cells : (i o : ℕ) → filter (in-cell list i o) (chained list (length ws) (getD list (chain-of i o) 0)) ≡ filter (in-cell list i o) (numbers-below (length ws))
+  pub cells : (i o : ℕ) → filter (in-cell list i o) (chained list (length ws) (getD list (chain-of i o) 0)) ≡ filter (in-cell list i o) (notes-below (length ws))
   pub highest : (i : ℕ) → i < most-entries → getD list (highest-from + i) 0
-      ≡ maximum (map (occurrence-noted list) (filter (λ m. eqb (entry-noted list m) i) (numbers-below (length ws))))
+      ≡ maximum (map (occurrence-noted list) (filter (λ m. eqb (entry-noted list m) i) (notes-below (length ws))))
 
 -- The list can be searched for some assignments.
 abbrev pub Has-index : List ℕ → Type 0

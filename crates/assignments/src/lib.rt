@@ -9,7 +9,7 @@ ghost use Rattle.rules.specs.Limits.{most-entries, highest-index, longest-new-r
 ghost use Rattle.rules.specs.Lists.{Bytes};
 ghost use Rattle.rules.specs.Table.{Entry};
 ghost use Rattle.rules.specs.Update.{Assignment};
-ghost use Rattle.assignments.specs.Notes.{numbers-noted, note-place, numbers, Small-note, in-cell, chain-of, Listed, Unindexed, Can-link, linked, Indexed, Has-index, Has-note};
+ghost use Rattle.assignments.specs.Notes.{numbers-noted, note-place, note-numbers, Small-note, in-cell, chain-of, Listed, Unindexed, Can-link, linked, Indexed, Has-index, Has-note};
 ghost use Rattle.assignments.specs.Answers.{Stands, bytes-noted, Of-each, Assigned, Names, Highest};
 
 // The numbers of a list in three regions: the heads of the chains; from HIGHEST on the highest occurrence named of each entry; and from
@@ -52,7 +52,7 @@ pub struct Note {
 // Writes note m.
 pub fn put(list: &mut [u16], m: usize, n: Note)
     requires { ⌜ (note-place (m + 1) ≤ length (now list)) × Small-note n ⌝ }
-    ensures { λ _. ⌜ now (list .exit) ≡ sets (now (list .entry)) (note-place m) (numbers n) ⌝ }
+    ensures { λ _. ⌜ now (list .exit) ≡ sets (now (list .entry)) (note-place m) (note-numbers n) ⌝ }
 {
     let at = NOTES + NUMBERS * m;
     list[at] = n.entry as u16;

@@ -26,7 +26,7 @@ use Rattle.rules.proofs.Entries.{Sound, Among, parts-among, table-sound, field-
 use Rattle.rules.proofs.Names.{parts-found, home-all}
 use Rattle.rules.proofs.Alls.{all-both}
 use Rattle.rules.proofs.Stands.{Stands, uses-stand}
-use Rattle.histories.specs.History.{Call, History, Sent, answer, left-by, record-after, Writes, writes-of, writes, accepted, last-written, value-count-of, occurrences-of, group-count-of, items-by, Over-a-history}
+use Rattle.histories.specs.History.{Call, History, Sent, answer, left-by, record-after, Writes, writes-of, writes, accepted, last-written-value, value-count-of, occurrences-of, group-count-of, items-by, Over-a-history}
 use Rattle.histories.specs.Told.{told-item, told-items, told}
 use Rattle.histories.proofs.OneUpdate.{update-moves}
 use Rattle.histories.proofs.Counts.{group-moves, count-moves}
@@ -45,7 +45,7 @@ pub record Holds (es : List Entry) (b : Bytes) (us : List Writes) (r : Record) :
   pub held : stored (parts es) b ≡ done r
   pub short : length b ≤ longest-record
   pub values : (p : Part) (f : Field) (i k : ℕ) → home (f .name) (parts es) ≡ some (p, f) → Occurs p f i k
-      → value-at (parts es) r f i k ≡ last-written us (record { field = f; occurrence = i; value = k })
+      → value-at (parts es) r f i k ≡ last-written-value us (record { field = f; occurrence = i; value = k })
   pub value-counts : (p : Part) (f : Field) (i : ℕ) → home (f .name) (parts es) ≡ some (p, f) → Occurs p f i 1 → f .multiple ≡ true
       → value-count-at (parts es) r (f .name) i ≡ value-count-of us (f .name) i
   pub group-counts : (n : ℕ) (p : Part) → part-named n (parts es) ≡ some p → p .periodic ≡ true → group-count-at (parts es) r n ≡ occurrences-of us p
@@ -115,7 +115,7 @@ module _ (t : Bytes) (es : List Entry) (is-table : table t ≡ done es) where
 
   -- The empty record is what no writes leave.
   start-holds : (start : Bytes) → empty t longest-new-record ≡ done start → Holds es start [] (empty-record (parts es))
-  unfolding empty last-written value-count-of occurrences-of
+  unfolding empty last-written-value value-count-of occurrences-of
   start-holds start e =
       from-fitting longest-new-record (record-bytes (parts es) (empty-record (parts es))) start (rw is-table at e) λ l q.
       record {
@@ -129,7 +129,7 @@ module _ (t : Bytes) (es : List Entry) (is-table : table t ≡ done es) where
   -- An accepted update's record is what its writes leave of the one before.
   update-holds : {C : Type 0} (b : Bytes) (us : List Writes) (r : Record) (c : Call) (new : Bytes) → ((i : ℕ) → getD (c .buffer) i 0 < 256) → Holds es b us r → answer t b c ≡ done new
       → ((ws : Writes) → writes t c ≡ ws → Holds es new (ws ∷ us) (after-update (parts es) r ws) → C) → C
-  unfolding answer update writes writes-of last-written value-count-of occurrences-of left
+  unfolding answer update writes writes-of last-written-value value-count-of occurrences-of left
   update-holds b us r c new bytes h e then =
       from-bind (assignments-of es (c .format) (c .buffer)) _ (rw (is-table, h .held) at e) λ ws a k.
       from-fitting (c .room) (record-bytes (parts es) (after-update (parts es) r ws)) new k λ l q.
@@ -144,7 +144,7 @@ module _ (t : Bytes) (es : List Entry) (is-table : table t ≡ done es) where
 
   -- At its standard length and format an occurrence is told as it was written.
   standard-told : (p : Place) (bare : Bool) → Stands es (value-item p (p .field .format) (p .field .size) bare) → {b : Bytes} {us : List Writes} (r : Record) → Holds es b us r → Record-ok (parts es) r
-      → converted-bytes (p .field .format) (p .field .format) (p .field .size) (content (p .field .size) (last-written us p)) ≡ done (last-written us p)
+      → converted-bytes (p .field .format) (p .field .format) (p .field .size) (content (p .field .size) (last-written-value us p)) ≡ done (last-written-value us p)
   standard-told p bare s r h ok = let (q, at, g) = s in
       stored-itself (p .field) _ (subst (Stored (p .field)) (h .values q (p .field) (p .occurrence) (p .value) at g)
       (value-ok (parts es) r q (p .field) (p .occurrence) (p .value) ok at (null-known q (p .field) at)))

@@ -17,8 +17,8 @@ use Rattle.rules.proofs.Back.{All}
 use Rattle.rules.proofs.Uses.{table-differ, Index}
 use Rattle.rules.proofs.Entries.{Among, Two-bytes, table-sound, table-named, find-among, field-allowed}
 use Rattle.rules.proofs.FieldHomes.{named-field, among-find}
-use Rattle.histories.specs.History.{History, Sent, record-after, accepted, last-written, value-count-of, group-count-of, items-by, Reads}
-use Rattle.histories.specs.Spelled.{indexed, valued, counted, element-alone}
+use Rattle.histories.specs.History.{History, Sent, record-after, accepted, last-written-value, value-count-of, group-count-of, items-by, Reads}
+use Rattle.histories.specs.Spelled.{indexed, valued, count-spelled, element-alone}
 use Rattle.histories.proofs.Spelled.{Spells}
 use Rattle.histories.proofs.Formats.{standard, group-C, field-C, index-C, plain-alone, value-alone, occurrence-alone, both-alone}
 use Rattle.histories.proofs.Demand.{demand-3}
@@ -69,7 +69,7 @@ module _ (t : Bytes) (es : List Entry) (is-table : table t ≡ done es) (start :
   -- Each occurrence of each field of the table has a format that reads it alone, and that reads it as it was last written.
   pub each-occurrence : (f : Field) → Among es f → (i k : ℕ) → Index i → Index k
       → ((x : Found) → find (f .name) es ≡ done x → x .inside ≡ false → i ≡ 1) → (f .multiple ≡ false → k ≡ 1)
-      → (format : Bytes) × (items-by es format ≡ done (standard f i k ∷ [])) × Reads t (record-after t start h) format (last-written (accepted t start h) (place-at f i k))
+      → (format : Bytes) × (items-by es format ≡ done (standard f i k ∷ [])) × Reads t (record-after t start h) format (last-written-value (accepted t start h) (place-at f i k))
   unfolding find
   each-occurrence f m i k oi ok p q =
       let sound = table-sound t es is-table in
@@ -93,7 +93,7 @@ module _ (t : Bytes) (es : List Entry) (is-table : table t ≡ done es) (start :
     module _ (f : Format) (s : ℕ) where
       -- `AA.`
       pub reads-plain : x .entry .what ≡ field f s false → x .inside ≡ false
-          → Reads t (record-after t start h) (element-alone a b []) (last-written (accepted t start h) (place-at (named-field (name-of a b) f s false) 1 1))
+          → Reads t (record-after t start h) (element-alone a b []) (last-written-value (accepted t start h) (place-at (named-field (name-of a b) f s false) 1 1))
       reads-plain w o = demand-3 t es is-table start is-start h sent .occurrences _ (place-at (named-field (name-of a b) f s false) 1 1) false
           (plain-alone es a b name x found f s false w (found-allowed f s false w) refl o)
 
@@ -105,23 +105,23 @@ module _ (t : Bytes) (es : List Entry) (is-table : table t ≡ done es) (start :
       module _ (ds : List ℕ) (i : ℕ) (z : Spells ds i) (r : Index i) where
         -- `MF3.`
         pub reads-value : x .entry .what ≡ field f s true → x .inside ≡ false
-            → Reads t (record-after t start h) (element-alone a b (indexed ds)) (last-written (accepted t start h) (place-at (named-field (name-of a b) f s true) 1 i))
+            → Reads t (record-after t start h) (element-alone a b (indexed ds)) (last-written-value (accepted t start h) (place-at (named-field (name-of a b) f s true) 1 i))
         reads-value w o = demand-3 t es is-table start is-start h sent .occurrences _ (place-at (named-field (name-of a b) f s true) 1 i) false
             (value-alone es a b name x found f s true w (found-allowed f s true w) ds i z r refl o)
 
         -- `BA2.`, and `CB2.` for value 1
         pub reads-occurrence : (m : Bool) → x .entry .what ≡ field f s m → x .inside ≡ true
-            → Reads t (record-after t start h) (element-alone a b (indexed ds)) (last-written (accepted t start h) (place-at (named-field (name-of a b) f s m) i 1))
+            → Reads t (record-after t start h) (element-alone a b (indexed ds)) (last-written-value (accepted t start h) (place-at (named-field (name-of a b) f s m) i 1))
         reads-occurrence m w o = demand-3 t es is-table start is-start h sent .occurrences _ (place-at (named-field (name-of a b) f s m) i 1) false
             (occurrence-alone es a b name x found f s m w (found-allowed f s m w) ds i z r o)
 
         -- `CB2C.`
         pub reads-count-in : x .entry .what ≡ field f s true → x .inside ≡ true
-            → Reads t (record-after t start h) (element-alone a b (counted ds)) (value-count-of (accepted t start h) (name-of a b) i ∷ [])
+            → Reads t (record-after t start h) (element-alone a b (count-spelled ds)) (value-count-of (accepted t start h) (name-of a b) i ∷ [])
         reads-count-in w o = demand-3 t es is-table start is-start h sent .value-counts _ (name-of a b) i (index-C es a b name x found f s w o ds i z r)
 
         -- `CB2(5).`
         pub reads-value-in : (vs : List ℕ) (k : ℕ) → Spells vs k → Index k → x .entry .what ≡ field f s true → x .inside ≡ true
-            → Reads t (record-after t start h) (element-alone a b (valued ds vs)) (last-written (accepted t start h) (place-at (named-field (name-of a b) f s true) i k))
+            → Reads t (record-after t start h) (element-alone a b (valued ds vs)) (last-written-value (accepted t start h) (place-at (named-field (name-of a b) f s true) i k))
         reads-value-in vs k y q w o = demand-3 t es is-table start is-start h sent .occurrences _ (place-at (named-field (name-of a b) f s true) i k) false
             (both-alone es a b name x found f s true w (found-allowed f s true w) ds i z r vs k y q refl o)

@@ -20,7 +20,7 @@ use Rattle.rules.proofs.Ranges.{one-field, over-just, item-at}
 use Rattle.rules.proofs.FieldHomes.{named-field}
 use Rattle.rules.proofs.Uses.{Index}
 use Rattle.histories.specs.History.{items-by}
-use Rattle.histories.specs.Spelled.{indexed, valued, counted, element-alone}
+use Rattle.histories.specs.Spelled.{indexed, valued, count-spelled, element-alone}
 use Rattle.histories.proofs.Spelled.{Spells, nothing-after, C-after, index-after, counted-after, valued-after, one-element, indexed-solid, counted-solid, valued-solid, indexed-short, counted-short, valued-short, high-solid}
 
 items-one : (es : List Entry) (f : Bytes) (e : Element) (u : Use) (x : Item) → elements f ≡ done (e ∷ []) → use-of es [] e ≡ done u → items-of u ≡ x ∷ [] → items-by es f ≡ done (x ∷ [])
@@ -67,9 +67,9 @@ module _ (es : List Entry) (a b : ℕ) (name : is-name a b ≡ true) (x : Found)
     field-C w o = count-item (letter-C ∷ []) none _ (one-element a b (letter-C ∷ []) _ name (high-solid letter-C (omega arith), tt) (omega arith) (C-after (name-of a b)) refl) (rw (w, use-of-count, o) refl)
 
     -- `CB2C.`
-    pub index-C : x .entry .what ≡ field f s true → x .inside ≡ true → (ds : List ℕ) (i : ℕ) → Spells ds i → Index i → items-by es (element-alone a b (counted ds)) ≡ done (value-count (name-of a b) i ∷ [])
+    pub index-C : x .entry .what ≡ field f s true → x .inside ≡ true → (ds : List ℕ) (i : ℕ) → Spells ds i → Index i → items-by es (element-alone a b (count-spelled ds)) ≡ done (value-count (name-of a b) i ∷ [])
     unfolding completed use-of-count absent settled
-    index-C w o ds i z r = count-item (counted ds) (some i) _ (one-element a b (counted ds) _ name (counted-solid ds) (counted-short ds i z) (counted-after (name-of a b) ds i z) refl)
+    index-C w o ds i z r = count-item (count-spelled ds) (some i) _ (one-element a b (count-spelled ds) _ name (counted-solid ds) (counted-short ds i z) (counted-after (name-of a b) ds i z) refl)
         (rw (w, use-of-count, o, need-true (in-order (just i)) 5 (just-in-order i r)) refl)
 
   module _ (f : Format) (s : ℕ) (m : Bool) (what : x .entry .what ≡ field f s m) (known : allowed f s ≡ true) where

@@ -26,8 +26,8 @@ use Rattle.rules.proofs.Laid.{occurrences-at}
 use Rattle.rules.proofs.Entries.{Among, Sound, parts-among, table-sound, table-named, field-allowed}
 use Rattle.rules.proofs.Names.{home-all, parts-picked, parts-parted}
 use Rattle.rules.proofs.FieldHomes.{field-home, among-find}
-use Rattle.histories.specs.History.{History, Sent, record-after, accepted, last-written, value-count-of, group-count-of, items-by, Over-a-history}
-use Rattle.histories.specs.Spelled.{counted, element-alone}
+use Rattle.histories.specs.History.{History, Sent, record-after, accepted, last-written-value, value-count-of, group-count-of, items-by, Over-a-history}
+use Rattle.histories.specs.Spelled.{count-spelled, element-alone}
 use Rattle.histories.proofs.Written.{null-stored}
 use Rattle.histories.proofs.Keep.{value-ok, sized-bound}
 use Rattle.histories.proofs.Reading.{reads-item, stored-itself}
@@ -65,8 +65,8 @@ module _ (t : Bytes) (es : List Entry) (is-table : table t ≡ done es) (start :
         let same : y ≡ x = done-inj (sym found′ ∙ found) in
         from-some-pair (sym at ∙ at′) λ u v. s (ap (λ w. w .periodic) u ∙ z ∙ ap (λ w. w .inside) same ∙ o)
 
-    value-told : (i k : ℕ) → Index i → Index k → Occurs p f i k → Stored f (last-written (accepted t start h) (record { field = f; occurrence = i; value = k }))
-        → value-at (parts es) r f i k ≡ last-written (accepted t start h) (record { field = f; occurrence = i; value = k })
+    value-told : (i k : ℕ) → Index i → Index k → Occurs p f i k → Stored f (last-written-value (accepted t start h) (record { field = f; occurrence = i; value = k }))
+        → value-at (parts es) r f i k ≡ last-written-value (accepted t start h) (record { field = f; occurrence = i; value = k })
     unfolding item-bytes
     value-told i k oi ok g s =
         let (format, e, _) = each-occurrence t es is-table start is-start h sent f among i k oi ok (one-occurrence i (g .single)) (g .plain) in
@@ -84,8 +84,8 @@ module _ (t : Bytes) (es : List Entry) (is-table : table t ≡ done es) (start :
         let what′ : x .entry .what ≡ field (f .format) (f .size) true = what ∙ ap (field (f .format) (f .size)) m in
         by-test (x .inside)
         (λ o. (
-          element-alone a c (counted (three i)),
-          subst (λ n. items-by es (element-alone a c (counted (three i))) ≡ done (value-count n i ∷ [])) (sym n)
+          element-alone a c (count-spelled (three i)),
+          subst (λ n. items-by es (element-alone a c (count-spelled (three i))) ≡ done (value-count n i ∷ [])) (sym n)
               (index-C es a c name x found′ (f .format) (f .size) what′ o (three i) i (three-spell i oi) oi),
         ))
         (λ o. (

@@ -17,7 +17,7 @@ use Rattle.rules.specs.Services.{read, empty}
 use Rattle.rules.proofs.Specimen.{job-table, same-answer, passes}
 use Rattle.rules.proofs.Steps.{done-inj}
 use Rattle.rules.proofs.Home.{part-named}
-use Rattle.histories.specs.History.{Call, History, Sent, answer, left-by, record-after, writes-of, writes, accepted, last-written, value-count-of, occurrences-of, group-count-of, items-by, Over-a-history}
+use Rattle.histories.specs.History.{Call, History, Sent, answer, left-by, record-after, writes-of, writes, accepted, last-written-value, value-count-of, occurrences-of, group-count-of, items-by, Over-a-history}
 use Rattle.histories.specs.Told.{told-item, told-items, told}
 
 unfoldable pub job-start : Bytes
@@ -31,7 +31,7 @@ abbrev pub Answers : Type 0
 Answers = List (Bytes × Bytes)
 
 unfoldable pub agrees : History → Bytes × Bytes → Bool
-unfolding passes job-start answer left-by record-after writes-of writes accepted last-written value-count-of occurrences-of part-named group-count-of told-item told-items told
+unfolding passes job-start answer left-by record-after writes-of writes accepted last-written-value value-count-of occurrences-of part-named group-count-of told-item told-items told
 agrees h x =
     same-answer (read job-table (record-after job-table job-start h) (x .0) longest-items) (done (x .1))
     && same-answer (told job-table (accepted job-table job-start h) (x .0) longest-items) (done (x .1))

@@ -18,7 +18,7 @@ use Rattle.rules.specs.Table.{is-name, name-of}
 use Rattle.rules.specs.Format.{Range, Element, named, count, element, turned, onto, texts, skip-spaces, trim, leading-digits, number-first, closing, parenthesis, after-range, after-index, after-name, piece, Pending, settled, completed, put-before, assembled, elements}
 use Rattle.rules.proofs.Steps.{need-true, and-intro, not-both}
 use Rattle.rules.proofs.Back.{All}
-use Rattle.histories.specs.Spelled.{figures, indexed, valued, counted, element-alone}
+use Rattle.histories.specs.Spelled.{figures, indexed, valued, count-spelled, element-alone}
 
 -- No byte that parts elements, quotes text or is left out.
 abbrev pub Solid : ℕ → Type 0
@@ -154,8 +154,8 @@ module _ (n : ℕ) where
     unfolding indexed after-index
     index-after = ap (after-name n) (sym (append-nil (figures ds))) ∙ after-figures n ds i [] s tt
 
-    pub counted-after : after-name n (counted ds) ≡ done (count n (some i))
-    unfolding counted after-index nothing digit
+    pub counted-after : after-name n (count-spelled ds) ≡ done (count n (some i))
+    unfolding count-spelled after-index nothing digit
     counted-after = after-figures n ds i (letter-C ∷ []) s refl
 
     pub valued-after : (vs : List ℕ) (k : ℕ) → Spells vs k → after-name n (valued ds vs) ≡ done (named n (some (only i)) (some (only k)) none none)
@@ -197,8 +197,8 @@ module _ (ds : List ℕ) where
   unfolding indexed
   indexed-solid = figures-solid ds
 
-  pub counted-solid : All Solid (counted ds)
-  unfolding counted
+  pub counted-solid : All Solid (count-spelled ds)
+  unfolding count-spelled
   counted-solid = solid-append (figures ds) (letter-C ∷ []) (figures-solid ds) (high-solid letter-C (omega arith), tt)
 
   pub valued-solid : (vs : List ℕ) → All Solid (valued ds vs)
@@ -211,8 +211,8 @@ module _ (ds : List ℕ) where
     unfolding indexed
     indexed-short = let l = figures-long ds i s in omega arith
 
-    pub counted-short : length (counted ds) ≤ 2000
-    unfolding counted
+    pub counted-short : length (count-spelled ds) ≤ 2000
+    unfolding count-spelled
     counted-short = let l = figures-long ds i s in let z = length-append (figures ds) (letter-C ∷ []) in omega arith
 
     pub valued-short : (vs : List ℕ) (k : ℕ) → Spells vs k → length (valued ds vs) ≤ 2000

@@ -71,13 +71,13 @@ accepted t start (c ∷ earlier) = elim (is-done (answer t (record-after t start
 
 -- "as the last accepted update that named it wrote it, in normal form. It reads as null if none did, or if a later accepted one listed
 -- that multiple-value field by bare names only and didn't reach it."
-unfoldable pub last-written : List Writes → Place → Bytes
-last-written [] p = null (p .field .format) (p .field .size)
-last-written (ws ∷ earlier) p = elim (assigned ws p) [
+unfoldable pub last-written-value : List Writes → Place → Bytes
+last-written-value [] p = null (p .field .format) (p .field .size)
+last-written-value (ws ∷ earlier) p = elim (assigned ws p) [
   | some b ↦ b
   | none ↦ elim (bare-only (to-field ws (p .field .name) (p .occurrence))) [
     | true ↦ null (p .field .format) (p .field .size)
-    | false ↦ last-written earlier p
+    | false ↦ last-written-value earlier p
   ]
 ]
 
@@ -115,7 +115,7 @@ pub record Over-a-history (t : Bytes) (es : List Entry) (start : Bytes) (h : His
   -- "Each occurrence reads, at its standard length and format, as the last accepted update that named it wrote it": by any format that
   -- stands for that occurrence alone.
   pub occurrences : (f : Bytes) (p : Place) (bare : Bool) → items-by es f ≡ done (value-item p (p .field .format) (p .field .size) bare ∷ [])
-      → Reads t b f (last-written (accepted t start h) p)
+      → Reads t b f (last-written-value (accepted t start h) p)
   -- "Every count is the one that document 01 derives from that same history": by any format that stands for that count alone.
   pub value-counts : (f : Bytes) (n i : ℕ) → items-by es f ≡ done (value-count n i ∷ []) → Reads t b f (value-count-of (accepted t start h) n i ∷ [])
   pub group-counts : (f : Bytes) (n : ℕ) → items-by es f ≡ done (group-count n ∷ []) → Reads t b f (group-count-of es (accepted t start h) n ∷ [])

@@ -15,8 +15,8 @@ indexed ds = figures ds
 unfoldable pub valued : List ℕ → List ℕ → Bytes
 valued ds vs = figures ds ++ (open-parenthesis ∷ figures vs ++ (close-parenthesis ∷ []))
 
-unfoldable pub counted : List ℕ → Bytes
-counted ds = figures ds ++ (letter-C ∷ [])
+unfoldable pub count-spelled : List ℕ → Bytes
+count-spelled ds = figures ds ++ (letter-C ∷ [])
 
 -- A name and what stands after it, as a format.
 unfoldable pub element-alone : ℕ → ℕ → Bytes → Bytes

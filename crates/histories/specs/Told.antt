@@ -12,14 +12,14 @@ use Rattle.rules.specs.Values.{content, converted-bytes}
 use Rattle.rules.specs.Table.{Entry, table}
 use Rattle.rules.specs.Format.{elements}
 use Rattle.rules.specs.Use.{Item, blanks-item, text-item, group-count, value-count, value-item, items, uses}
-use Rattle.histories.specs.History.{Writes, last-written, value-count-of, group-count-of}
+use Rattle.histories.specs.History.{Writes, last-written-value, value-count-of, group-count-of}
 
 unfoldable pub told-item : List Entry → List Writes → Item → Outcome Bytes
 told-item es us (blanks-item n) = done (replicate n space)
 told-item es us (text-item t) = done t
 told-item es us (group-count n) = done (group-count-of es us n ∷ [])
 told-item es us (value-count n i) = done (value-count-of us n i ∷ [])
-told-item es us (value-item p g n bare) = converted-bytes (p .field .format) g n (content (p .field .size) (last-written us p))
+told-item es us (value-item p g n bare) = converted-bytes (p .field .format) g n (content (p .field .size) (last-written-value us p))
 
 unfoldable pub told-items : List Entry → List Writes → ℕ → List Item → Outcome Bytes
 told-items es us room [] = done []

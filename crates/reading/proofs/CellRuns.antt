@@ -22,7 +22,7 @@ use Rattle.filling.specs.Filling.{in-room, Filling, Continues, together}
 use Rattle.reading.specs.Cells.{Wants, converted-to, wanted, existing, Stand, Exist}
 use Rattle.filling.specs.declared.Next.{Next}
 use Rattle.filling.specs.declared.Next.the-variants.{At, Refused}
-use Rattle.reading.specs.declared.cells.Run.{Run}
+use Rattle.reading.specs.declared.cells.ValueRun.{ValueRun}
 use Rattle.reading.specs.declared.cells.Wanted.{Wanted}
 use Rattle.filling.proofs.Continues.{continues-start, continues-last, turn, turn-within, stop}
 use Rattle.filling.proofs.Together.{together-done, together-copies}
@@ -86,7 +86,7 @@ module _ (w : Wanted) (b : Bytes) (at n : ℕ) (us : List Bytes) (s : Stand w b 
         (ap (λ (bs : Bytes). in-room room (done bs)) (stored-bytes upto h h₂ e .1) ∙ sym (ap (together room) (as-stored own size) ∙ together-done us room))
 
 -- What is wanted of a cell is put: the run of those that exist, and then nulls.
-module _ (w : Wanted) (h : Wants w) (b : Bytes) (vs : List Bytes) (r : Run) (x : Exist w b vs r) where
+module _ (w : Wanted) (h : Wants w) (b : Bytes) (vs : List Bytes) (r : ValueRun) (x : Exist w b vs r) where
   count-is : length (existing w vs) ≡ r .count
   count-is = times-length (stored-value (format-at (w .own)) (w .standard)) (r .count) (drop (r .at) b) (x .stand .1)
 

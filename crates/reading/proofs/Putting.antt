@@ -17,7 +17,7 @@ use Rattle.uses.specs.Meant.{use-meant, Means, Remembered}
 use Rattle.uses.specs.declared.Use.{Use}
 use Rattle.uses.specs.declared.Meant.the-variants as meant
 use Rattle.reading.specs.Spans.{Fills}
-use Rattle.reading.specs.Scan.{filled-upto, element-refused, progress-after, Puts}
+use Rattle.reading.specs.Scan.{filled-upto, element-refused, progress-after, Puts-element}
 use Rattle.filling.specs.declared.Next.{Next}
 use Rattle.filling.specs.declared.Next.the-variants as next
 use Rattle.reading.specs.declared.Progress.{Progress}
@@ -32,18 +32,18 @@ not-refused s h k e = not-both (sym h ∙ ap element-refused e)
 
 module _ {es : List Entry} {b : Bytes} {places : List ℕ} {f : Bytes} {end : ℕ} {write : Bool} {e : Element} {last : List ℕ} where
   -- Standings that are known by equations.
-  pub puts-as : {last′ : List ℕ} {s s₁ s′ s′₁ : Progress} {out out′ : Bytes} → s ≡ s₁ → s′ ≡ s′₁ → Puts es b places f end write e last last′ s₁ out out′ s′₁
-      → Puts es b places f end write e last last′ s out out′ s′
+  pub puts-as : {last′ : List ℕ} {s s₁ s′ s′₁ : Progress} {out out′ : Bytes} → s ≡ s₁ → s′ ≡ s′₁ → Puts-element es b places f end write e last last′ s₁ out out′ s′₁
+      → Puts-element es b places f end write e last last′ s out out′ s′
   puts-as {last′} {s} {s₁} {s′} {s′₁} {out} {out′} q q′ p =
-      subst (λ (x : Progress). Puts es b places f end write e last last′ x out out′ s′) (sym q)
-      (subst (λ (x : Progress). Puts es b places f end write e last last′ s₁ out out′ x) (sym q′) p)
+      subst (λ (x : Progress). Puts-element es b places f end write e last last′ x out out′ s′) (sym q)
+      (subst (λ (x : Progress). Puts-element es b places f end write e last last′ s₁ out out′ x) (sym q′) p)
 
-  pub puts-nothing : (s : Progress) {out : Bytes} → element-refused s ≡ true → Puts es b places f end write e last last s out out s
+  pub puts-nothing : (s : Progress) {out : Bytes} → element-refused s ≡ true → Puts-element es b places f end write e last last s out out s
   puts-nothing (At p) h = absurd (not-both h)
   puts-nothing (ItemRefused n) h = absurd (not-both h)
   puts-nothing (ElementRefused n) h = record { fits = omega arith; same = refl; kept = refl; continues = λ ls q. (ls, q, λ r k xs. passed es r end ls (element-of f e) xs n) }
 
-  pub puts-refused : (s : Progress) {out : Bytes} (n : Refusal) → Means es last e (meant.Refused n) → element-refused s ≡ false → Puts es b places f end write e last last s out out (ElementRefused n)
+  pub puts-refused : (s : Progress) {out : Bytes} (n : Refusal) → Means es last e (meant.Refused n) → element-refused s ≡ false → Puts-element es b places f end write e last last s out out (ElementRefused n)
   puts-refused s n m h = record {
     fits = omega arith;
     same = refl;
@@ -52,7 +52,7 @@ module _ {es : List Entry} {b : Bytes} {places : List ℕ} {f : Bytes} {end : �
   }
 
   module _ {last′ : List ℕ} {u : Use} (m : Means es last e (meant.As u)) (k : Remembered es u last last′) where
-    pub puts-behind : {out : Bytes} (n : Refusal) → Puts es b places f end write e last last′ (ItemRefused n) out out (ItemRefused n)
+    pub puts-behind : {out : Bytes} (n : Refusal) → Puts-element es b places f end write e last last′ (ItemRefused n) out out (ItemRefused n)
     puts-behind n = record {
       fits = omega arith;
       same = k .same;
@@ -61,7 +61,7 @@ module _ {es : List Entry} {b : Bytes} {places : List ℕ} {f : Bytes} {end : �
     }
 
     pub puts-items : (p : ℕ) {out out′ : Bytes} (x : Next) → Fills es b places (items-of (use-meant es f u)) p end write out out′ x → Has-record es b places → p ≤ end → end ≤ length out
-        → Puts es b places f end write e last last′ (At p) out out′ (progress-after x)
+        → Puts-element es b places f end write e last last′ (At p) out out′ (progress-after x)
     puts-items p (next.At p′) g h l o = record {
       fits = used-within es (h .0) end (items-of (use-meant es f u)) (g (h .0) (h .1)) l p′ refl;
       same = k .same;

@@ -28,7 +28,7 @@ use Rattle.uses.specs.Meant.{indexes-kept, Remembers, uses-of}
 use Rattle.uses.proofs.Remembering.{no-index, zeros}
 use Rattle.uses.proofs.Decoding.{no-uses}
 use Rattle.filling.specs.Filling.{Continues}
-use Rattle.reading.specs.Scan.{filled-upto, answer-of, left-of, Puts, Scans}
+use Rattle.reading.specs.Scan.{filled-upto, answer-of, left-of, Puts-element, Scans}
 use Rattle.filling.specs.declared.Next.{Next}
 use Rattle.filling.specs.declared.Next.the-variants as next
 use Rattle.reading.specs.declared.Progress.{Progress}
@@ -82,7 +82,7 @@ module _ {es : List Entry} {b : Bytes} {places : List ℕ} {f : Bytes} {end : �
     scan-bad e r p = continues-off (w .continues r p) refl BadSyntax (ap (λ o. left-of es r end (w .indexes) o s) e ∙ left-bad es r end (w .indexes) s 3) (λ k. refl)
 
   scan-on : {last last′ : List ℕ} {s s′ : Progress} {out out′ : Bytes} (e : Element) (xs : Outcome (List rules.Element))
-      → Scanning es b places f end write out₀ last (element-before (element-of f e) xs) s out → Puts es b places f end write e last last′ s out out′ s′ → Scanning es b places f end write out₀ last′ xs s′ out′
+      → Scanning es b places f end write out₀ last (element-before (element-of f e) xs) s out → Puts-element es b places f end write e last last′ s out out′ s′ → Scanning es b places f end write out₀ last′ xs s′ out′
   scan-on e xs w p = let n = p .continues (w .indexes) (w .remembers) in record {
     indexes = n .0;
     remembers = n .1;
@@ -103,7 +103,7 @@ module _ {es : List Entry} {b : Bytes} {places : List ℕ} {f : Bytes} {end : �
 
   -- The element at a place is put.
   module _ {at : ℕ} {e : Element} {stop : ℕ} (t : Stepped f at (parsed (drop at f)) (step.At e stop)) {last last′ : List ℕ} {s s′ : Progress} {out out′ : Bytes}
-      (w : Scanning es b places f end write out₀ last (parsed (drop at f)) s out) (p : Puts es b places f end write e last last′ s out out′ s′) where
+      (w : Scanning es b places f end write out₀ last (parsed (drop at f)) s out) (p : Puts-element es b places f end write e last last′ s out out′ s′) where
     behind-element : Scanning es b places f end write out₀ last′ (elements-behind f stop) s′ out′
     behind-element = scan-on e (elements-behind f stop) (scan-as w (element-before (element-of f e) (elements-behind f stop)) (t .answer)) p
 

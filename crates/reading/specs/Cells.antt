@@ -16,7 +16,7 @@ use Rattle.tables.specs.Entries.{blank, is-multiple, format-number, size-of}
 use Rattle.format_buffer.specs.Elements.{range}
 use Rattle.records.specs.declared.places.Cell.{Cell}
 use Rattle.records.specs.declared.places.Cell.the-variants as cell
-use Rattle.reading.specs.declared.cells.Run.{Run}
+use Rattle.reading.specs.declared.cells.ValueRun.{ValueRun}
 use Rattle.reading.specs.declared.cells.Wanted.{Wanted}
 
 -- The values of a cell that stands at a place, or there is no cell.
@@ -57,6 +57,6 @@ abbrev pub Stand : Wanted → Bytes → ℕ → ℕ → List Bytes → Type 0
 Stand w b at n us = (rest : Bytes) × (times n (stored-value (format-at (w .own)) (w .standard)) (drop at b) ≡ done (us, rest))
 
 -- Those of the values wanted that exist stand in a run.
-pub record Exist (w : Wanted) (b : Bytes) (vs : List Bytes) (r : Run) : Type 0 where
+pub record Exist (w : Wanted) (b : Bytes) (vs : List Bytes) (r : ValueRun) : Type 0 where
   pub place : r .at ≤ length b
   pub stand : Stand w b (r .at) (r .count) (existing w vs)

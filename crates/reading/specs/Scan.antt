@@ -53,7 +53,7 @@ left-of es r end ls xs (ItemRefused n) = xs >>= uses es ls >>= λ us. refused (r
 left-of es r end ls xs (ElementRefused n) = xs >>= λ ys. refused (refusal-number n)
 
 -- An element was put: whatever follows it is left from where the scan stands then.
-pub record Puts (es : List Entry) (b : Bytes) (places : List ℕ) (f : Bytes) (end : ℕ) (write : Bool) (e : Element) (last last′ : List ℕ)
+pub record Puts-element (es : List Entry) (b : Bytes) (places : List ℕ) (f : Bytes) (end : ℕ) (write : Bool) (e : Element) (last last′ : List ℕ)
     (s : Progress) (entry exit : Bytes) (s′ : Progress) : Type 0 where
   pub fits : filled-upto s′ ≤ end
   pub same : length last′ ≡ length last

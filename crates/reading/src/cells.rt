@@ -27,7 +27,7 @@ pub struct Wanted {
 }
 
 // Values that stand one after the other from a place on.
-pub struct Run {
+pub struct ValueRun {
     pub at: usize,
     pub count: usize,
 }
@@ -110,7 +110,7 @@ fn put_converted(
 // The values of a run, at the format and length in effect: at their own they are copied as they are stored.
 fn put_run(
     b: &[u8],
-    run: Run,
+    run: ValueRun,
     w: Wanted,
     out: &mut [u8],
     at: usize,
@@ -131,30 +131,30 @@ fn put_run(
 }
 
 // Those of the values wanted that exist, in the cell of an MU field.
-fn run_among(b: &[u8], cell: usize, w: Wanted) -> Run
+fn run_among(b: &[u8], cell: usize, w: Wanted) -> ValueRun
     requires { ⌜ Wants w × ((vs : List Bytes) × Cell-holds (now b) (format-at (w .own)) (w .standard) true vs (At cell)) ⌝ }
     ensures { λ r. ⌜ ((vs : List Bytes) → Cell-holds (now (b .entry)) (format-at (w .own)) (w .standard) true vs (At cell) → Exist w (now (b .entry)) vs r) ⌝ }
 {
     let n = records::counts::count_at(b, cell);
     if n < w.first {
-        return Run { at: 0, count: 0 };
+        return ValueRun { at: 0, count: 0 };
     }
     let from = records::counts::after_count(b, cell);
     let at = records::skip::values_end(b, from, w.first - 1, w.standard);
     if n < w.last {
-        return Run {
+        return ValueRun {
             at,
             count: n + 1 - w.first,
         };
     }
-    Run {
+    ValueRun {
         at,
         count: w.last + 1 - w.first,
     }
 }
 
 // The same in a cell that stands at a place.
-fn run_at(b: &[u8], cell: usize, w: Wanted) -> Run
+fn run_at(b: &[u8], cell: usize, w: Wanted) -> ValueRun
     requires { ⌜ Wants w × ((vs : List Bytes) × Cell-holds (now b) (format-at (w .own)) (w .standard) (w .multiple) vs (At cell)) ⌝ }
     ensures { λ r. ⌜ ((vs : List Bytes) → Cell-holds (now (b .entry)) (format-at (w .own)) (w .standard) (w .multiple) vs (At cell) → Exist w (now (b .entry)) vs r) ⌝ }
 {
@@ -162,19 +162,19 @@ fn run_at(b: &[u8], cell: usize, w: Wanted) -> Run
         return run_among(b, cell, w);
     }
     if 1 < w.first {
-        return Run { at: 0, count: 0 };
+        return ValueRun { at: 0, count: 0 };
     }
-    Run { at: cell, count: 1 }
+    ValueRun { at: cell, count: 1 }
 }
 
 // The same in a cell, if there is one.
-fn run_of(b: &[u8], cell: Cell, w: Wanted) -> Run
+fn run_of(b: &[u8], cell: Cell, w: Wanted) -> ValueRun
     requires { ⌜ Wants w × ((vs : List Bytes) × Cell-holds (now b) (format-at (w .own)) (w .standard) (w .multiple) vs cell) ⌝ }
     ensures { λ r. ⌜ ((vs : List Bytes) → Cell-holds (now (b .entry)) (format-at (w .own)) (w .standard) (w .multiple) vs cell → Exist w (now (b .entry)) vs r) ⌝ }
 {
     match cell {
         Cell::At(p) => run_at(b, p, w),
-        Cell::Nothing => Run { at: 0, count: 0 },
+        Cell::Nothing => ValueRun { at: 0, count: 0 },
     }
 }
 

@@ -9,7 +9,7 @@ ghost use Rattle.uses.specs.Meant.{Good-use, use-meant, indexes-kept};
 ghost use Rattle.records.specs.Places.{Has-record};
 ghost use Rattle.filling.specs.Filling.{Roomy};
 ghost use Rattle.reading.specs.Spans.{Fills};
-ghost use Rattle.reading.specs.Scan.{filled-upto, answer-of, element-refused, progress-after, Puts, Scans};
+ghost use Rattle.reading.specs.Scan.{filled-upto, answer-of, element-refused, progress-after, Puts-element, Scans};
 
 mod cells;
 mod spans;
@@ -105,7 +105,7 @@ fn put_element(
     write: bool,
 ) -> Progress
     requires { ⌜ Valid (now t) × sound (now f) e × (length (now last) ≡ indexes-kept) × Has-record (entries-of (now t)) (now b) (now places) × Roomy (filled-upto state) end (now out) ⌝ }
-    ensures { λ r. ⌜ Puts (entries-of (now (t .entry))) (now (b .entry)) (now (places .entry)) (now (f .entry)) end write e (now (last .entry)) (now (last .exit)) state (now (out .entry)) (now (out .exit)) r ⌝ }
+    ensures { λ r. ⌜ Puts-element (entries-of (now (t .entry))) (now (b .entry)) (now (places .entry)) (now (f .entry)) end write e (now (last .entry)) (now (last .exit)) state (now (out .entry)) (now (out .exit)) r ⌝ }
 {
     if is_element_refused(state) {
         return state;

@@ -27,7 +27,7 @@ use Rattle.values.specs.declared.FirstValue.the-variants as first
 use Rattle.values.proofs.Cuts.{first-content, found-content}
 use Rattle.values.proofs.Converted.{bad-value, content-allowed}
 use Rattle.values.proofs.Meant.{converted-itself}
-use Rattle.taking.specs.Taking.{Gives, asked-given, given-bytes, Moved, Takes, Stages, Staged}
+use Rattle.taking.specs.Taking.{Gives, asked-given, given-bytes, Moved, Takes, Stages, Staged-value}
 use Rattle.taking.specs.declared.value.Given.{Given}
 use Rattle.taking.specs.declared.Taking.{Taking}
 use Rattle.taking.specs.declared.Taken.{Taken}
@@ -126,7 +126,7 @@ module _ (es : List Entry) (buffer : Bytes) (g : Given) (o k : ℕ) (s : Taking)
         → Takes es buffer (item-at (g .bare) (asked-given es g) o k ∷ []) s list list′ stage stage′ r
     value-staged {list′ = list′} {stage′ = stage′} {r = r} t = record { same-list = t .same-list; same-stage = t .same-stage; moved = λ ws h. moved r ws (t .moved ws h) }
       where
-        moved : (r : Taken) (ws : List Assignment) → Staged es buffer g o k there next list′ stage′ ws r
+        moved : (r : Taken) (ws : List Assignment) → Staged-value es buffer g o k there next list′ stage′ ws r
             → Moved es buffer (item-at (g .bare) (asked-given es g) o k ∷ []) (s .at) list′ stage′ ws r
         moved (At u) ws x = (record { place = spot (asked-given es g) o k; bare = g .bare; bytes = x .0 } ∷ [], given-here ∙ rw (x .1, x .2), x .3)
         moved (Refused y) ws x = given-here ∙ rw x

@@ -30,10 +30,10 @@ use Rattle.filling.specs.Filling.{in-room, Filling}
 use Rattle.filling.specs.declared.Next.{Next}
 use Rattle.filling.specs.declared.Next.the-variants as put
 use Rattle.filling.proofs.Continues.{put-on, put-off}
-use Rattle.assignments.specs.Notes.{note-place, numbers, place-at, Small-note}
+use Rattle.assignments.specs.Notes.{note-place, note-numbers, place-at, Small-note}
 use Rattle.assignments.specs.declared.Note.{Note}
 use Rattle.assignments.proofs.Listing.{listed-more, unindexed-more}
-use Rattle.taking.specs.Taking.{bytes-given, Roomy, Holds, given-bytes, Gives, Stages, tested-to}
+use Rattle.taking.specs.Taking.{bytes-given, Room-enough, Holds, given-bytes, Gives, Stages, tested-to}
 use Rattle.taking.specs.declared.value.Given.{Given}
 use Rattle.taking.specs.declared.Taking.{Taking}
 use Rattle.taking.specs.declared.Taken.the-variants.{At, Refused}
@@ -103,7 +103,7 @@ pub record Puts (es : List Entry) (buffer : Bytes) (g : Given) (content : Bytes)
   pub gives : Gives es g
   pub less : s .at < next
   pub within : next ≤ length buffer
-  pub room : Roomy buffer list stage
+  pub room : Room-enough buffer list stage
   pub begins : Begins s from
 
 module _ {es : List Entry} {buffer : Bytes} {g : Given} {content : Bytes} {next : ℕ} {s : Taking} {list : List ℕ} {stage stage′ : Bytes} {from : ℕ} {r : Next}
@@ -198,10 +198,10 @@ module _ {es : List Entry} {buffer : Bytes} {g : Given} {content : Bytes} {next 
       note-small lo lk = put-there λ b e m u w. let n = p .begins .staged free in
           (omega (arith, p .gives .entry, h .listed free .entries), omega arith, omega arith, omega (arith, p .room .1), omega (arith, p .room .1))
 
-    pub stage-on : {list′ : List ℕ} → (1 ≤ o) × (o ≤ highest-index) → (1 ≤ k) × (k ≤ highest-index) → list′ ≡ sets list (note-place (s .count)) (numbers (note upto))
+    pub stage-on : {list′ : List ℕ} → (1 ≤ o) × (o ≤ highest-index) → (1 ≤ k) × (k ≤ highest-index) → list′ ≡ sets list (note-place (s .count)) (note-numbers (note upto))
         → Stages es buffer g o k content next s list list′ stage stage′ (At (record { at = next; staged = upto; count = s .count + 1; full = false }))
     stage-on {list′} bo bk z = record {
-      same-list = ap length z ∙ length-sets list (note-place (s .count)) (numbers (note upto));
+      same-list = ap length z ∙ length-sets list (note-place (s .count)) (note-numbers (note upto));
       same-stage = f .same;
       moved = λ ws h. put-there λ b e m u w. (
         b,
@@ -209,7 +209,7 @@ module _ {es : List Entry} {buffer : Bytes} {g : Given} {content : Bytes} {next 
         refl,
         record {
           place = p .within;
-          unindexed = rw z (unindexed-more list (s .count) (numbers (note upto)) (h .unindexed));
+          unindexed = rw z (unindexed-more list (s .count) (note-numbers (note upto)) (h .unindexed));
           full = λ t. absurd (true≢false (sym t));
           listed = λ _. rw (z, w, h .count free) (listed-more (h .listed free) (note upto) b (enough h .0) (p .begins .staged free) m u (p .gives .entry) (p .gives .field) bo bk (enough h .1));
           count = λ _. rw (length-append ws (assignment b ∷ []), h .count free);

@@ -12,7 +12,7 @@ use Rattle.rules.specs.Use.{Item}
 use Rattle.rules.specs.Update.{Assignment}
 use Rattle.rules.specs.declared.Refusal.{Refusal}
 use Rattle.rules.proofs.Ranges.{taking, taking-append}
-use Rattle.taking.specs.Taking.{Roomy, Ready, Holds, Takes}
+use Rattle.taking.specs.Taking.{Room-enough, Ready, Holds, Takes}
 use Rattle.taking.specs.declared.Taking.{Taking}
 use Rattle.taking.specs.declared.Taken.{Taken}
 use Rattle.taking.specs.declared.Taken.the-variants.{At, Refused}
@@ -55,7 +55,7 @@ turn-start es buffer xs s list stage = record {
 
 module _ {es : List Entry} {buffer : Bytes} {whole rest : List Item} {s t : Taking} {list₀ list : List ℕ} {stage₀ stage : Bytes}
     (d : Taken-on es buffer whole rest s t list₀ list stage₀ stage) where
-  pub turn-roomy : Roomy buffer list₀ stage₀ → Roomy buffer list stage
+  pub turn-roomy : Room-enough buffer list₀ stage₀ → Room-enough buffer list stage
   turn-roomy r = (rw (d .same-list) (r .0), d .same-stage ∙ r .1)
 
   pub turn-ready : Ready es buffer list₀ stage₀ s → Ready es buffer list stage t

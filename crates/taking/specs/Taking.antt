@@ -30,8 +30,8 @@ abbrev pub bytes-given : List Assignment → Bytes
 bytes-given ws = join (map (λ a. a .bytes) ws)
 
 -- The list and the stage have room for what a record buffer can give to a new record.
-abbrev pub Roomy : Bytes → List ℕ → Bytes → Type 0
-Roomy buffer list stage = (note-place (min (length buffer) longest-new-record) ≤ length list) × (length stage ≡ longest-new-record)
+abbrev pub Room-enough : Bytes → List ℕ → Bytes → Type 0
+Room-enough buffer list stage = (note-place (min (length buffer) longest-new-record) ≤ length list) × (length stage ≡ longest-new-record)
 
 -- Where the items stand, with the assignments ws so far: all are in the list, or they have more bytes than a new record.
 pub record Holds (es : List Entry) (buffer : Bytes) (list : List ℕ) (stage : Bytes) (s : Taking) (ws : List Assignment) : Type 0 where
@@ -67,7 +67,7 @@ tested-to next s = record { at = next; staged = s .staged; count = s .count; ful
 
 -- There is room, and some assignments are held.
 abbrev pub Ready : List Entry → Bytes → List ℕ → Bytes → Taking → Type 0
-Ready es buffer list stage s = Roomy buffer list stage × ((ws : List Assignment) × Holds es buffer list stage s ws)
+Ready es buffer list stage s = Room-enough buffer list stage × ((ws : List Assignment) × Holds es buffer list stage s ws)
 
 -- The field whose values are taken, at the format and the length in effect; and what is known of it.
 abbrev pub asked-given : List Entry → Given → Asked
@@ -98,18 +98,18 @@ abbrev pub given-bytes : Given → Bytes → Outcome Bytes
 given-bytes g = converted-bytes (format-at (g .format)) (format-at (g .own)) (g .standard)
 
 -- One value, which stands in the buffer up to `next`, came to what was held, or it is refused.
-abbrev pub Staged : List Entry → Bytes → Given → ℕ → ℕ → Bytes → ℕ → List ℕ → Bytes → List Assignment → Taken → Type 0
-Staged es buffer g o k content next list stage ws (At s) =
+abbrev pub Staged-value : List Entry → Bytes → Given → ℕ → ℕ → Bytes → ℕ → List ℕ → Bytes → List Assignment → Taken → Type 0
+Staged-value es buffer g o k content next list stage ws (At s) =
     (b : Bytes) × (given-bytes g content ≡ done b) × (s .at ≡ next)
     × Holds es buffer list stage s (ws ++ (record { place = place-at es (g .entry) o k; bare = g .bare; bytes = b } ∷ []))
-Staged es buffer g o k content next list stage ws (Refused x) =
+Staged-value es buffer g o k content next list stage ws (Refused x) =
     given-bytes g content ≡ refused (refusal-number x)
 
 pub record Stages (es : List Entry) (buffer : Bytes) (g : Given) (o k : ℕ) (content : Bytes) (next : ℕ) (s : Taking) (list list′ : List ℕ)
     (stage stage′ : Bytes) (r : Taken) : Type 0 where
   pub same-list : length list′ ≡ length list
   pub same-stage : length stage′ ≡ length stage
-  pub moved : (ws : List Assignment) → Holds es buffer list stage s ws → Staged es buffer g o k content next list′ stage′ ws r
+  pub moved : (ws : List Assignment) → Holds es buffer list stage s ws → Staged-value es buffer g o k content next list′ stage′ ws r
 
 -- What a record buffer gives to the items of uses: assignments that are held, or a refusal.
 abbrev pub Gave : List Entry → Bytes → List Use → List ℕ → Bytes → Taken → Type 0

@@ -8,7 +8,7 @@ ghost use Rattle.tables.specs.Entries.{Valid, entries-of};
 ghost use Rattle.uses.specs.Kept.{numbers-kept, uses-kept, Good-uses};
 ghost use Rattle.uses.specs.Meant.{Good-use, use-meant};
 ghost use Rattle.assignments.specs.Notes.{Unindexed};
-ghost use Rattle.taking.specs.Taking.{Roomy, Takes, Ready, Gave, Passed};
+ghost use Rattle.taking.specs.Taking.{Room-enough, Takes, Ready, Gave, Passed};
 
 mod spans;
 mod value;
@@ -70,7 +70,7 @@ pub fn take(
     list: &mut [u16],
     stage: &mut [u8],
 ) -> Taken
-    requires { ⌜ Valid (now t) × (numbers-kept * count ≤ length (now kept)) × ((f : Bytes) × Good-uses (entries-of (now t)) f (now kept) count) × Roomy (now buffer) (now list) (now stage) × Unindexed (now list) ⌝ }
+    requires { ⌜ Valid (now t) × (numbers-kept * count ≤ length (now kept)) × ((f : Bytes) × Good-uses (entries-of (now t)) f (now kept) count) × Room-enough (now buffer) (now list) (now stage) × Unindexed (now list) ⌝ }
     ensures { λ r. ⌜ ((f : Bytes) → Good-uses (entries-of (now (t .entry))) f (now (kept .entry)) count → Gave (entries-of (now (t .entry))) (now (buffer .entry)) (uses-kept (entries-of (now (t .entry))) f (now (kept .entry)) count) (now (list .exit)) (now (stage .exit)) r) ⌝ }
 {
     let mut state = Taking {

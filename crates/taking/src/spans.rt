@@ -11,7 +11,7 @@ ghost use Rattle.rules.proofs.Ranges.{from-to};
 ghost use Rattle.tables.specs.Entries.{Valid, entries-of, blank, is-group};
 ghost use Rattle.tables.specs.Groups.{field-at};
 ghost use Rattle.uses.specs.Meant.{Good-span, asked-of};
-ghost use Rattle.taking.specs.Taking.{Roomy, Takes, Ready, asked-given, Gives, asked-as, items-between};
+ghost use Rattle.taking.specs.Taking.{Room-enough, Takes, Ready, asked-given, Gives, asked-as, items-between};
 use crate::Taken;
 use crate::Taking;
 use crate::value;
@@ -30,7 +30,7 @@ fn take_values(
     s: Taking,
 ) -> Taken
     requires { ⌜ (1 ≤ o) × (o ≤ highest-index) × (1 ≤ first) × (last ≤ highest-index) × ((es : List Entry) × Gives es g × Ready es (now buffer) (now list) (now stage) s) ⌝ }
-    ensures { λ r. ⌜ ((es : List Entry) → Gives es g → Roomy (now (buffer .entry)) (now (list .entry)) (now (stage .entry)) → Takes es (now (buffer .entry)) (value-items (asked-given es g ∷ []) (just o) (from-to first last) (g .bare)) s (now (list .entry)) (now (list .exit)) (now (stage .entry)) (now (stage .exit)) r) ⌝ }
+    ensures { λ r. ⌜ ((es : List Entry) → Gives es g → Room-enough (now (buffer .entry)) (now (list .entry)) (now (stage .entry)) → Takes es (now (buffer .entry)) (value-items (asked-given es g ∷ []) (just o) (from-to first last) (g .bare)) s (now (list .entry)) (now (list .exit)) (now (stage .entry)) (now (stage .exit)) r) ⌝ }
 {
     let mut state = s;
     let mut k = first;

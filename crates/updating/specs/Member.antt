@@ -18,14 +18,14 @@ use Rattle.updating.specs.Laid.{member-laid}
 use Rattle.updating.specs.New.{Assigns}
 
 -- Entry i has its cell in occurrence o, if it is a field.
-abbrev pub Celled : List Entry → Bytes → ℕ → ℕ → Record → Cell → Type 0
-Celled es b i o r cell = is-group (getD es i blank .what) ≡ false → Cell-of es b i o r cell
+abbrev pub Celled-member : List Entry → Bytes → ℕ → ℕ → Record → Cell → Type 0
+Celled-member es b i o r cell = is-group (getD es i blank .what) ≡ false → Cell-of es b i o r cell
 
 -- Such a record and assignments are there; and what the entry adds was put into room.
 abbrev pub Has-member : List Entry → Bytes → List ℕ → Bytes → ℕ → ℕ → Cell → Type 0
-Has-member es b list stage i o cell = ((r : Record) × Celled es b i o r cell) × ((ws : List Assignment) × Assigns es list stage ws)
+Has-member es b list stage i o cell = ((r : Record) × Celled-member es b i o r cell) × ((ws : List Assignment) × Assigns es list stage ws)
 
 abbrev pub Puts-member : List Entry → Bytes → List ℕ → Bytes → ℕ → ℕ → Cell → ℕ → ℕ → Bytes → Bytes → Next → Type 0
 Puts-member es b list stage i o cell at end entry exit n =
-    (r : Record) (ws : List Assignment) → Celled es b i o r cell → Assigns es list stage ws
+    (r : Record) (ws : List Assignment) → Celled-member es b i o r cell → Assigns es list stage ws
     → Filling (in-room (end - at) (done (member-laid (update-plan (parts es) r ws) o (getD es i blank .name) (getD es i blank .what)))) at true entry exit n

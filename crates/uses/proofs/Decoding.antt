@@ -25,7 +25,7 @@ use Rattle.format_buffer.specs.declared.syntax.Step.the-variants as step
 use Rattle.format_buffer.proofs.StepLaws.{elements-parsed, elements-long, behind-last, behind-more}
 use Rattle.uses.specs.Meant.{use-meant, Means, indexes-kept, Remembers, Remembered, uses-of}
 use Rattle.uses.specs.Kept.{numbers, uses-kept, Good-uses, Decodes}
-use Rattle.uses.specs.Decoding.{uses-so-far, left-of, Keeps}
+use Rattle.uses.specs.Decoding.{uses-so-far, uses-left, Keeps-element}
 use Rattle.uses.specs.declared.Use.{Use}
 use Rattle.uses.specs.declared.Meant.{Meant}
 use Rattle.uses.specs.declared.Meant.the-variants as meant
@@ -77,29 +77,29 @@ no-uses es ls = refl
 
 -- What is left, with the element x first and without it.
 module _ (es : List Entry) (f : Bytes) (ls : Indexes) (x : rules.Element) (kept : List ℕ) where
-  left-passed : (n : Refusal) (xs : Outcome (List rules.Element)) → left-of es f ls (element-before x xs) kept (Refused n) ≡ left-of es f ls xs kept (Refused n)
-  unfolding left-of
+  left-passed : (n : Refusal) (xs : Outcome (List rules.Element)) → uses-left es f ls (element-before x xs) kept (Refused n) ≡ uses-left es f ls xs kept (Refused n)
+  unfolding uses-left
   left-passed n (done xs) = refl
   left-passed n (refused k) = refl
 
   left-refused : (n : ℕ) (y : Refusal) → refused (refusal-number y) ≡ use-of es ls x → (xs : Outcome (List rules.Element))
-      → left-of es f ls (element-before x xs) kept (Uses n) ≡ left-of es f ls xs kept (Refused y)
-  unfolding left-of
+      → uses-left es f ls (element-before x xs) kept (Uses n) ≡ uses-left es f ls xs kept (Refused y)
+  unfolding uses-left
   left-refused n y e (done xs) = ap (λ o. o >>= λ us. done (uses-kept es f kept n ++ us)) (first-refused es ls x xs (refusal-number y) e)
   left-refused n y e (refused k) = refl
 
   left-used : (n m : ℕ) (u : Meaning) (kept′ : List ℕ) → done u ≡ use-of es ls x → uses-kept es f kept′ m ≡ uses-kept es f kept n ++ (u ∷ [])
-      → (xs : Outcome (List rules.Element)) → left-of es f ls (element-before x xs) kept (Uses n) ≡ left-of es f (indexes-after u ls) xs kept′ (Uses m)
-  unfolding left-of
+      → (xs : Outcome (List rules.Element)) → uses-left es f ls (element-before x xs) kept (Uses n) ≡ uses-left es f (indexes-after u ls) xs kept′ (Uses m)
+  unfolding uses-left
   left-used n m u kept′ e k xs =
       ap (λ o. o >>= λ us. done (uses-kept es f kept n ++ us)) (before-done es ls x xs u e) ∙ joined u (uses-kept es f kept n) k (xs >>= uses es (indexes-after u ls))
 
 -- One element more, by where the decoding stands and what the element means.
 module _ {es : List Entry} {e : Element} {last : List ℕ} where
-  pub keeps-as : {last′ kept kept′ : List ℕ} {d d₁ d′ : Decoded} → d ≡ d₁ → Keeps es e last last′ kept kept′ d₁ d′ → Keeps es e last last′ kept kept′ d d′
-  keeps-as {last′} {kept} {kept′} {d′ = d′} q k = subst (λ (d : Decoded). Keeps es e last last′ kept kept′ d d′) (sym q) k
+  pub keeps-as : {last′ kept kept′ : List ℕ} {d d₁ d′ : Decoded} → d ≡ d₁ → Keeps-element es e last last′ kept kept′ d₁ d′ → Keeps-element es e last last′ kept kept′ d d′
+  keeps-as {last′} {kept} {kept′} {d′ = d′} q k = subst (λ (d : Decoded). Keeps-element es e last last′ kept kept′ d d′) (sym q) k
 
-  pub keeps-passed : (kept : List ℕ) (x : Refusal) → Keeps es e last last kept kept (Refused x) (Refused x)
+  pub keeps-passed : (kept : List ℕ) (x : Refusal) → Keeps-element es e last last kept kept (Refused x) (Refused x)
   keeps-passed kept x = record {
     same = refl;
     room = refl;
@@ -108,7 +108,7 @@ module _ {es : List Entry} {e : Element} {last : List ℕ} where
     left = λ f ls q. (ls, q, left-passed es f ls (element-of f e) kept x);
   }
 
-  pub keeps-refused : (kept : List ℕ) (n : ℕ) (x : Refusal) → Means es last e (meant.Refused x) → Keeps es e last last kept kept (Uses n) (Refused x)
+  pub keeps-refused : (kept : List ℕ) (n : ℕ) (x : Refusal) → Means es last e (meant.Refused x) → Keeps-element es e last last kept kept (Uses n) (Refused x)
   keeps-refused kept n x m = record {
     same = refl;
     room = refl;
@@ -118,7 +118,7 @@ module _ {es : List Entry} {e : Element} {last : List ℕ} where
   }
 
   pub keeps-use : (kept : List ℕ) (n : ℕ) (u : Use) {last′ kept′ : List ℕ} → 10 * n + 10 ≤ length kept → Means es last e (meant.As u) → Remembered es u last last′
-      → kept′ ≡ sets kept (10 * n) (numbers u) → Keeps es e last last′ kept kept′ (Uses n) (Uses (n + 1))
+      → kept′ ≡ sets kept (10 * n) (numbers u) → Keeps-element es e last last′ kept kept′ (Uses n) (Uses (n + 1))
   keeps-use kept n u {last′} h m k q = rw q (record {
     same = k .same;
     room = length-sets kept (10 * n) (numbers u);
@@ -136,7 +136,7 @@ pub record Decoding (es : List Entry) (f : Bytes) (last : List ℕ) (xs : Outcom
   pub indexes : Indexes
   pub remembers : Remembers es last indexes
   pub good : Good-uses es f kept (uses-so-far d)
-  pub left : uses-of es f ≡ left-of es f indexes xs kept d
+  pub left : uses-of es f ≡ uses-left es f indexes xs kept d
 
 pub decode-long : (es : List Entry) (f : Bytes) (kept : List ℕ) → longest-format < length f → Decodes es f kept (Refused BadSyntax)
 unfolding uses-of
@@ -148,7 +148,7 @@ after-none (refused k) = refl
 
 module _ (es : List Entry) (f : Bytes) (kept : List ℕ) where
   pub decode-start : length f ≤ longest-format → Decoding es f (replicate indexes-kept 0) (parsed (drop 0 f)) kept (Uses 0)
-  unfolding uses-of left-of uses-kept run
+  unfolding uses-of uses-left uses-kept run
   decode-start h = record {
     indexes = [];
     remembers = λ i k. zeros indexes-kept i ∙ sym (no-index (getD es i _ .name));
@@ -159,13 +159,13 @@ module _ (es : List Entry) (f : Bytes) (kept : List ℕ) where
 module _ {es : List Entry} {f : Bytes} where
   module _ {last : List ℕ} {kept : List ℕ} where
     pub decode-bad : (d : Decoded) → Decoding es f last (refused 3) kept d → Decodes es f kept (Refused BadSyntax)
-    unfolding left-of
+    unfolding uses-left
     decode-bad (Uses n) w = w .left
     decode-bad (Refused x) w = w .left
 
     -- Nothing is left.
     decode-end : (d : Decoded) → 10 * uses-so-far d ≤ length kept → Decoding es f last (done []) kept d → Decodes es f kept d
-    unfolding left-of
+    unfolding uses-left
     decode-end (Uses n) h w =
         (w .left ∙ ap (λ o. o >>= λ us. done (uses-kept es f kept n ++ us)) (no-uses es (w .indexes)) ∙ ap done (none-joined (uses-kept es f kept n)), w .good, h)
     decode-end (Refused x) h w = w .left
@@ -176,7 +176,7 @@ module _ {es : List Entry} {f : Bytes} where
 
   -- The element at a place is decoded.
   module _ {at : ℕ} {e : Element} {stop : ℕ} (t : Stepped f at (parsed (drop at f)) (step.At e stop)) {last last′ kept kept′ : List ℕ} {d d′ : Decoded}
-      (w : Decoding es f last (parsed (drop at f)) kept d) (k : Keeps es e last last′ kept kept′ d d′) where
+      (w : Decoding es f last (parsed (drop at f)) kept d) (k : Keeps-element es e last last′ kept kept′ d d′) where
     behind-element : Decoding es f last′ (elements-behind f stop) kept′ d′
     behind-element = let v = decode-as (t .answer) w in let n = k .left f (v .indexes) (v .remembers) in record {
       indexes = n .0;

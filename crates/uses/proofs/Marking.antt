@@ -19,7 +19,7 @@ use Rattle.format_buffer.specs.Elements.{range}
 use Rattle.uses.specs.Meant.{use-meant, Good-span, Good-span-of}
 use Rattle.uses.specs.Kept.{use-at}
 use Rattle.uses.specs.Twice.{Good-spans, Alike, Met}
-use Rattle.uses.specs.Boxes.{box-meets, Clear, Holds, Wider, Widens, Held, Marks, Boxed, Boxes-more}
+use Rattle.uses.specs.Boxes.{box-meets, Clear, Box-holds, Wider, Widens, Held, Marks, Boxed, Boxes-more}
 use Rattle.uses.specs.declared.Span.{Span}
 use Rattle.uses.specs.declared.Use.{Use}
 use Rattle.uses.specs.declared.Use.the-variants as code
@@ -36,7 +36,7 @@ four-sets l at a b c d =
 
 -- A box that is the same in other boxes.
 holds-as : {bs bs′ : List ℕ} {j : ℕ} {s : Span} → getD bs′ (4 * j) 0 ≡ getD bs (4 * j) 0 → getD bs′ (4 * j + 1) 0 ≡ getD bs (4 * j + 1) 0
-    → getD bs′ (4 * j + 2) 0 ≡ getD bs (4 * j + 2) 0 → getD bs′ (4 * j + 3) 0 ≡ getD bs (4 * j + 3) 0 → Holds bs j s → Holds bs′ j s
+    → getD bs′ (4 * j + 2) 0 ≡ getD bs (4 * j + 2) 0 → getD bs′ (4 * j + 3) 0 ≡ getD bs (4 * j + 3) 0 → Box-holds bs j s → Box-holds bs′ j s
 holds-as a b c d h = record {
   some = h .some;
   some-value = h .some-value;
@@ -72,7 +72,7 @@ module _ (bs : List ℕ) (j : ℕ) (s : Span) (a b c d : ℕ) (h : 4 * j + 4 ≤
 
   module _ (p : a ≤ s .from) (p′ : 0 < getD bs (4 * j + 1) 0 → a ≤ getD bs (4 * j) 0) (q : b ≡ max (getD bs (4 * j + 1) 0) (s .upto))
       (r : c ≤ s .«value_from») (r′ : 0 < getD bs (4 * j + 3) 0 → c ≤ getD bs (4 * j + 2) 0) (u : d ≡ max (getD bs (4 * j + 3) 0) (s .«value_upto»)) where
-    wider-here : (x : Span) → Holds bs j x → Holds bs′ j x
+    wider-here : (x : Span) → Box-holds bs j x → Box-holds bs′ j x
     wider-here x w =
         let y = p′ (omega (arith, w .some, w .upto)) in
         let z = r′ (omega (arith, w .some-value, w .value-upto)) in record {
@@ -100,7 +100,7 @@ module _ (bs : List ℕ) (j : ℕ) (s : Span) (a b c d : ℕ) (h : 4 * j + 4 ≤
           (λ l. holds-as (before-same (4 * k) (omega arith)) (before-same (4 * k + 1) (omega arith)) (before-same (4 * k + 2) (omega arith)) (before-same (4 * k + 3) (omega arith)) w)
           (λ l. by-order j k
           (λ g. holds-as (behind-same (4 * k) (omega arith)) (behind-same (4 * k + 1) (omega arith)) (behind-same (4 * k + 2) (omega arith)) (behind-same (4 * k + 3) (omega arith)) w)
-          (λ g. let e : k ≡ j = omega arith in subst (λ i. Holds bs′ i x) (sym e) (wider-here x (subst (λ i. Holds bs i x) e w))));
+          (λ g. let e : k ≡ j = omega arith in subst (λ i. Box-holds bs′ i x) (sym e) (wider-here x (subst (λ i. Box-holds bs i x) e w))));
     }
 
 -- The boxes of a span's entries, one after the other.
@@ -111,7 +111,7 @@ module _ (bs : List ℕ) (s : Span) where
   pub marks-more : {bs₁ bs₂ : List ℕ} (j : ℕ) → Marks bs bs₁ s j → Widens bs₁ bs₂ j s → Marks bs bs₂ s (j + 1)
   marks-more {bs₁} {bs₂} j m w = record {
     same = w .same ∙ m .same;
-    held = λ k a b. by-order k j (λ l. w .wider k s (m .held k a l)) (λ l. let e : j ≡ k = omega arith in subst (λ i. Holds bs₂ i s) e (w .holds));
+    held = λ k a b. by-order k j (λ l. w .wider k s (m .held k a l)) (λ l. let e : j ≡ k = omega arith in subst (λ i. Box-holds bs₂ i s) e (w .holds));
     wider = λ k x h. w .wider k x (m .wider k x h);
   }
 

@@ -30,7 +30,7 @@ abbrev pub Clear : List ℕ → Span → ℕ → Type 0
 Clear bs s end = (j : ℕ) → s .first ≤ j → j < end → box-meets bs j s ≡ false
 
 -- The box of entry j holds what a span names of it.
-pub record Holds (bs : List ℕ) (j : ℕ) (s : Span) : Type 0 where
+pub record Box-holds (bs : List ℕ) (j : ℕ) (s : Span) : Type 0 where
   pub some : 0 < s .upto
   pub some-value : 0 < s .«value_upto»
   pub from : getD bs (box-numbers * j) 0 ≤ s .from
@@ -40,16 +40,16 @@ pub record Holds (bs : List ℕ) (j : ℕ) (s : Span) : Type 0 where
 
 -- Boxes that hold what others hold.
 abbrev pub Wider : List ℕ → List ℕ → Type 0
-Wider bs bs′ = (j : ℕ) (s : Span) → Holds bs j s → Holds bs′ j s
+Wider bs bs′ = (j : ℕ) (s : Span) → Box-holds bs j s → Box-holds bs′ j s
 
 pub record Widens (bs bs′ : List ℕ) (j : ℕ) (s : Span) : Type 0 where
   pub same : length bs′ ≡ length bs
-  pub holds : Holds bs′ j s
+  pub holds : Box-holds bs′ j s
   pub wider : Wider bs bs′
 
 -- The boxes of a span's entries below a number hold it.
 abbrev pub Held : List ℕ → Span → ℕ → Type 0
-Held bs s end = (j : ℕ) → s .first ≤ j → j < end → Holds bs j s
+Held bs s end = (j : ℕ) → s .first ≤ j → j < end → Box-holds bs j s
 
 pub record Marks (bs bs′ : List ℕ) (s : Span) (end : ℕ) : Type 0 where
   pub same : length bs′ ≡ length bs

@@ -25,15 +25,15 @@ uses-so-far (Refused x) = 0
 
 -- What is left, by the elements that are left: their uses after those kept; after an element that is refused whether their syntax is
 -- bad, since that comes before it.
-unfoldable pub left-of : List Entry → Bytes → Indexes → Outcome (List rules.Element) → List ℕ → Decoded → Outcome (List rules-use.Use)
-left-of es f ls xs kept (Uses n) = xs >>= uses es ls >>= λ us. done (uses-kept es f kept n ++ us)
-left-of es f ls xs kept (Refused x) = xs >>= λ ys. refused (refusal-number x)
+unfoldable pub uses-left : List Entry → Bytes → Indexes → Outcome (List rules.Element) → List ℕ → Decoded → Outcome (List rules-use.Use)
+uses-left es f ls xs kept (Uses n) = xs >>= uses es ls >>= λ us. done (uses-kept es f kept n ++ us)
+uses-left es f ls xs kept (Refused x) = xs >>= λ ys. refused (refusal-number x)
 
 -- An element was decoded, in whatever format it stands: whatever follows it is left from there on.
-pub record Keeps (es : List Entry) (e : Element) (last last′ kept kept′ : List ℕ) (d d′ : Decoded) : Type 0 where
+pub record Keeps-element (es : List Entry) (e : Element) (last last′ kept kept′ : List ℕ) (d d′ : Decoded) : Type 0 where
   pub same : length last′ ≡ length last
   pub room : length kept′ ≡ length kept
   pub more : uses-so-far d′ ≤ uses-so-far d + 1
   pub good : (f : Bytes) → sound f e → Good-uses es f kept (uses-so-far d) → Good-uses es f kept′ (uses-so-far d′)
   pub left : (f : Bytes) (ls : Indexes) → Remembers es last ls → (ls′ : Indexes) × Remembers es last′ ls′
-      × ((xs : Outcome (List rules.Element)) → left-of es f ls (element-before (element-of f e) xs) kept d ≡ left-of es f ls′ xs kept′ d′)
+      × ((xs : Outcome (List rules.Element)) → uses-left es f ls (element-before (element-of f e) xs) kept d ≡ uses-left es f ls′ xs kept′ d′)

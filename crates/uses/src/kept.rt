@@ -22,7 +22,7 @@ ghost use Rattle.format_buffer.specs.Elements.{sound};
 ghost use Rattle.uses.specs.Spread.{index-bound};
 ghost use Rattle.uses.specs.Meant.{indexes-kept};
 ghost use Rattle.uses.specs.Kept.{numbers-kept, element-bytes, span-at, use-at, span-kind, flag, span-numbers, numbers, Small-span, small, Decodes};
-ghost use Rattle.uses.specs.Decoding.{uses-so-far, Keeps};
+ghost use Rattle.uses.specs.Decoding.{uses-so-far, Keeps-element};
 
 // How many numbers are kept of a use: what it is, and what it says.
 pub const NUMBERS: usize = 10;
@@ -159,7 +159,7 @@ fn keep_element(
     d: Decoded,
 ) -> Decoded
     requires { ⌜ Valid (now t) × (length (now last) ≡ indexes-kept) × (numbers-kept * uses-so-far d + numbers-kept ≤ length (now kept)) × ((f : Bytes) × sound f e × (length f ≤ longest-format)) ⌝ }
-    ensures { λ r. ⌜ Keeps (entries-of (now (t .entry))) e (now (last .entry)) (now (last .exit)) (now (kept .entry)) (now (kept .exit)) d r ⌝ }
+    ensures { λ r. ⌜ Keeps-element (entries-of (now (t .entry))) e (now (last .entry)) (now (last .exit)) (now (kept .entry)) (now (kept .exit)) d r ⌝ }
 {
     match d {
         Decoded::Refused(x) => Decoded::Refused(x),

@@ -16,7 +16,7 @@ use Rattle.records.specs.Places.{Is-record, Entered, Member-entered}
 use Rattle.records.proofs.Ends.{group-within}
 use Rattle.records.proofs.Members.{member-cell}
 use Rattle.updating.specs.Laid.{member-laid, occurrence-laid}
-use Rattle.updating.specs.Member.{Celled}
+use Rattle.updating.specs.Member.{Celled-member}
 use Rattle.updating.proofs.Laying.{Laying, lay-start, lay-on, lay-off, lay-end, lay-same}
 use Rattle.updating.proofs.Membering.{members-over, run-on, member-first}
 use borrow.Author.Needs.{needs}
@@ -54,7 +54,7 @@ less : (c : tie.In-loop Inv-loop μ-loop) → c .before .loop .i < length (entri
 less c = omega (arith, c .loop-test .taken, upto (c .before) .1)
 
 cell : (c : tie.In-loop Inv-loop μ-loop) (r : Record) → Is-record (entries-of (start (c .before) .args .t .now)) (start (c .before) .args .b .now) (start (c .before) .args .places .now) r
-    → Celled (entries-of (start (c .before) .args .t .now)) (start (c .before) .args .b .now) (c .before .loop .i) (start (c .before) .args .o) r (c .before .loop .cell)
+    → Celled-member (entries-of (start (c .before) .args .t .now)) (start (c .before) .args .b .now) (c .before .loop .i) (start (c .before) .args .o) r (c .before .loop .cell)
 cell c r held what = let s = start (c .before) in member-cell (s .args .t .now) (s .pre .0) (c .before .loop .cell) (less c) what (entered c r held)
 
 -- What is left of the occurrence is what the entry adds, and then the rest.

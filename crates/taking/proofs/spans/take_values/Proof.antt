@@ -5,7 +5,7 @@ use native.Mathlib.Omega.{arith}
 use Rattle.rules.specs.Table.{Entry}
 use Rattle.rules.specs.Use.{value-items, just}
 use Rattle.rules.proofs.Ranges.{from-to, item-at, first-value-item, no-value}
-use Rattle.taking.specs.Taking.{Roomy, Gives, asked-given}
+use Rattle.taking.specs.Taking.{Room-enough, Gives, asked-given}
 use Rattle.taking.proofs.Turns.{Taken-on, turn-start, turn-ready, turn-roomy, turn-on, turn-off, turn-end}
 use borrow.Author.Needs.{needs}
 use Rattle.taking.proofs.spans.take_values.Statement.{statement}
@@ -14,7 +14,7 @@ use Rattle.taking.proofs.spans.take_values.Tie as tie
 abbrev Inv-loop : tie.InvT-loop
 Inv-loop buffer g o first last list₀ stage₀ state₀ k₀ list stage state k =
     (first ≤ k)
-    × ((es : List Entry) → Gives es g → Roomy buffer list₀ stage₀
+    × ((es : List Entry) → Gives es g → Room-enough buffer list₀ stage₀
     → Taken-on es buffer (value-items (asked-given es g ∷ []) (just o) (from-to first last) (g .bare))
     (value-items (asked-given es g ∷ []) (just o) (from-to k last) (g .bare)) state₀ state list₀ list stage₀ stage)
 

@@ -7,7 +7,7 @@ use native.Mathlib.Omega.{arith}
 use lib.ListN.{take, drop}
 use Rattle.rules.specs.Table.{Entry}
 use Rattle.filling.specs.declared.Next.the-variants as put
-use Rattle.taking.specs.Taking.{Roomy, Gives}
+use Rattle.taking.specs.Taking.{Room-enough, Gives}
 use Rattle.taking.proofs.Finding.{value-place}
 use Rattle.taking.proofs.Staging.{not-beyond, Begins, begins-at, begins-inside, Puts, stage-beyond, stage-refused, stage-tested, note-room, note-small, stage-on}
 use borrow.Author.Needs.{needs}
@@ -25,7 +25,7 @@ begun c = begins-at (⊎-elim (λ w. inl (w .0 .taken, w .1)) (λ w. inr (w .0 .
 
 -- What was put, for whatever entries there are.
 puts : (c : tie.After-put-given) (es : List Entry) → let a = start (joined c) .args in
-    Gives es (a .g) → Roomy (a .buffer .now) (a .list .now) (a .stage .now)
+    Gives es (a .g) → Room-enough (a .buffer .now) (a .list .now) (a .stage .now)
     → Puts es (a .buffer .now) (a .g) (take (a .next - a .from) (drop (a .from) (a .buffer .now))) (a .next) (a .s) (a .list .now) (a .stage .now) (joined c .if1 .to)
 puts c es gives room =
     let s = start (joined c) in
