@@ -18,6 +18,7 @@ pub mod Contents
 pub mod Skips
 pub mod Widths
 pub mod Pieces
+pub mod Parts
 pub mod Strips
 pub mod Members
 pub mod Adjacent

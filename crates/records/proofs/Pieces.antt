@@ -76,7 +76,7 @@ module _ {es : List Entry} {b : Bytes} {places : List ℕ} {r : Record} (held : 
         reach false es (drop record-head-size b) r rest blank j less h λ r′ q.
         done-inj (sym (rw (drop-of-length-le es l) at e) ∙ ap rest-of (rw (drop-of-length-le es l) at (q .stands))) ∙ z
 
-    next-left : {mid : Bytes} → left ≡ done mid → from (suc j) ≡ mid
+    pub next-left : {mid : Bytes} → left ≡ done mid → from (suc j) ≡ mid
     next-left e = by-order (suc j) (length es)
         (λ l. start-next false es blank (drop record-head-size b) j l ∙ ap bytes-left e)
         (λ l. start-none false es (drop record-head-size b) (suc j) l ∙ sym (last-left l e))

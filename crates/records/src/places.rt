@@ -158,7 +158,7 @@ pub fn value_count(t: &[u8], b: &[u8], places: &[u16; DIRECTORY], i: usize, o: u
 }
 
 // The place after the parts of the entries before entry i.
-fn part_start(t: &[u8], b: &[u8], places: &[u16; DIRECTORY], i: usize) -> usize
+pub fn part_start(t: &[u8], b: &[u8], places: &[u16; DIRECTORY], i: usize) -> usize
     requires { ⌜ Valid (now t) × (i ≤ length (entries-of (now t))) × Has-record (entries-of (now t)) (now b) (now places) ⌝ }
     ensures { λ p. ⌜ (p ≤ length (now (b .entry))) × (drop p (now (b .entry)) ≡ start-of false (entries-of (now (t .entry))) (drop record-head-size (now (b .entry))) i) ⌝ }
 {

@@ -1,6 +1,6 @@
 -- What an entry adds to the new record, by what the code finds of it: a periodic group its new count and its occurrences, a field outside
 -- its cell, anything else nothing.
-use mathlib.Core.Path.{_≡_, refl, sym, _∙_}
+use mathlib.Core.Path.{_≡_, refl, sym, _∙_, ap}
 use mathlib.Core.Bool.{Bool, true, false, false≢true}
 use mathlib.Core.List.{List, []}
 use Prim.Native.Nat.{ℕ, suc, _+_, _<_, max}
@@ -8,12 +8,16 @@ use native.Mathlib.Nat.{add-zero, zero-add}
 use native.Mathlib.Numerals.{add-one}
 use native.Mathlib.Omega.{arith}
 use lib.ListN.{length, drop, getD}
-use lib.Seq.{drop-cons}
-use Rattle.rules.specs.Table.{What, field, group, Entry, Part, is-inside}
+use lib.Seq.{slice, drop-cons}
+use Rattle.rules.specs.Lists.{Bytes}
+use Rattle.rules.specs.Table.{What, field, group, Entry, Part, is-inside, fields-below}
 use Rattle.rules.specs.Record.{Record, Plan, group-count-at, count-or-one}
 use Rattle.rules.specs.Update.{Assignment, highest-occurrence, new-group-count, update-plan}
-use Rattle.tables.specs.Entries.{blank, is-periodic}
+use Rattle.tables.specs.Entries.{Valid, entries-of, blank, is-periodic}
+use Rattle.tables.specs.Groups.{group-end, fields-in}
 use Rattle.tables.specs.Places.{inside-from, inside-at}
+use Rattle.tables.proofs.Known.{periodic-level}
+use Rattle.records.proofs.Ends.{group-fields}
 use Rattle.updating.specs.Laid.{group-part, entry-laid}
 use Rattle.updating.proofs.Turns.{adds-group}
 
@@ -22,6 +26,13 @@ pub group-new : (ps : List Part) (r : Record) (ws : List Assignment) (name : ℕ
     → n ≡ max old highest → n ≡ update-plan ps r ws .occurrences (group-part name es) (group-count-at ps r name)
 unfolding update-plan count-or-one new-group-count
 group-new ps r ws name es old highest n e h m = rw (m, e, h)
+
+-- The fields of a periodic group by their entries.
+pub group-members : (t : Bytes) → Valid t → (g : ℕ) → g < length (entries-of t) → getD (entries-of t) g blank .what ≡ group true → (last : ℕ) → last ≡ group-end (entries-of t) g
+    → fields-below 1 (drop (g + 1) (entries-of t)) ≡ fields-in (slice (g + 1) last (entries-of t))
+group-members t valid g l what last e =
+    let es = entries-of t in
+    ap (λ n. fields-below 1 (drop n es)) (add-one g) ∙ group-fields es g (periodic-level t valid g l what) ∙ ap (λ n. fields-in (slice (g + 1) n es)) (sym e)
 
 -- A periodic group adds the same wherever it stands, and an entry in one that is none itself adds nothing more.
 module _ (w : Plan) (old : ℕ → ℕ) (name : ℕ) (es : List Entry) where

@@ -2,6 +2,9 @@ pub mod Occurrences
 pub mod Body
 pub mod Counted
 pub mod Turns
+pub mod Unnamed
+pub mod Kept
+pub mod Unchanged
 pub mod Laying
 pub mod Membering
 pub mod Grouping

@@ -1,18 +1,19 @@
 -- What the new record takes and keeps: each value is what is assigned to it, or what it was, or null.
 use mathlib.Core.Path.{_≡_}
-use mathlib.Core.Bool.{true}
-use mathlib.Core.List.{List, []}
+use mathlib.Core.Bool.{true, false}
+use mathlib.Core.List.{List, [], _++_}
 use mathlib.Core.Option.{Option, none, some}
 use Prim.Native.Nat.{ℕ, pred, _-_, _≤_}
 use lib.Dec.{T}
 use lib.ListN.{length, drop, getD}
 use Rattle.rules.specs.Outcome.{done}
-use Rattle.rules.specs.Limits.{greatest-count}
+use Rattle.rules.specs.Limits.{record-head-size, greatest-count}
 use Rattle.rules.specs.Lists.{Bytes, join, run}
 use Rattle.rules.specs.Values.{Format, null}
 use Rattle.rules.specs.Table.{Entry, parts, differ, names}
 use Rattle.rules.specs.Record.{Record, Plan, times, counted, stored-value}
 use Rattle.rules.specs.Update.{Assignment, to-field, bare-only, highest-value, update-plan}
+use Rattle.records.specs.Walk.{start-of}
 use Rattle.records.specs.Places.{Is-record, Cell-of}
 use Rattle.records.specs.declared.places.Cell.{Cell}
 use Rattle.records.specs.declared.places.Cell.the-variants.{At, Nothing}
@@ -37,7 +38,11 @@ Puts es b places list stage new at end entry exit n =
     (r : Record) (ws : List Assignment) → Is-record es b places r → Assigns es list stage ws
     → Filling (in-room (end - at) (done (new (update-plan (parts es) r ws) r))) at true entry exit n
 
--- The same of one cell, which goes by its own values alone.
+-- Bytes that stand between the part of an entry and that of another.
+abbrev pub Between : List Entry → Bytes → ℕ → ℕ → Bytes → Type 0
+Between es b first next old = start-of false es (drop record-head-size b) first ≡ old ++ start-of false es (drop record-head-size b) next
+
+-- What is put of one cell, which goes by its own values alone.
 abbrev pub Has-cell : List Entry → Bytes → List ℕ → Bytes → ℕ → ℕ → Cell → Type 0
 Has-cell es b list stage i o cell = ((r : Record) × Cell-of es b i o r cell) × ((ws : List Assignment) × Assigns es list stage ws)
 

@@ -2,16 +2,20 @@
 ghost use mathlib.Core.Path.{_≡_};
 ghost use mathlib.Core.Bool.{true, false};
 ghost use mathlib.Core.List.{_++_};
-ghost use Prim.Native.Nat.{_+_, _≤_, _<_};
+ghost use Prim.Native.Nat.{_+_, _-_, _≤_, _<_};
 ghost use lib.ListN.{length, drop, getD};
 ghost use Rattle.rules.specs.Limits.{highest-index, longest-new-record};
+ghost use Rattle.rules.specs.Outcome.{done};
+ghost use Rattle.rules.specs.Lists.{Bytes};
 ghost use Rattle.rules.specs.Table.{group, parts};
 ghost use Rattle.rules.specs.Record.{group-count-at, record-head};
-ghost use Rattle.tables.specs.Entries.{Valid, entries-of, blank};
+ghost use Rattle.tables.specs.Entries.{Valid, entries-of, blank, is-group};
+ghost use Rattle.tables.specs.Groups.{field-at};
 ghost use Rattle.tables.specs.Places.{inside-at};
-ghost use Rattle.filling.specs.Filling.{Roomy};
-ghost use Rattle.updating.specs.Laid.{occurrence-laid, occurrences-laid, entry-laid, laid-from};
-ghost use Rattle.updating.specs.New.{Has-both, Puts};
+ghost use Rattle.records.specs.Places.{Has-record};
+ghost use Rattle.filling.specs.Filling.{Roomy, Filling, in-room};
+ghost use Rattle.updating.specs.Laid.{cell-laid, occurrence-laid, occurrences-laid, entry-laid, laid-from};
+ghost use Rattle.updating.specs.New.{Has-both, Puts, Between};
 ghost use Rattle.updating.specs.Member.{Has-member, Puts-member};
 
 mod cells;
@@ -110,7 +114,7 @@ fn put_occurrences(
 }
 
 // The periodic group that entry g is: the larger of its old count and the highest occurrence named, and as many occurrences.
-fn put_group(
+fn put_named_group(
     t: &[u8],
     b: &[u8],
     places: &[u16; DIRECTORY],
@@ -131,6 +135,69 @@ fn put_group(
         Next::Refused(x) => Next::Refused(x),
         Next::At(p) => put_occurrences(t, b, places, list, stage, g, n, out, p, end),
     }
+}
+
+// The old bytes from entry first's part up to that of entry next, in one piece.
+fn put_kept(
+    t: &[u8],
+    b: &[u8],
+    places: &[u16; DIRECTORY],
+    first: usize,
+    next: usize,
+    out: &mut [u8],
+    at: usize,
+    end: usize,
+) -> Next
+    requires { ⌜ Valid (now t) × (first ≤ next) × (next ≤ length (entries-of (now t))) × Has-record (entries-of (now t)) (now b) (now places) × ((old : Bytes) × Between (entries-of (now t)) (now b) first next old) × Roomy at end (now out) ⌝ }
+    ensures { λ n. ⌜ ((old : Bytes) → Between (entries-of (now (t .entry))) (now (b .entry)) first next old → Filling (in-room (end - at) (done old)) at true (now (out .entry)) (now (out .exit)) n) ⌝ }
+{
+    let from = records::places::part_start(t, b, places, first);
+    let upto = records::places::part_start(t, b, places, next);
+    filling::put_bytes(&b[from..upto], out, at, end, true)
+}
+
+// The periodic group that entry g is: as it was where none of its fields is named.
+fn put_group(
+    t: &[u8],
+    b: &[u8],
+    places: &[u16; DIRECTORY],
+    list: &[u16],
+    stage: &[u8],
+    g: usize,
+    out: &mut [u8],
+    at: usize,
+    end: usize,
+) -> Next
+    requires { ⌜ Valid (now t) × (g < length (entries-of (now t))) × (getD (entries-of (now t)) g blank .what ≡ group true) × Has-both (entries-of (now t)) (now b) (now places) (now list) (now stage) × Roomy at end (now out) ⌝ }
+    ensures { λ n. ⌜ Puts (entries-of (now (t .entry))) (now (b .entry)) (now (places .entry)) (now (list .entry)) (now (stage .entry)) (λ w r. entry-laid w (group-count-at (parts (entries-of (now (t .entry)))) r) true (getD (entries-of (now (t .entry))) g blank .name) (group true) (drop (g + 1) (entries-of (now (t .entry))))) at end (now (out .entry)) (now (out .exit)) n ⌝ }
+{
+    let last = tables::group_end(t, g);
+    if assignments::highest_occurrence(list, g + 1, last) == 0 {
+        return put_kept(t, b, places, g, last, out, at, end);
+    }
+    put_named_group(t, b, places, list, stage, g, out, at, end)
+}
+
+// The field outside periodic groups that entry i is: as it was where it is not named.
+fn put_field(
+    t: &[u8],
+    b: &[u8],
+    places: &[u16; DIRECTORY],
+    list: &[u16],
+    stage: &[u8],
+    i: usize,
+    out: &mut [u8],
+    at: usize,
+    end: usize,
+) -> Next
+    requires { ⌜ Valid (now t) × (i < length (entries-of (now t))) × (is-group (getD (entries-of (now t)) i blank .what) ≡ false) × (inside-at (entries-of (now t)) i ≡ false) × Has-both (entries-of (now t)) (now b) (now places) (now list) (now stage) × Roomy at end (now out) ⌝ }
+    ensures { λ n. ⌜ Puts (entries-of (now (t .entry))) (now (b .entry)) (now (places .entry)) (now (list .entry)) (now (stage .entry)) (λ w r. cell-laid w 1 (field-at (entries-of (now (t .entry))) i)) at end (now (out .entry)) (now (out .exit)) n ⌝ }
+{
+    if assignments::highest_occurrence(list, i, i + 1) == 0 {
+        return put_kept(t, b, places, i, i + 1, out, at, end);
+    }
+    let cell = records::places::outside_cell(t, b, places, i);
+    cells::put_cell(t, b, list, stage, i, 1, cell, out, at, end)
 }
 
 // What entry i adds to the new record.
@@ -158,8 +225,7 @@ fn put_entry(
     if tables::group_at(t, i) {
         return Next::At(at);
     }
-    let cell = records::places::outside_cell(t, b, places, i);
-    cells::put_cell(t, b, list, stage, i, 1, cell, out, at, end)
+    put_field(t, b, places, list, stage, i, out, at, end)
 }
 
 // The new record, to the front of out.

@@ -2,9 +2,7 @@
 use mathlib.Core.Path.{_≡_, sym, _∙_}
 use mathlib.Core.Bool.{true}
 use Prim.Native.Nat.{_+_, _-_}
-use native.Mathlib.Omega.{arith}
 use lib.ListN.{drop, getD}
-use Rattle.rules.specs.Limits.{highest-index}
 use Rattle.rules.specs.Table.{parts}
 use Rattle.rules.specs.Record.{group-count-at}
 use Rattle.rules.specs.Update.{update-plan}
@@ -70,36 +68,29 @@ returns-3 c r ws p a =
     nothing-put _ _ _ true _
     (adds-nothing (update-plan (parts es) r ws) (group-count-at (parts es) r) (e .name) (drop (s .args .i + 1) es) (s .args .inside) (e .what) (sym (c .before .group-at .ensures) ∙ c .if3 .taken) (sym (l .periodic-at .ensures) ∙ c .before .before .before .if1 .left))
 
-outside-cell-requires : tie.Need-outside-cell-requires
-outside-cell-requires c κs =
-    let s = start (c .before .before .before .before) in
-    (s .pre .0, s .pre .1, sym (c .before .group-at .ensures) ∙ c .if3 .left, sym (s .pre .2) ∙ c .before .before .if2 .left)
-
-put-cell-requires : tie.Need-put-cell-requires
-put-cell-requires c κs =
-    let f = c .before .before in
+put-field-requires : tie.Need-put-field-requires
+put-field-requires c κs =
+    let f = c .before in
     let s = start (f .before .before .before .before) in
-    let h = s .pre .3 in
-    (s .pre .0, s .pre .1, sym (f .before .group-at .ensures) ∙ f .if3 .left, omega arith, ((h .0 .0, c .before .outside-cell .ensures (h .0 .0) (h .0 .1)), h .1), s .pre .4)
+    (s .pre .0, s .pre .1, sym (f .before .group-at .ensures) ∙ f .if3 .left, sym (s .pre .2) ∙ f .before .before .if2 .left, s .pre .3, s .pre .4)
 
 same-length-2 : tie.Need-same-length-2
 same-length-2 c =
     let m = c .before .before in
-    let f = m .before .before .before in
-    let h = start (f .before .before .before .before) .pre .3 in
-    m .put-cell .ensures (h .0 .0) (h .1 .0) (m .before .before .outside-cell .ensures (h .0 .0) (h .0 .1)) (h .1 .1) .same
+    let h = start (m .before .before .before .before .before .before) .pre .3 in
+    m .put-field .ensures (h .0 .0) (h .1 .0) (h .0 .1) (h .1 .1) .same
 
 returns-4 : tie.Need-returns-4
 unfolding field-at
 returns-4 c r ws p a =
     let m = c .before .before in
-    let f = m .before .before .before in
+    let f = m .before .before in
     let s = start (f .before .before .before .before) in
     let es = entries-of (s .args .t .now) in
     let e = getD es (s .args .i) blank in
     puts-as (s .args .end - s .args .at)
     (sym (adds-cell (update-plan (parts es) r ws) (group-count-at (parts es) r) (e .name) (drop (s .args .i + 1) es) (s .args .inside) (e .what) (sym (f .before .group-at .ensures) ∙ f .if3 .left) (f .before .before .if2 .left)))
-    (m .put-cell .ensures r ws (m .before .before .outside-cell .ensures r p) a)
+    (m .put-field .ensures r ws p a)
 
 pub put-entry-spec : {M : Type 1} → statement M
 put-entry-spec =
@@ -112,7 +103,6 @@ put-entry-spec =
     returns-2
     group-at-requires
     returns-3
-    outside-cell-requires
-    put-cell-requires
+    put-field-requires
     same-length-2
     returns-4)
