@@ -2,17 +2,18 @@
 ghost use mathlib.Core.Path.{_≡_};
 ghost use mathlib.Core.Bool.{true, false};
 ghost use mathlib.Core.List.{_++_};
-ghost use Prim.Native.Nat.{_+_, _≤_, _<_};
+ghost use Prim.Native.Nat.{_+_, _-_, _≤_, _<_};
 ghost use lib.ListN.{length, drop, getD};
 ghost use Rattle.rules.specs.Limits.{highest-index, longest-new-record};
 ghost use Rattle.rules.specs.Table.{group, parts};
-ghost use Rattle.rules.specs.Record.{group-count-at, record-head};
+ghost use Rattle.rules.specs.Record.{Record, group-count-at, record-head};
 ghost use Rattle.tables.specs.Entries.{Valid, entries-of, blank};
 ghost use Rattle.tables.specs.Places.{inside-at};
+ghost use Rattle.records.specs.Places.{Is-record};
 ghost use Rattle.filling.specs.Filling.{Roomy};
 ghost use Rattle.updating.specs.Laid.{occurrence-laid, occurrences-laid, entry-laid, laid-from};
 ghost use Rattle.updating.specs.New.{Has-both, Puts};
-ghost use Rattle.updating.specs.Member.{Has-member, Puts-member};
+ghost use Rattle.updating.specs.Member.{Has-member, Puts-member, Cells-from, members-laid};
 
 mod cells;
 
@@ -42,6 +43,44 @@ fn put_member(
     cells::put_cell(t, b, list, stage, i, o, cell, out, at, end)
 }
 
+// What the entries from first up to last add to occurrence o, one after the other, beside the cells that they had.
+fn put_members(
+    t: &[u8],
+    b: &[u8],
+    places: &[u16; DIRECTORY],
+    list: &[u16],
+    stage: &[u8],
+    first: usize,
+    last: usize,
+    o: usize,
+    had: Cell,
+    out: &mut [u8],
+    at: usize,
+    end: usize,
+) -> Next
+    requires { ⌜ Valid (now t) × (last ≤ length (entries-of (now t))) × (o ≤ highest-index) × Has-both (entries-of (now t)) (now b) (now places) (now list) (now stage) × ((r : Record) → Is-record (entries-of (now t)) (now b) (now places) r → first < last → Cells-from (entries-of (now t)) (now b) (now places) first last o r had) × Roomy at end (now out) ⌝ }
+    ensures { λ n. ⌜ Puts (entries-of (now (t .entry))) (now (b .entry)) (now (places .entry)) (now (list .entry)) (now (stage .entry)) (λ w r. members-laid w o (entries-of (now (t .entry))) first (last - first)) at end (now (out .entry)) (now (out .exit)) n ⌝ }
+{
+    let mut cell = had;
+    let mut p = at;
+    let mut i = first;
+    while i < last {
+        match put_member(t, b, list, stage, i, o, cell, out, p, end) {
+            Next::Refused(x) => {
+                return Next::Refused(x);
+            }
+            Next::At(next) => {
+                p = next;
+            }
+        }
+        if i + 1 < last {
+            cell = records::places::next_cell(t, b, i, cell);
+        }
+        i += 1;
+    }
+    Next::At(p)
+}
+
 // Occurrence o of the periodic group that entry g is.
 fn put_occurrence(
     t: &[u8],
@@ -59,22 +98,8 @@ fn put_occurrence(
     ensures { λ n. ⌜ Puts (entries-of (now (t .entry))) (now (b .entry)) (now (places .entry)) (now (list .entry)) (now (stage .entry)) (λ w r. occurrence-laid w o (drop (g + 1) (entries-of (now (t .entry))))) at end (now (out .entry)) (now (out .exit)) n ⌝ }
 {
     let last = tables::group_end(t, g);
-    let mut cell = records::places::first_cell(t, b, places, g, o);
-    let mut p = at;
-    let mut i = g + 1;
-    while i < last {
-        match put_member(t, b, list, stage, i, o, cell, out, p, end) {
-            Next::Refused(x) => {
-                return Next::Refused(x);
-            }
-            Next::At(next) => {
-                p = next;
-            }
-        }
-        cell = records::places::next_cell(t, b, i, cell);
-        i += 1;
-    }
-    Next::At(p)
+    let had = records::places::first_cell(t, b, places, g, o);
+    put_members(t, b, places, list, stage, g + 1, last, o, had, out, at, end)
 }
 
 // Occurrences 1 to n of the periodic group that entry g is.
@@ -158,8 +183,8 @@ fn put_entry(
     if tables::group_at(t, i) {
         return Next::At(at);
     }
-    let cell = records::places::outside_cell(t, b, places, i);
-    cells::put_cell(t, b, list, stage, i, 1, cell, out, at, end)
+    let had = records::places::outside_cell(t, b, places, i);
+    put_members(t, b, places, list, stage, i, i + 1, 1, had, out, at, end)
 }
 
 // The new record, to the front of out.

@@ -1,20 +1,21 @@
 -- `updating::put_entry` meets its contract: a periodic group adds its count and occurrences, a field outside its cell, anything else nothing.
-use mathlib.Core.Path.{_≡_, sym, _∙_}
+use mathlib.Core.Path.{_≡_, refl, sym, _∙_}
 use mathlib.Core.Bool.{true}
+use mathlib.Core.Logic.{inr}
 use Prim.Native.Nat.{_+_, _-_}
 use native.Mathlib.Omega.{arith}
 use lib.ListN.{drop, getD}
-use Rattle.rules.specs.Limits.{highest-index}
 use Rattle.rules.specs.Table.{parts}
 use Rattle.rules.specs.Record.{group-count-at}
 use Rattle.rules.specs.Update.{update-plan}
 use Rattle.tables.specs.Entries.{entries-of, blank}
-use Rattle.tables.specs.Groups.{field-at}
+use Rattle.tables.proofs.Tables.{valid-most}
 use Rattle.tables.proofs.Nesting.{periodic-what}
 use Rattle.filling.proofs.Singles.{nothing-put}
-use Rattle.updating.proofs.Turns.{adds-nothing, adds-cell}
+use Rattle.updating.proofs.Turns.{adds-nothing, adds-cell, adds-member}
 use Rattle.updating.proofs.Laying.{puts-as}
 use Rattle.updating.proofs.Grouping.{adds-alike, adds-inside}
+use Rattle.updating.proofs.Membering.{member-alone}
 use borrow.Author.Needs.{needs}
 use Rattle.updating.proofs.put_entry.Statement.{statement}
 use Rattle.updating.proofs.put_entry.Tie as tie
@@ -75,31 +76,34 @@ outside-cell-requires c κs =
     let s = start (c .before .before .before .before) in
     (s .pre .0, s .pre .1, sym (c .before .group-at .ensures) ∙ c .if3 .left, sym (s .pre .2) ∙ c .before .before .if2 .left)
 
-put-cell-requires : tie.Need-put-cell-requires
-put-cell-requires c κs =
-    let f = c .before .before in
-    let s = start (f .before .before .before .before) in
-    let h = s .pre .3 in
-    (s .pre .0, s .pre .1, sym (f .before .group-at .ensures) ∙ f .if3 .left, omega arith, ((h .0 .0, c .before .outside-cell .ensures (h .0 .0) (h .0 .1)), h .1), s .pre .4)
+add-put-members : tie.Need-add-put-members
+add-put-members c = let s = start (c .before .before .before .before .before) in omega (arith, s .pre .1, valid-most (s .args .t .now) (s .pre .0))
+
+put-members-requires : tie.Need-put-members-requires
+put-members-requires c κs =
+    let d = c .before in
+    let s = start (d .before .before .before .before .before) in
+    (s .pre .0, omega (arith, s .pre .1), omega arith, s .pre .3, (λ r held less. inr (refl, d .outside-cell .ensures r held)), s .pre .4)
 
 same-length-2 : tie.Need-same-length-2
 same-length-2 c =
     let m = c .before .before in
-    let f = m .before .before .before in
-    let h = start (f .before .before .before .before) .pre .3 in
-    m .put-cell .ensures (h .0 .0) (h .1 .0) (m .before .before .outside-cell .ensures (h .0 .0) (h .0 .1)) (h .1 .1) .same
+    let h = start (m .before .before .before .before .before .before .before) .pre .3 in
+    m .put-members .ensures (h .0 .0) (h .1 .0) (h .0 .1) (h .1 .1) .same
 
 returns-4 : tie.Need-returns-4
-unfolding field-at
 returns-4 c r ws p a =
     let m = c .before .before in
     let f = m .before .before .before in
     let s = start (f .before .before .before .before) in
     let es = entries-of (s .args .t .now) in
     let e = getD es (s .args .i) blank in
+    let w = update-plan (parts es) r ws in
+    let what = sym (f .before .group-at .ensures) ∙ f .if3 .left in
     puts-as (s .args .end - s .args .at)
-    (sym (adds-cell (update-plan (parts es) r ws) (group-count-at (parts es) r) (e .name) (drop (s .args .i + 1) es) (s .args .inside) (e .what) (sym (f .before .group-at .ensures) ∙ f .if3 .left) (f .before .before .if2 .left)))
-    (m .put-cell .ensures r ws (m .before .before .outside-cell .ensures r p) a)
+    (member-alone w 1 es (s .args .i) ∙ adds-member w 1 (e .name) (e .what) what
+    ∙ sym (adds-cell w (group-count-at (parts es) r) (e .name) (drop (s .args .i + 1) es) (s .args .inside) (e .what) what (f .before .before .if2 .left)))
+    (m .put-members .ensures r ws p a)
 
 pub put-entry-spec : {M : Type 1} → statement M
 put-entry-spec =
@@ -113,6 +117,7 @@ put-entry-spec =
     group-at-requires
     returns-3
     outside-cell-requires
-    put-cell-requires
+    add-put-members
+    put-members-requires
     same-length-2
     returns-4)
