@@ -9,6 +9,7 @@ ghost use Rattle.rules.specs.Table.{group, parts};
 ghost use Rattle.rules.specs.Record.{Record, group-count-at, record-head};
 ghost use Rattle.tables.specs.Entries.{Valid, entries-of, blank};
 ghost use Rattle.tables.specs.Places.{inside-at};
+ghost use Rattle.tables.specs.Groups.{group-end};
 ghost use Rattle.records.specs.Places.{Is-record};
 ghost use Rattle.filling.specs.Filling.{Roomy};
 ghost use Rattle.updating.specs.Laid.{occurrence-laid, occurrences-laid, entry-laid, laid-from};
@@ -81,7 +82,7 @@ fn put_members(
     Next::At(p)
 }
 
-// Occurrence o of the periodic group that entry g is.
+// Occurrence o of the periodic group that entry g is, with members up to last.
 fn put_occurrence(
     t: &[u8],
     b: &[u8],
@@ -89,15 +90,15 @@ fn put_occurrence(
     list: &[u16],
     stage: &[u8],
     g: usize,
+    last: usize,
     o: usize,
     out: &mut [u8],
     at: usize,
     end: usize,
 ) -> Next
-    requires { ⌜ Valid (now t) × (g < length (entries-of (now t))) × (getD (entries-of (now t)) g blank .what ≡ group true) × (1 ≤ o) × (o ≤ highest-index) × Has-both (entries-of (now t)) (now b) (now places) (now list) (now stage) × Roomy at end (now out) ⌝ }
+    requires { ⌜ Valid (now t) × (g < length (entries-of (now t))) × (getD (entries-of (now t)) g blank .what ≡ group true) × (last ≡ group-end (entries-of (now t)) g) × (1 ≤ o) × (o ≤ highest-index) × Has-both (entries-of (now t)) (now b) (now places) (now list) (now stage) × Roomy at end (now out) ⌝ }
     ensures { λ n. ⌜ Puts (entries-of (now (t .entry))) (now (b .entry)) (now (places .entry)) (now (list .entry)) (now (stage .entry)) (λ w r. occurrence-laid w o (drop (g + 1) (entries-of (now (t .entry))))) at end (now (out .entry)) (now (out .exit)) n ⌝ }
 {
-    let last = tables::group_end(t, g);
     let had = records::places::first_cell(t, b, places, g, o);
     put_members(t, b, places, list, stage, g + 1, last, o, had, out, at, end)
 }
@@ -110,18 +111,19 @@ fn put_occurrences(
     list: &[u16],
     stage: &[u8],
     g: usize,
+    last: usize,
     n: usize,
     out: &mut [u8],
     at: usize,
     end: usize,
 ) -> Next
-    requires { ⌜ Valid (now t) × (g < length (entries-of (now t))) × (getD (entries-of (now t)) g blank .what ≡ group true) × (n ≤ highest-index) × Has-both (entries-of (now t)) (now b) (now places) (now list) (now stage) × Roomy at end (now out) ⌝ }
+    requires { ⌜ Valid (now t) × (g < length (entries-of (now t))) × (getD (entries-of (now t)) g blank .what ≡ group true) × (last ≡ group-end (entries-of (now t)) g) × (n ≤ highest-index) × Has-both (entries-of (now t)) (now b) (now places) (now list) (now stage) × Roomy at end (now out) ⌝ }
     ensures { λ r. ⌜ Puts (entries-of (now (t .entry))) (now (b .entry)) (now (places .entry)) (now (list .entry)) (now (stage .entry)) (λ w r. occurrences-laid w (drop (g + 1) (entries-of (now (t .entry)))) 1 n) at end (now (out .entry)) (now (out .exit)) r ⌝ }
 {
     let mut p = at;
     let mut o = 1;
     while o <= n {
-        match put_occurrence(t, b, places, list, stage, g, o, out, p, end) {
+        match put_occurrence(t, b, places, list, stage, g, last, o, out, p, end) {
             Next::Refused(x) => {
                 return Next::Refused(x);
             }
@@ -150,11 +152,12 @@ fn put_group(
     ensures { λ n. ⌜ Puts (entries-of (now (t .entry))) (now (b .entry)) (now (places .entry)) (now (list .entry)) (now (stage .entry)) (λ w r. entry-laid w (group-count-at (parts (entries-of (now (t .entry)))) r) true (getD (entries-of (now (t .entry))) g blank .name) (group true) (drop (g + 1) (entries-of (now (t .entry))))) at end (now (out .entry)) (now (out .exit)) n ⌝ }
 {
     let old = records::places::group_count(t, b, places, g);
-    let highest = assignments::highest_occurrence(list, g + 1, tables::group_end(t, g));
+    let last = tables::group_end(t, g);
+    let highest = assignments::highest_occurrence(list, g + 1, last);
     let n = cells::larger(old, highest);
     match cells::put_count(n, out, at, end) {
         Next::Refused(x) => Next::Refused(x),
-        Next::At(p) => put_occurrences(t, b, places, list, stage, g, n, out, p, end),
+        Next::At(p) => put_occurrences(t, b, places, list, stage, g, last, n, out, p, end),
     }
 }
 

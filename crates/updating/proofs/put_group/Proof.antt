@@ -98,11 +98,11 @@ begun c = let s = start c in lay-start (whole c) (s .pre .3) (s .pre .4 .0) (s .
 group-count-requires : tie.Need-group-count-requires
 group-count-requires c κs = let s = c .before .before .before .before .before in (s .pre .0, s .pre .1, s .pre .2, s .pre .3 .0)
 
-add-highest-occurrence : tie.Need-add-highest-occurrence
-add-highest-occurrence c = let s = c .before .before .before .before .before .before in omega (arith, s .pre .1, valid-most (s .args .t .now) (s .pre .0))
-
 group-end-requires : tie.Need-group-end-requires
 group-end-requires c κs = let s = c .before .before .before .before .before .before in (s .pre .0, s .pre .1)
+
+add-highest-occurrence : tie.Need-add-highest-occurrence
+add-highest-occurrence c = let s = c .before .before .before .before .before .before .before in omega (arith, s .pre .1, valid-most (s .args .t .now) (s .pre .0))
 
 highest-occurrence-requires : tie.Need-highest-occurrence-requires
 highest-occurrence-requires c κs =
@@ -129,7 +129,7 @@ put-occurrences-requires c κs =
     let l = counted m in
     let s = start l in
     let g = lay-on (begun l) (adds l) (others l) (first l) (λ r ws p a. puts-as (s .args .end - s .args .at) (ap count-bytes (count l r ws p a)) (m .put-count .ensures)) _ (c .before .before .p .given .1) in
-    (s .pre .0, s .pre .1, s .pre .2, most l .1, s .pre .3, (g .fits, g .room))
+    (s .pre .0, s .pre .1, s .pre .2, l .before .before .group-end .ensures, most l .1, s .pre .3, (g .fits, g .room))
 
 same-length : tie.Need-same-length
 same-length c = let m = c .before .before .before .before .before in m .put-count .ensures .same
@@ -162,8 +162,8 @@ put-group-spec =
     tie.close
     (tie.spec
     group-count-requires
-    add-highest-occurrence
     group-end-requires
+    add-highest-occurrence
     highest-occurrence-requires
     larger-requires
     put-count-requires
