@@ -1,16 +1,18 @@
--- What an entry adds to an occurrence of the periodic group that it lies in.
+-- What an entry adds to an occurrence of the periodic group that it lies in, and what entries that follow each other add.
 use mathlib.Core.Path.{_≡_}
 use mathlib.Core.Bool.{true, false}
-use mathlib.Core.List.{List}
-use Prim.Native.Nat.{ℕ, _-_}
+use mathlib.Core.List.{List, [], _++_}
+use mathlib.Core.Logic.{_⊎_}
+use Prim.Native.Nat.{ℕ, zero, suc, _+_, _-_}
 use lib.ListN.{getD}
 use Rattle.rules.specs.Outcome.{done}
 use Rattle.rules.specs.Lists.{Bytes}
 use Rattle.rules.specs.Table.{Entry, parts}
-use Rattle.rules.specs.Record.{Record}
+use Rattle.rules.specs.Record.{Record, Plan}
 use Rattle.rules.specs.Update.{Assignment, update-plan}
 use Rattle.tables.specs.Entries.{blank, is-group}
-use Rattle.records.specs.Places.{Cell-of}
+use Rattle.tables.specs.Groups.{group-end}
+use Rattle.records.specs.Places.{Cell-of, Member-entered}
 use Rattle.records.specs.declared.places.Cell.{Cell}
 use Rattle.filling.specs.Filling.{in-room, Filling}
 use Rattle.filling.specs.declared.Next.{Next}
@@ -29,3 +31,13 @@ abbrev pub Puts-member : List Entry → Bytes → List ℕ → Bytes → ℕ →
 Puts-member es b list stage i o cell at end entry exit n =
     (r : Record) (ws : List Assignment) → Celled-member es b i o r cell → Assigns es list stage ws
     → Filling (in-room (end - at) (done (member-laid (update-plan (parts es) r ws) o (getD es i blank .name) (getD es i blank .what)))) at true entry exit n
+
+-- The cells of the entries from entry i up to `last` stand in occurrence o one after the other, from a cell on: they are the members of a
+-- periodic group that are left, or entry i is a field by itself.
+abbrev pub Cells-from : List Entry → Bytes → List ℕ → ℕ → ℕ → ℕ → Record → Cell → Type 0
+Cells-from es b places i last o r cell = ((g : ℕ) × (last ≡ group-end es g) × Member-entered es b places g i o r cell) ⊎ ((last ≡ i + 1) × Cell-of es b i o r cell)
+
+-- What n entries from entry i on add to occurrence o.
+unfoldable pub members-laid : Plan → ℕ → List Entry → ℕ → ℕ → Bytes
+members-laid w o es i zero = []
+members-laid w o es i (suc n) = member-laid w o (getD es i blank .name) (getD es i blank .what) ++ members-laid w o es (suc i) n

@@ -203,19 +203,14 @@ fn put_plain(
     requires { ⌜ Valid (now t) × (i < length (entries-of (now t))) × (is-group (getD (entries-of (now t)) i blank .what) ≡ false) × (is-multiple (getD (entries-of (now t)) i blank .what) ≡ false) × (o ≤ highest-index) × Has-cell (entries-of (now t)) (now b) (now list) (now stage) i o cell × Roomy at end (now out) ⌝ }
     ensures { λ n. ⌜ Puts-cell (entries-of (now (t .entry))) (now (b .entry)) (now (list .entry)) (now (stage .entry)) i o cell (λ w. cell-laid w o (field-at (entries-of (now (t .entry))) i)) at end (now (out .entry)) (now (out .exit)) n ⌝ }
 {
-    let e = tables::entry_at(t, i);
     let s = assignments::assigned(list, i, o, 1);
-    put_value(
-        b,
-        stage,
-        s,
-        cell,
-        e.format as usize,
-        e.size as usize,
-        out,
-        at,
-        end,
-    )
+    match s {
+        Staged::At(from, upto) => filling::put_bytes(&stage[from..upto], out, at, end, true),
+        Staged::Nothing => {
+            let e = tables::entry_at(t, i);
+            put_old(b, cell, e.format as usize, e.size as usize, out, at, end)
+        }
+    }
 }
 
 // The cell of entry i, a field, in occurrence o.

@@ -8,15 +8,15 @@ ghost use Rattle.rules.specs.Limits.{highest-index, longest-new-record};
 ghost use Rattle.rules.specs.Outcome.{done};
 ghost use Rattle.rules.specs.Lists.{Bytes};
 ghost use Rattle.rules.specs.Table.{group, parts};
-ghost use Rattle.rules.specs.Record.{group-count-at, record-head};
+ghost use Rattle.rules.specs.Record.{Record, group-count-at, record-head};
 ghost use Rattle.tables.specs.Entries.{Valid, entries-of, blank, is-group};
-ghost use Rattle.tables.specs.Groups.{field-at};
+ghost use Rattle.tables.specs.Groups.{field-at, group-end};
 ghost use Rattle.tables.specs.Places.{inside-at};
-ghost use Rattle.records.specs.Places.{Has-record};
+ghost use Rattle.records.specs.Places.{Is-record, Has-record};
 ghost use Rattle.filling.specs.Filling.{Roomy, Filling, in-room};
 ghost use Rattle.updating.specs.Laid.{cell-laid, occurrence-laid, occurrences-laid, entry-laid, laid-from};
 ghost use Rattle.updating.specs.New.{Has-both, Puts, Between};
-ghost use Rattle.updating.specs.Member.{Has-member, Puts-member};
+ghost use Rattle.updating.specs.Member.{Has-member, Puts-member, Cells-from, members-laid};
 
 mod cells;
 
@@ -46,26 +46,27 @@ fn put_member(
     cells::put_cell(t, b, list, stage, i, o, cell, out, at, end)
 }
 
-// Occurrence o of the periodic group that entry g is.
-fn put_occurrence(
+// What the entries from first up to last add to occurrence o, one after the other, beside the cells that they had.
+fn put_members(
     t: &[u8],
     b: &[u8],
     places: &[u16; DIRECTORY],
     list: &[u16],
     stage: &[u8],
-    g: usize,
+    first: usize,
+    last: usize,
     o: usize,
+    had: Cell,
     out: &mut [u8],
     at: usize,
     end: usize,
 ) -> Next
-    requires { ⌜ Valid (now t) × (g < length (entries-of (now t))) × (getD (entries-of (now t)) g blank .what ≡ group true) × (1 ≤ o) × (o ≤ highest-index) × Has-both (entries-of (now t)) (now b) (now places) (now list) (now stage) × Roomy at end (now out) ⌝ }
-    ensures { λ n. ⌜ Puts (entries-of (now (t .entry))) (now (b .entry)) (now (places .entry)) (now (list .entry)) (now (stage .entry)) (λ w r. occurrence-laid w o (drop (g + 1) (entries-of (now (t .entry))))) at end (now (out .entry)) (now (out .exit)) n ⌝ }
+    requires { ⌜ Valid (now t) × (last ≤ length (entries-of (now t))) × (o ≤ highest-index) × Has-both (entries-of (now t)) (now b) (now places) (now list) (now stage) × ((r : Record) → Is-record (entries-of (now t)) (now b) (now places) r → first < last → Cells-from (entries-of (now t)) (now b) (now places) first last o r had) × Roomy at end (now out) ⌝ }
+    ensures { λ n. ⌜ Puts (entries-of (now (t .entry))) (now (b .entry)) (now (places .entry)) (now (list .entry)) (now (stage .entry)) (λ w r. members-laid w o (entries-of (now (t .entry))) first (last - first)) at end (now (out .entry)) (now (out .exit)) n ⌝ }
 {
-    let last = tables::group_end(t, g);
-    let mut cell = records::places::first_cell(t, b, places, g, o);
+    let mut cell = had;
     let mut p = at;
-    let mut i = g + 1;
+    let mut i = first;
     while i < last {
         match put_member(t, b, list, stage, i, o, cell, out, p, end) {
             Next::Refused(x) => {
@@ -75,10 +76,33 @@ fn put_occurrence(
                 p = next;
             }
         }
-        cell = records::places::next_cell(t, b, i, cell);
+        if i + 1 < last {
+            cell = records::places::next_cell(t, b, i, cell);
+        }
         i += 1;
     }
     Next::At(p)
+}
+
+// Occurrence o of the periodic group that entry g is, with members up to last.
+fn put_occurrence(
+    t: &[u8],
+    b: &[u8],
+    places: &[u16; DIRECTORY],
+    list: &[u16],
+    stage: &[u8],
+    g: usize,
+    last: usize,
+    o: usize,
+    out: &mut [u8],
+    at: usize,
+    end: usize,
+) -> Next
+    requires { ⌜ Valid (now t) × (g < length (entries-of (now t))) × (getD (entries-of (now t)) g blank .what ≡ group true) × (last ≡ group-end (entries-of (now t)) g) × (1 ≤ o) × (o ≤ highest-index) × Has-both (entries-of (now t)) (now b) (now places) (now list) (now stage) × Roomy at end (now out) ⌝ }
+    ensures { λ n. ⌜ Puts (entries-of (now (t .entry))) (now (b .entry)) (now (places .entry)) (now (list .entry)) (now (stage .entry)) (λ w r. occurrence-laid w o (drop (g + 1) (entries-of (now (t .entry))))) at end (now (out .entry)) (now (out .exit)) n ⌝ }
+{
+    let had = records::places::first_cell(t, b, places, g, o);
+    put_members(t, b, places, list, stage, g + 1, last, o, had, out, at, end)
 }
 
 // Occurrences 1 to n of the periodic group that entry g is.
@@ -89,18 +113,19 @@ fn put_occurrences(
     list: &[u16],
     stage: &[u8],
     g: usize,
+    last: usize,
     n: usize,
     out: &mut [u8],
     at: usize,
     end: usize,
 ) -> Next
-    requires { ⌜ Valid (now t) × (g < length (entries-of (now t))) × (getD (entries-of (now t)) g blank .what ≡ group true) × (n ≤ highest-index) × Has-both (entries-of (now t)) (now b) (now places) (now list) (now stage) × Roomy at end (now out) ⌝ }
+    requires { ⌜ Valid (now t) × (g < length (entries-of (now t))) × (getD (entries-of (now t)) g blank .what ≡ group true) × (last ≡ group-end (entries-of (now t)) g) × (n ≤ highest-index) × Has-both (entries-of (now t)) (now b) (now places) (now list) (now stage) × Roomy at end (now out) ⌝ }
     ensures { λ r. ⌜ Puts (entries-of (now (t .entry))) (now (b .entry)) (now (places .entry)) (now (list .entry)) (now (stage .entry)) (λ w r. occurrences-laid w (drop (g + 1) (entries-of (now (t .entry)))) 1 n) at end (now (out .entry)) (now (out .exit)) r ⌝ }
 {
     let mut p = at;
     let mut o = 1;
     while o <= n {
-        match put_occurrence(t, b, places, list, stage, g, o, out, p, end) {
+        match put_occurrence(t, b, places, list, stage, g, last, o, out, p, end) {
             Next::Refused(x) => {
                 return Next::Refused(x);
             }
@@ -129,11 +154,12 @@ fn put_named_group(
     ensures { λ n. ⌜ Puts (entries-of (now (t .entry))) (now (b .entry)) (now (places .entry)) (now (list .entry)) (now (stage .entry)) (λ w r. entry-laid w (group-count-at (parts (entries-of (now (t .entry)))) r) true (getD (entries-of (now (t .entry))) g blank .name) (group true) (drop (g + 1) (entries-of (now (t .entry))))) at end (now (out .entry)) (now (out .exit)) n ⌝ }
 {
     let old = records::places::group_count(t, b, places, g);
-    let highest = assignments::highest_occurrence(list, g + 1, tables::group_end(t, g));
+    let last = tables::group_end(t, g);
+    let highest = assignments::highest_occurrence(list, g + 1, last);
     let n = cells::larger(old, highest);
     match cells::put_count(n, out, at, end) {
         Next::Refused(x) => Next::Refused(x),
-        Next::At(p) => put_occurrences(t, b, places, list, stage, g, n, out, p, end),
+        Next::At(p) => put_occurrences(t, b, places, list, stage, g, last, n, out, p, end),
     }
 }
 
@@ -196,8 +222,8 @@ fn put_field(
     if assignments::highest_occurrence(list, i, i + 1) == 0 {
         return put_kept(t, b, places, i, i + 1, out, at, end);
     }
-    let cell = records::places::outside_cell(t, b, places, i);
-    cells::put_cell(t, b, list, stage, i, 1, cell, out, at, end)
+    let had = records::places::outside_cell(t, b, places, i);
+    put_members(t, b, places, list, stage, i, i + 1, 1, had, out, at, end)
 }
 
 // What entry i adds to the new record.

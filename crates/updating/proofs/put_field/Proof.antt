@@ -1,20 +1,24 @@
 -- `updating::put_field` meets its contract: where the highest occurrence named is 0, the field adds the bytes that it had.
-use mathlib.Core.Path.{_≡_, sym, _∙_}
+use mathlib.Core.Path.{_≡_, refl, sym, _∙_}
+use mathlib.Core.Logic.{inr}
 use mathlib.Core.List.{List}
-use Prim.Native.Nat.{_+_, _≤_}
+use Prim.Native.Nat.{_+_, _-_, _≤_}
 use native.Mathlib.Omega.{arith}
-use lib.ListN.{length}
+use lib.ListN.{length, getD}
 use Rattle.rules.specs.Lists.{Bytes}
 use Rattle.rules.specs.Table.{alone, parts}
 use Rattle.rules.specs.Record.{Record}
 use Rattle.rules.specs.Update.{Assignment, update-plan}
 use Rattle.rules.proofs.Steps.{true-T}
-use Rattle.tables.specs.Entries.{entries-of}
+use Rattle.tables.specs.Entries.{entries-of, blank}
 use Rattle.tables.specs.Groups.{field-at}
 use Rattle.tables.proofs.Tables.{valid-most, valid-names}
 use Rattle.records.specs.Places.{Is-record}
 use Rattle.updating.specs.Laid.{cell-laid}
 use Rattle.updating.specs.New.{Assigns, Between}
+use Rattle.updating.proofs.Turns.{adds-member}
+use Rattle.updating.proofs.Laying.{puts-as}
+use Rattle.updating.proofs.Membering.{member-alone}
 use Rattle.updating.proofs.Unchanged.{field-kept, alone-fields}
 use borrow.Author.Needs.{needs}
 use Rattle.updating.proofs.put_field.Statement.{statement}
@@ -76,23 +80,30 @@ returns c r ws p a =
 outside-cell-requires : tie.Need-outside-cell-requires
 outside-cell-requires c κs = let s = start (c .before) in (s .pre .0, s .pre .1, s .pre .2, s .pre .3)
 
-put-cell-requires : tie.Need-put-cell-requires
-put-cell-requires c κs =
-    let s = start (c .before .before .before) in
-    let h = s .pre .4 in
-    (s .pre .0, s .pre .1, s .pre .2, omega arith, ((h .0 .0, c .before .outside-cell .ensures (h .0 .0) (h .0 .1)), h .1), s .pre .5)
+add-put-members : tie.Need-add-put-members
+add-put-members c = let s = start (c .before .before) in omega (arith, s .pre .1, valid-most (s .args .t .now) (s .pre .0))
+
+put-members-requires : tie.Need-put-members-requires
+put-members-requires c κs =
+    let d = c .before in
+    let s = start (d .before .before) in
+    (s .pre .0, omega (arith, s .pre .1), omega arith, s .pre .4, (λ r held less. inr (refl, d .outside-cell .ensures r held)), s .pre .5)
 
 same-length-2 : tie.Need-same-length-2
 same-length-2 c =
     let m = c .before .before in
-    let f = m .before .before in
-    let h = start (f .before .before) .pre .4 in
-    m .put-cell .ensures (h .0 .0) (h .1 .0) (f .outside-cell .ensures (h .0 .0) (h .0 .1)) (h .1 .1) .same
+    let h = start (m .before .before .before .before) .pre .4 in
+    m .put-members .ensures (h .0 .0) (h .1 .0) (h .0 .1) (h .1 .1) .same
 
 returns-2 : tie.Need-returns-2
+unfolding field-at
 returns-2 c r ws p a =
     let m = c .before .before in
-    m .put-cell .ensures r ws (m .before .before .outside-cell .ensures r p) a
+    let s = start (m .before .before .before .before) in
+    let es = entries-of (s .args .t .now) in
+    let e = getD es (s .args .i) blank in
+    let w = update-plan (parts es) r ws in
+    puts-as (s .args .end - s .args .at) (member-alone w 1 es (s .args .i) ∙ adds-member w 1 (e .name) (e .what) (s .pre .2)) (m .put-members .ensures r ws p a)
 
 pub put-field-spec : {M : Type 1} → statement M
 put-field-spec =
@@ -105,6 +116,7 @@ put-field-spec =
     same-length
     returns
     outside-cell-requires
-    put-cell-requires
+    add-put-members
+    put-members-requires
     same-length-2
     returns-2)

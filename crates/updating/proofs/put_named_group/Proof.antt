@@ -3,24 +3,28 @@ use mathlib.Core.Path.{_≡_, refl, sym, ap, _∙_}
 use mathlib.Core.Bool.{true}
 use mathlib.Core.List.{List, _++_}
 use Prim.Native.Nat.{ℕ, _+_, _-_, _≤_}
+use native.Mathlib.Numerals.{add-one}
 use native.Mathlib.Omega.{arith}
 use lib.ListN.{length, drop, getD}
+use lib.Seq.{slice}
 use Rattle.rules.specs.Lists.{Bytes}
 use Rattle.rules.specs.Limits.{highest-index, greatest-count}
-use Rattle.rules.specs.Table.{group, parts}
+use Rattle.rules.specs.Table.{group, parts, fields-below}
 use Rattle.rules.specs.Record.{Record, Plan, count-bytes, group-count-at}
 use Rattle.rules.specs.Update.{Assignment, update-plan}
 use Rattle.rules.proofs.Steps.{true-T}
 use Rattle.tables.specs.Entries.{entries-of, blank}
+use Rattle.tables.specs.Groups.{fields-in}
 use Rattle.tables.proofs.Tables.{valid-most, valid-names}
+use Rattle.tables.proofs.Known.{periodic-level}
 use Rattle.records.specs.Places.{Is-record}
-use Rattle.records.proofs.Ends.{group-within}
+use Rattle.records.proofs.Ends.{group-fields, group-within}
 use Rattle.records.proofs.Placed.{count-most}
 use Rattle.updating.specs.Laid.{group-part, occurrences-laid, entry-laid}
 use Rattle.updating.specs.New.{Assigns}
 use Rattle.updating.proofs.Turns.{adds-group}
 use Rattle.updating.proofs.Laying.{Laying, puts-as, lay-start, lay-on, lay-off, lay-last}
-use Rattle.updating.proofs.Grouping.{group-members, group-new}
+use Rattle.updating.proofs.Grouping.{group-new}
 use borrow.Author.Needs.{needs}
 use Rattle.updating.proofs.put_named_group.Statement.{statement}
 use Rattle.updating.proofs.put_named_group.Tie as tie
@@ -48,6 +52,15 @@ others c w r = occurrences-laid w (drop (start c .args .g + 1) (entries-of (star
 ends : (c : tie.After-larger) → c .before .before .group-end .result ≤ length (entries-of (start c .args .t .now))
 ends c = let s = start c in omega (arith, c .before .before .group-end .ensures, group-within (entries-of (s .args .t .now)) (s .args .g) (s .pre .1) .1)
 
+members : (c : tie.After-larger)
+    → fields-below 1 (drop (start c .args .g + 1) (entries-of (start c .args .t .now))) ≡ fields-in (slice (start c .args .g + 1) (c .before .before .group-end .result) (entries-of (start c .args .t .now)))
+members c =
+    let s = start c in
+    let a = s .args in
+    let es = entries-of (a .t .now) in
+    ap (λ n. fields-below 1 (drop n es)) (add-one (a .g)) ∙ group-fields es (a .g) (periodic-level (a .t .now) (s .pre .0) (a .g) (s .pre .1) (s .pre .2))
+    ∙ ap (λ n. fields-in (slice (a .g + 1) n es)) (sym (c .before .before .group-end .ensures))
+
 count : (c : tie.After-larger) (r : Record) (ws : List Assignment) → Is-record (entries-of (start c .args .t .now)) (start c .args .b .now) (start c .args .places .now) r
     → Assigns (entries-of (start c .args .t .now)) (start c .args .list .now) (start c .args .stage .now) ws → c .larger .result ≡ new c (update-plan (parts (entries-of (start c .args .t .now))) r ws) r
 count c r ws p a =
@@ -55,7 +68,7 @@ count c r ws p a =
     let es = entries-of (s .args .t .now) in
     let name = getD es (s .args .g) blank .name in
     group-new (parts es) r ws name (drop (s .args .g + 1) es) _ _ _ (c .before .before .before .group-count .ensures .1 r p)
-    (c .before .highest-occurrence .ensures .0 es (s .args .stage .now) (a .staged) ws (a .indexed) (true-T (valid-names (s .args .t .now) (s .pre .0))) (group-part name (drop (s .args .g + 1) es)) (group-members (s .args .t .now) (s .pre .0) (s .args .g) (s .pre .1) (s .pre .2) _ (c .before .before .group-end .ensures)) (ends c)) (c .larger .ensures)
+    (c .before .highest-occurrence .ensures .0 es (s .args .stage .now) (a .staged) ws (a .indexed) (true-T (valid-names (s .args .t .now) (s .pre .0))) (group-part name (drop (s .args .g + 1) es)) (members c) (ends c)) (c .larger .ensures)
 
 -- It is within the limits of counts and of indexes.
 most : (c : tie.After-larger) → (c .larger .result ≤ greatest-count) × (c .larger .result ≤ highest-index)
@@ -85,11 +98,11 @@ begun c = let s = start c in lay-start (whole c) (s .pre .3) (s .pre .4 .0) (s .
 group-count-requires : tie.Need-group-count-requires
 group-count-requires c κs = let s = c .before .before .before .before .before in (s .pre .0, s .pre .1, s .pre .2, s .pre .3 .0)
 
-add-highest-occurrence : tie.Need-add-highest-occurrence
-add-highest-occurrence c = let s = c .before .before .before .before .before .before in omega (arith, s .pre .1, valid-most (s .args .t .now) (s .pre .0))
-
 group-end-requires : tie.Need-group-end-requires
 group-end-requires c κs = let s = c .before .before .before .before .before .before in (s .pre .0, s .pre .1)
+
+add-highest-occurrence : tie.Need-add-highest-occurrence
+add-highest-occurrence c = let s = c .before .before .before .before .before .before .before in omega (arith, s .pre .1, valid-most (s .args .t .now) (s .pre .0))
 
 highest-occurrence-requires : tie.Need-highest-occurrence-requires
 highest-occurrence-requires c κs =
@@ -116,7 +129,7 @@ put-occurrences-requires c κs =
     let l = counted m in
     let s = start l in
     let g = lay-on (begun l) (adds l) (others l) (first l) (λ r ws p a. puts-as (s .args .end - s .args .at) (ap count-bytes (count l r ws p a)) (m .put-count .ensures)) _ (c .before .before .p .given .1) in
-    (s .pre .0, s .pre .1, s .pre .2, most l .1, s .pre .3, (g .fits, g .room))
+    (s .pre .0, s .pre .1, s .pre .2, l .before .before .group-end .ensures, most l .1, s .pre .3, (g .fits, g .room))
 
 same-length : tie.Need-same-length
 same-length c = let m = c .before .before .before .before .before in m .put-count .ensures .same
@@ -149,8 +162,8 @@ put-named-group-spec =
     tie.close
     (tie.spec
     group-count-requires
-    add-highest-occurrence
     group-end-requires
+    add-highest-occurrence
     highest-occurrence-requires
     larger-requires
     put-count-requires

@@ -16,12 +16,12 @@ use Rattle.updating.proofs.put_occurrences.Statement.{statement}
 use Rattle.updating.proofs.put_occurrences.Tie as tie
 
 abbrev Inv-loop : tie.InvT-loop
-Inv-loop t b places list stage g n out₀ at end p₀ o₀ out p o =
+Inv-loop t b places list stage g last n out₀ at end p₀ o₀ out p o =
     (1 ≤ o)
     × Laying (entries-of t) b places list stage (λ w r. occurrences-laid w (drop (g + 1) (entries-of t)) 1 n) (λ w r. occurrences-laid w (drop (g + 1) (entries-of t)) o (suc n - o)) at p end out₀ out
 
 abbrev μ-loop : tie.MeasureT-loop
-μ-loop t b places list stage g n out₀ at end p₀ o₀ out p o = suc n - o
+μ-loop t b places list stage g last n out₀ at end p₀ o₀ out p o = suc n - o
 
 -- Where the function begins; and the occurrence that the loop is at, before the others.
 abbrev start : tie.At-loop Inv-loop μ-loop → tie.Start Inv-loop μ-loop
@@ -43,14 +43,14 @@ loop-holds c =
     let a = s .args in
     let es = entries-of (a .t .now) in
     let e : a .n ≡ suc (a .n) - 1 = omega arith in
-    (omega arith, lay-past (lay-start (λ w r. occurrences-laid w (drop (a .g + 1) es) 1 (a .n)) (s .pre .4) (s .pre .5 .0) (s .pre .5 .1)) (λ w r. occurrences-laid w (drop (a .g + 1) es) 1 (suc (a .n) - 1)) (λ w r. ap (occurrences-laid w (drop (a .g + 1) es) 1) e))
+    (omega arith, lay-past (lay-start (λ w r. occurrences-laid w (drop (a .g + 1) es) 1 (a .n)) (s .pre .5) (s .pre .6 .0) (s .pre .6 .1)) (λ w r. occurrences-laid w (drop (a .g + 1) es) 1 (suc (a .n) - 1)) (λ w r. ap (occurrences-laid w (drop (a .g + 1) es) 1) e))
 
 put-occurrence-requires : tie.Need-put-occurrence-requires Inv-loop μ-loop
 put-occurrence-requires c κs =
     let l = c .before in
     let s = start (l .before) in
     let i = l .before .loop .inv in
-    (s .pre .0, s .pre .1, s .pre .2, i .0, omega (arith, l .loop-test .taken, s .pre .3), s .pre .4, (i .1 .fits, i .1 .room))
+    (s .pre .0, s .pre .1, s .pre .2, s .pre .3, i .0, omega (arith, l .loop-test .taken, s .pre .4), s .pre .5, (i .1 .fits, i .1 .room))
 
 enum-known-x : tie.Need-enum-known-x Inv-loop μ-loop
 enum-known-x c = search needs
@@ -59,7 +59,7 @@ same-length : tie.Need-same-length Inv-loop μ-loop
 same-length c =
     let m = c .before .before .before .before .before in
     let l = m .before .before in
-    let h = start (l .before) .pre .4 in
+    let h = start (l .before) .pre .5 in
     omega (arith, lay-same (l .before .loop .inv .1), m .put-occurrence .ensures (h .0 .0) (h .1 .0) (h .0 .1) (h .1 .1) .same)
 
 returns : tie.Need-returns Inv-loop μ-loop
@@ -74,7 +74,7 @@ enum-known-next c = search needs
 add-o : tie.Need-add-o Inv-loop μ-loop
 add-o c =
     let l = c .before .before .before .before .before .before .before in
-    omega (arith, l .loop-test .taken, start (l .before) .pre .3)
+    omega (arith, l .loop-test .taken, start (l .before) .pre .4)
 
 loop-less : tie.Need-loop-less Inv-loop μ-loop
 loop-less c = let l = c .before .before .before .before .before .before .before in omega (arith, l .loop-test .taken)
