@@ -5,7 +5,11 @@
 use std::io::{self, BufRead, BufWriter, Write};
 use std::process::exit;
 
+#[allow(dead_code)]
+mod lines;
 mod service;
+
+use lines::bytes;
 
 fn main() -> io::Result<()> {
     let mut out = BufWriter::new(io::stdout());
@@ -57,17 +61,6 @@ fn lend(length: &str, service: impl FnOnce(&mut [u8]) -> (u8, usize)) -> Result<
     }
     lent.truncate(written);
     Ok((number, lent))
-}
-
-fn bytes(word: &str) -> Result<Vec<u8>, &'static str> {
-    if word == "-" {
-        return Ok(Vec::new());
-    }
-    let half = |digit: u8| (digit as char).to_digit(16).ok_or("not hexadecimal");
-    if word.len() % 2 != 0 {
-        return Err("half a byte");
-    }
-    word.as_bytes().chunks(2).map(|pair| Ok((half(pair[0])? << 4 | half(pair[1])?) as u8)).collect()
 }
 
 fn hexadecimal(bytes: &[u8]) -> String {

@@ -2,6 +2,9 @@
 
 use std::time::{Duration, Instant};
 
+#[allow(dead_code)]
+#[path = "../../rust/lyrecanyon/src/exports.rs"]
+mod exports;
 mod rows;
 #[allow(dead_code)]
 mod service;
@@ -9,69 +12,12 @@ mod updates;
 
 use rows::Call;
 
-extern "C" {
-    fn lyrecanyon_read(
-        table: *const u8,
-        table_length: usize,
-        record: *const u8,
-        record_length: usize,
-        format: *const u8,
-        format_length: usize,
-        buffer: *mut u8,
-        buffer_length: usize,
-        used: *mut usize,
-    ) -> u8;
-
-    fn lyrecanyon_update(
-        table: *const u8,
-        table_length: usize,
-        record: *const u8,
-        record_length: usize,
-        format: *const u8,
-        format_length: usize,
-        buffer: *const u8,
-        buffer_length: usize,
-        room: *mut u8,
-        room_length: usize,
-        used: *mut usize,
-    ) -> u8;
-}
-
 /// The proved services, by their export to C.
 fn proved(call: &Call, lent: &mut [u8]) -> (u8, usize) {
-    let mut used = 0;
-    let (table, record, format) = (&call.table, &call.record, &call.format);
-    let number = match &call.values {
-        None => unsafe {
-            lyrecanyon_read(
-                table.as_ptr(),
-                table.len(),
-                record.as_ptr(),
-                record.len(),
-                format.as_ptr(),
-                format.len(),
-                lent.as_mut_ptr(),
-                lent.len(),
-                &mut used,
-            )
-        },
-        Some(values) => unsafe {
-            lyrecanyon_update(
-                table.as_ptr(),
-                table.len(),
-                record.as_ptr(),
-                record.len(),
-                format.as_ptr(),
-                format.len(),
-                values.as_ptr(),
-                values.len(),
-                lent.as_mut_ptr(),
-                lent.len(),
-                &mut used,
-            )
-        },
-    };
-    (number, used)
+    match &call.values {
+        None => exports::read(&call.table, &call.record, &call.format, lent),
+        Some(values) => exports::update(&call.table, &call.record, &call.format, values, lent),
+    }
 }
 
 /// The services in Rust.

@@ -137,7 +137,7 @@ pub fn most_items() -> Call {
     read("32,767 items", MANY_VALUES, record, "PM1-171(1-191),PM172(1-106).")
 }
 
-fn read(row: &str, table: &str, record: Vec<u8>, format: &str) -> Call {
+pub fn read(row: &str, table: &str, record: Vec<u8>, format: &str) -> Call {
     let format = format.bytes().map(ebcdic).collect();
     Call { row: format!("read {}", row), table: table_bytes(table), record, format, values: None, lent: 32_767 }
 }

@@ -1,0 +1,106 @@
+// Lyrecanyon: stored records, read and updated by format buffers. C99 and later, and C++. Link with liblyrecanyon.a (x86-64).
+//
+// Every call takes all inputs, ends, and does nothing undefined: no byte of a lent slice has to be checked before. Each returns a number:
+// LYRECANYON_DONE, or the number of a refusal. A refusal changes no byte of the slices; done writes as many bytes as the length used says,
+// from the start of the slice, and none after.
+//
+// A slice is a pointer and the number of bytes behind it. Where the number is 0 the pointer may be null. `used` is never null. Slices that
+// are only read may overlap each other in any way; the slice that is written and `used` overlap nothing else that is lent.
+//
+// The library has no state, calls nothing but memcpy and memset, and takes no memory but the stack. Any number of threads may call it at
+// once, each with its own slices to write.
+#ifndef LYRECANYON_H
+#define LYRECANYON_H
+
+#include <stddef.h>
+#include <stdint.h>
+
+// The minor version rises with each function or number that is added. What is here stays as it is for as long as the major version does.
+#define LYRECANYON_VERSION_MAJOR 1
+#define LYRECANYON_VERSION_MINOR 0
+
+// The longest that a record, and the answer of a read, can be: slices of these lengths have room for every one.
+#define LYRECANYON_LONGEST_RECORD 4096
+#define LYRECANYON_LONGEST_ANSWER 32767
+
+// The bytes of the stack that a call of each function needs at most.
+#define LYRECANYON_STACK_READ 20480
+#define LYRECANYON_STACK_UPDATE 90112
+#define LYRECANYON_STACK_APPLY 90112
+#define LYRECANYON_STACK_EMPTY 12288
+
+#ifdef __cplusplus
+extern "C" {
+#endif
+
+// The numbers that are returned. Others may be added: a number that is not here is a refusal too.
+enum lyrecanyon_number {
+    LYRECANYON_DONE = 0,
+    LYRECANYON_BAD_TABLE = 1,
+    LYRECANYON_BAD_RECORD = 2,
+    LYRECANYON_BAD_SYNTAX = 3,
+    LYRECANYON_UNKNOWN_NAME = 4,
+    LYRECANYON_USE_RULE = 5,
+    LYRECANYON_NAMED_TWICE = 6,
+    LYRECANYON_BEYOND_BUFFER = 7,
+    LYRECANYON_BAD_VALUE = 8,
+    LYRECANYON_OUT_OF_RANGE = 9,
+    LYRECANYON_NO_ROOM = 10
+};
+
+// What a number means.
+static inline const char *lyrecanyon_meaning(uint8_t number)
+{
+    switch (number) {
+    case LYRECANYON_DONE:
+        return "done";
+    case LYRECANYON_BAD_TABLE:
+        return "the table is not as the rules say";
+    case LYRECANYON_BAD_RECORD:
+        return "the record is not as the rules and its table say, or is over 4,096 bytes";
+    case LYRECANYON_BAD_SYNTAX:
+        return "the format has bad syntax or no period, or is over 2,048 bytes";
+    case LYRECANYON_UNKNOWN_NAME:
+        return "the format has a name that is not in the table";
+    case LYRECANYON_USE_RULE:
+        return "the format breaks a use rule";
+    case LYRECANYON_NAMED_TWICE:
+        return "the update names an occurrence twice";
+    case LYRECANYON_BEYOND_BUFFER:
+        return "an item ends beyond the record buffer or beyond 32,767 bytes";
+    case LYRECANYON_BAD_VALUE:
+        return "the record buffer has a bad value";
+    case LYRECANYON_OUT_OF_RANGE:
+        return "a value is outside the conversion range or does not fit";
+    case LYRECANYON_NO_ROOM:
+        return "the new record is over 4,096 bytes or over the lent room";
+    default:
+        return "refused by a number that this header does not know";
+    }
+}
+
+// Reads: fills the record buffer with the items that a format calls for. Done: *used is the length of the answer. Refused: *used is 0 and
+// the buffer is as it was.
+uint8_t lyrecanyon_read(const uint8_t *table, size_t table_length, const uint8_t *stored, size_t stored_length, const uint8_t *format,
+                        size_t format_length, uint8_t *buffer, size_t buffer_length, size_t *used);
+
+// Updates: stores the values of the record buffer by a format, and writes the new record to the room, which lies apart from the old one.
+// Done: *used is the length of the new record. Refused: *used is 0 and the room is as it was.
+uint8_t lyrecanyon_update(const uint8_t *table, size_t table_length, const uint8_t *stored, size_t stored_length, const uint8_t *format,
+                          size_t format_length, const uint8_t *buffer, size_t buffer_length, uint8_t *room, size_t room_length,
+                          size_t *used);
+
+// Updates in place: the record is the first *used bytes of a slice, and the new record takes its place, up to the end of the slice. Done:
+// *used is the length of the new record. Refused: the slice and *used are as they were. A *used over `room` means the whole slice.
+uint8_t lyrecanyon_apply(const uint8_t *table, size_t table_length, uint8_t *stored, size_t room, size_t *used, const uint8_t *format,
+                         size_t format_length, const uint8_t *buffer, size_t buffer_length);
+
+// Makes the empty record of a table: every value is null and every count 0. Done: *used is its length. Refused: *used is 0 and the room is
+// as it was.
+uint8_t lyrecanyon_empty(const uint8_t *table, size_t table_length, uint8_t *room, size_t room_length, size_t *used);
+
+#ifdef __cplusplus
+}
+#endif
+
+#endif
