@@ -56,6 +56,17 @@ fn answer_read(table: &[u8], stored: &[u8], format: &[u8], room: &mut [u8]) -> A
     }
 }
 
+fn answer_history(table: &[u8], journal: &[u8], format: &[u8], room: &mut [u8]) -> Answered
+    ensures { λ r. ⌜ r .length ≤ length (now (room .entry)) ⌝ }
+{
+    let answer = journals::read_after(table, journal, format, room);
+    Answered {
+        number: answer.number(),
+        length: answer.length(),
+        known: true,
+    }
+}
+
 fn answer_update(
     table: &[u8],
     record: &[u8],
@@ -107,6 +118,22 @@ fn ask_read(bytes: &[u8], c: CallLine, room: &mut [u8]) -> Answered
     )
 }
 
+fn ask_history(bytes: &[u8], c: CallLine, room: &mut [u8]) -> Answered
+    requires { ⌜ Called (length (now bytes)) c ⌝ }
+    ensures { λ r. ⌜ r .length ≤ length (now (room .entry)) ⌝ }
+{
+    let lent = least(c.asked, room.len());
+    let table = c.table;
+    let journal = c.record;
+    let format = c.format;
+    answer_history(
+        &bytes[..table],
+        &bytes[table..journal],
+        &bytes[journal..format],
+        &mut room[..lent],
+    )
+}
+
 fn ask_update(bytes: &[u8], c: CallLine, room: &mut [u8]) -> Answered
     requires { ⌜ Called (length (now bytes)) c ⌝ }
     ensures { λ r. ⌜ r .length ≤ length (now (room .entry)) ⌝ }
@@ -143,6 +170,7 @@ fn answer_call(line: &[u8], bytes: &mut [u8], room: &mut [u8]) -> Answered
     let letter = c.letter;
     match letter {
         b'R' => ask_read(bytes, c, room),
+        b'H' => ask_history(bytes, c, room),
         b'U' => ask_update(bytes, c, room),
         b'E' => ask_empty(bytes, c, room),
         _ => no_call(),

@@ -8,11 +8,11 @@ use native.Mathlib.Omega.{arith}
 use lib.Dec.{eqb, eqb→eq}
 use lib.ListN.{length}
 use Rattle.rules.specs.Lists.{absent, filter, maximum}
-use Rattle.rules.specs.Table.{Field, Part, member}
+use Rattle.rules.specs.Table.{Field, Part, member, part-named}
 use Rattle.rules.specs.Record.{Record, Plan, laid-out, laid-part, laid-cell, count-or-one, value-count-at, group-count-at}
 use Rattle.rules.specs.Update.{to-field, to-part, bare-only, highest-occurrence, highest-value, new-value-count, new-group-count, update-plan, after-update}
 use Rattle.rules.proofs.Steps.{by-test, not-some, some-inj, and-left, and-right, true-T}
-use Rattle.rules.proofs.Home.{part-named, home, home-member}
+use Rattle.rules.proofs.Home.{home, home-member}
 use Rattle.rules.proofs.Runs.{run-length}
 use Rattle.rules.proofs.Laid.{occurrences-at, values-past, laid-values, laid-values-past, group-none}
 use Rattle.buffer.proofs.Cases.{by-order}

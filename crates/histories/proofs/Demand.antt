@@ -11,7 +11,7 @@ use Rattle.rules.specs.Outcome.{Outcome, done, refused, _>>=_, need}
 use Rattle.rules.specs.Limits.{longest-items, longest-record, longest-new-record}
 use Rattle.rules.specs.Lists.{Bytes}
 use Rattle.rules.specs.Values.{null, converted-bytes, content}
-use Rattle.rules.specs.Table.{Field, Part, Entry, table, parts}
+use Rattle.rules.specs.Table.{Field, Part, Entry, table, parts, part-named}
 use Rattle.rules.specs.Record.{Record, stored, record-bytes, value-at, value-count-at, group-count-at, empty-record}
 use Rattle.rules.specs.Format.{Element, elements}
 use Rattle.rules.specs.Use.{Place, Item, blanks-item, text-item, value-item, value-count, group-count, items, uses}
@@ -21,12 +21,12 @@ use Rattle.rules.proofs.Steps.{from-bind, from-need, done-inj, by-outcome}
 use Rattle.rules.proofs.Back.{All, Stored, Record-ok, stored-back}
 use Rattle.rules.proofs.Kept.{stored-ok}
 use Rattle.rules.proofs.Uses.{table-differ}
-use Rattle.rules.proofs.Home.{part-named, home, Occurs}
+use Rattle.rules.proofs.Home.{home, Occurs}
 use Rattle.rules.proofs.Entries.{Sound, Among, parts-among, table-sound, field-allowed}
 use Rattle.rules.proofs.Names.{parts-found, home-all}
 use Rattle.rules.proofs.Alls.{all-both}
 use Rattle.rules.proofs.Stands.{Stands, uses-stand}
-use Rattle.histories.specs.History.{Call, History, Sent, answer, left-by, record-after, Writes, writes-of, writes, accepted, last-written-value, value-count-of, occurrences-of, group-count-of, items-by, Over-a-history}
+use Rattle.histories.specs.History.{Call, History, Byte-buffers, answer, left-by, record-after, Writes, writes-of, writes, accepted, last-written-value, value-count-of, occurrences-of, group-count-of, items-by, Over-a-history}
 use Rattle.histories.specs.Told.{told-item, told-items, told}
 use Rattle.histories.proofs.OneUpdate.{update-moves}
 use Rattle.histories.proofs.Counts.{group-moves, count-moves}
@@ -155,7 +155,7 @@ module _ (t : Bytes) (es : List Entry) (is-table : table t ≡ done es) where
 
   module _ (start : Bytes) (is-start : empty t longest-new-record ≡ done start) where
     -- The record after a history is what its accepted writes leave.
-    pub history-holds : {C : Type 0} (h : History) → Sent h → ((r : Record) → Holds es (record-after t start h) (accepted t start h) r → C) → C
+    pub history-holds : {C : Type 0} (h : History) → Byte-buffers h → ((r : Record) → Holds es (record-after t start h) (accepted t start h) r → C) → C
     unfolding record-after accepted
     history-holds [] s then = then (empty-record (parts es)) (start-holds start is-start)
     history-holds (c ∷ earlier) s then =
@@ -172,7 +172,7 @@ module _ (t : Bytes) (es : List Entry) (is-table : table t ≡ done es) where
         from-bind (uses es [] xs) _ k λ us h₂ k₂.
         (rw (done-inj k₂) at (uses-stand es sound (table-differ t es is-table) [] xs us h₂)) .0
 
-    pub demand-3 : (h : History) → Sent h → Over-a-history t es start h (record-after t start h)
+    pub demand-3 : (h : History) → Byte-buffers h → Over-a-history t es start h (record-after t start h)
     unfolding told-item
     demand-3 h s = history-holds h s λ r x.
         let b = record-after t start h in
@@ -187,7 +187,7 @@ module _ (t : Bytes) (es : List Entry) (is-table : table t ≡ done es) where
         }
 
     -- Every read, of whatever format and room, done or refused, is the one that the history tells.
-    pub every-read : (h : History) → Sent h → (f : Bytes) (room : ℕ) → read t (record-after t start h) f room ≡ told t (accepted t start h) f room
+    pub every-read : (h : History) → Byte-buffers h → (f : Bytes) (room : ℕ) → read t (record-after t start h) f room ≡ told t (accepted t start h) f room
     unfolding read told
     every-read h s f room = history-holds h s λ r x.
         rw (is-table, x .held) (same-steps (elements f) λ xs e. same-uses xs r x (min room longest-items))

@@ -17,7 +17,7 @@ use Rattle.rules.proofs.Back.{All}
 use Rattle.rules.proofs.Uses.{table-differ, Index}
 use Rattle.rules.proofs.Entries.{Among, Two-bytes, table-sound, table-named, find-among, field-allowed}
 use Rattle.rules.proofs.FieldHomes.{named-field, among-find}
-use Rattle.histories.specs.History.{History, Sent, record-after, accepted, last-written-value, value-count-of, group-count-of, items-by, Reads}
+use Rattle.histories.specs.History.{History, Byte-buffers, record-after, accepted, last-written-value, value-count-of, group-count-of, items-by, Reads}
 use Rattle.histories.specs.Spelled.{indexed, valued, count-spelled, element-alone}
 use Rattle.histories.proofs.Spelled.{Spells}
 use Rattle.histories.proofs.Formats.{standard, group-C, field-C, index-C, plain-alone, value-alone, occurrence-alone, both-alone}
@@ -65,7 +65,7 @@ module _ (es : List Entry) (a b : ℕ) (name : is-name a b ≡ true) (x : Found)
   spelling-item true false o w p q = rw (q refl) (occurrence-alone es a b name x found f s false w known (three i) i (three-spell i oi) oi o)
   spelling-item true true o w p q = both-alone es a b name x found f s true w known (three i) i (three-spell i oi) oi (three k) k (three-spell k ok) ok refl o
 
-module _ (t : Bytes) (es : List Entry) (is-table : table t ≡ done es) (start : Bytes) (is-start : empty t longest-new-record ≡ done start) (h : History) (sent : Sent h) where
+module _ (t : Bytes) (es : List Entry) (is-table : table t ≡ done es) (start : Bytes) (is-start : empty t longest-new-record ≡ done start) (h : History) (sent : Byte-buffers h) where
   -- Each occurrence of each field of the table has a format that reads it alone, and that reads it as it was last written.
   pub each-occurrence : (f : Field) → Among es f → (i k : ℕ) → Index i → Index k
       → ((x : Found) → find (f .name) es ≡ done x → x .inside ≡ false → i ≡ 1) → (f .multiple ≡ false → k ≡ 1)

@@ -6,10 +6,10 @@ use mathlib.Core.List.{List, []}
 use Prim.Native.Nat.{ℕ}
 use native.Mathlib.Omega.{arith}
 use Rattle.rules.specs.Values.{null}
-use Rattle.rules.specs.Table.{Field, Part, Entry, parts}
+use Rattle.rules.specs.Table.{Field, Part, Entry, parts, part-named}
 use Rattle.rules.specs.Record.{Plan, laid-cell, count-or-one, value-at, value-count-at, group-count-at, empty-record}
 use Rattle.rules.proofs.Back.{Record-ok, all-map}
-use Rattle.rules.proofs.Home.{part-named, home, Occurs}
+use Rattle.rules.proofs.Home.{home, Occurs}
 use Rattle.rules.proofs.Runs.{run-length}
 use Rattle.rules.proofs.Laid.{occurrences-at, laid-values, laid-values-past, laid-value, laid-value-past, laid-occurrence-past}
 use Rattle.buffer.proofs.Cases.{by-order}

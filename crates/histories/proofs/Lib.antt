@@ -11,6 +11,5 @@ pub mod Specimen
 pub mod Spelled
 pub mod Formats
 pub mod Each
-pub mod Extent
 pub mod Sizes
 pub mod Settled

@@ -12,7 +12,7 @@ use Rattle.rules.specs.Limits.{longest-items, longest-new-record}
 use Rattle.rules.specs.Characters.{letter-C}
 use Rattle.rules.specs.Lists.{Bytes}
 use Rattle.rules.specs.Values.{null}
-use Rattle.rules.specs.Table.{Field, field, Entry, Part, differ, names, name-of, table, parts}
+use Rattle.rules.specs.Table.{Field, field, Entry, Part, differ, names, name-of, table, parts, part-named}
 use Rattle.rules.specs.Record.{Record, stored, record-bytes, values-at, value-at, value-count-at, group-count-at}
 use Rattle.rules.specs.Use.{value-count, group-count, Found, find}
 use Rattle.rules.specs.Services.{item-bytes, empty}
@@ -21,12 +21,12 @@ use Rattle.rules.proofs.Back.{All, Stored}
 use Rattle.rules.proofs.Kept.{stored-ok}
 use Rattle.rules.proofs.Readers.{stored-sound}
 use Rattle.rules.proofs.Uses.{picked-differ, table-differ, Index}
-use Rattle.rules.proofs.Home.{part-named, home, Occurs}
+use Rattle.rules.proofs.Home.{home, Occurs}
 use Rattle.rules.proofs.Laid.{occurrences-at}
 use Rattle.rules.proofs.Entries.{Among, Sound, parts-among, table-sound, table-named, field-allowed}
 use Rattle.rules.proofs.Names.{home-all, parts-picked, parts-parted}
 use Rattle.rules.proofs.FieldHomes.{field-home, among-find}
-use Rattle.histories.specs.History.{History, Sent, record-after, accepted, last-written-value, value-count-of, group-count-of, items-by, Over-a-history}
+use Rattle.histories.specs.History.{History, Byte-buffers, record-after, accepted, last-written-value, value-count-of, group-count-of, items-by, Over-a-history}
 use Rattle.histories.specs.Spelled.{count-spelled, element-alone}
 use Rattle.histories.proofs.Written.{null-stored}
 use Rattle.histories.proofs.Keep.{value-ok, sized-bound}
@@ -34,13 +34,13 @@ use Rattle.histories.proofs.Reading.{reads-item, stored-itself}
 use Rattle.histories.proofs.Demand.{Holds, history-holds, demand-3}
 use Rattle.histories.proofs.Formats.{standard, group-C, field-C, index-C}
 use Rattle.histories.proofs.Each.{field-named, three, three-spell, each-occurrence}
-use Rattle.histories.proofs.Extent.{list-ext, record-ext}
+use Rattle.rules.proofs.SameRecords.{list-ext, record-ext}
 use Rattle.histories.proofs.Sizes.{stored-short, occurrences-sized, values-sized, sized-one, Group-among, parts-groups, group-find, group-bytes, named-all}
 
 head-same : (m n : ℕ) → _≡_ {A = Outcome Bytes} (done (m ∷ [])) (done (n ∷ [])) → m ≡ n
 head-same m n e = ap (λ bs. getD bs 0 0) (done-inj e)
 
-module _ (t : Bytes) (es : List Entry) (is-table : table t ≡ done es) (start : Bytes) (is-start : empty t longest-new-record ≡ done start) (h : History) (sent : Sent h)
+module _ (t : Bytes) (es : List Entry) (is-table : table t ≡ done es) (start : Bytes) (is-start : empty t longest-new-record ≡ done start) (h : History) (sent : Byte-buffers h)
     (b : Bytes) (over : Over-a-history t es start h b) (r : Record) (held : stored (parts es) b ≡ done r) where
   abbrev sound : All (λ e. Sound (e .level) (e .what)) es
   sound = table-sound t es is-table
@@ -114,7 +114,7 @@ module _ (t : Bytes) (es : List Entry) (is-table : table t ≡ done es) (start :
       let there = reads-item t b es r (element-alone a d (letter-C ∷ [])) (group-count (p .name)) (group-count-at (parts es) r (p .name) ∷ []) is-table held e refl longest-items (omega arith) in
       head-same _ _ (sym there ∙ asked)
 
-module _ (t : Bytes) (es : List Entry) (is-table : table t ≡ done es) (start : Bytes) (is-start : empty t longest-new-record ≡ done start) (h : History) (sent : Sent h) where
+module _ (t : Bytes) (es : List Entry) (is-table : table t ≡ done es) (start : Bytes) (is-start : empty t longest-new-record ≡ done start) (h : History) (sent : Byte-buffers h) where
   -- Two records that both meet it. The second's values are known to be as they are stored.
   module _ (b c : Bytes) (over : Over-a-history t es start h b) (over′ : Over-a-history t es start h c) (r s : Record) (held : stored (parts es) b ≡ done r) (held′ : stored (parts es) c ≡ done s)
       (holds : Holds es c (accepted t start h) s) where

@@ -14,13 +14,13 @@ use Rattle.rules.specs.Outcome.{done}
 use Rattle.rules.specs.Limits.{longest-items, longest-alpha, longest-binary, longest-packed, longest-unpacked}
 use Rattle.rules.specs.Lists.{Bytes}
 use Rattle.rules.specs.Values.{Format, alpha, binary, fixed, packed, unpacked, allowed, first-value, with-length-byte, in-normal-form}
-use Rattle.rules.specs.Table.{Field, What, field, group, Entry, Part, differ, names, is-inside, alone, part-of, parts-from, member}
+use Rattle.rules.specs.Table.{Field, What, field, group, Entry, Part, differ, names, is-inside, alone, part-of, parts-from, member, part-named}
 use Rattle.rules.specs.Record.{Occurrence, Record, stored-value, cell-of, values-at}
 use Rattle.rules.specs.Use.{Found, find-from}
 use Rattle.rules.proofs.Steps.{from-as, from-need, from-done, some-inj, not-some, not-both, by-test, by-option, from-some-pair, eqb-same}
 use Rattle.rules.proofs.Back.{All, Beside, Sized, Stored, Cell-ok, Record-ok, all-map}
 use Rattle.rules.proofs.Places.{Avoids, from-avoids, from-differ}
-use Rattle.rules.proofs.Home.{part-named, home}
+use Rattle.rules.proofs.Home.{home}
 use Rattle.rules.proofs.Laid.{occurrences-at}
 use Rattle.rules.proofs.Entries.{Two-bytes}
 use Rattle.rules.proofs.FieldHomes.{find-here, find-skip}

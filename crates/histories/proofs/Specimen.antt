@@ -11,13 +11,12 @@ use Rattle.rules.specs.Outcome.{Outcome, done, refused}
 use Rattle.rules.specs.Limits.{longest-items, longest-new-record}
 use Rattle.rules.specs.Lists.{Bytes, bytes-of, all}
 use Rattle.rules.specs.Values.{unpacked}
-use Rattle.rules.specs.Table.{Entry, table}
+use Rattle.rules.specs.Table.{Entry, table, part-named}
 use Rattle.rules.specs.Use.{Place}
 use Rattle.rules.specs.Services.{read, empty}
 use Rattle.rules.proofs.Specimen.{job-table, same-answer, passes}
 use Rattle.rules.proofs.Steps.{done-inj}
-use Rattle.rules.proofs.Home.{part-named}
-use Rattle.histories.specs.History.{Call, History, Sent, answer, left-by, record-after, writes-of, writes, accepted, last-written-value, value-count-of, occurrences-of, group-count-of, items-by, Over-a-history}
+use Rattle.histories.specs.History.{Call, History, Byte-buffers, answer, left-by, record-after, writes-of, writes, accepted, last-written-value, value-count-of, occurrences-of, group-count-of, items-by, Over-a-history}
 use Rattle.histories.specs.Told.{told-item, told-items, told}
 
 unfoldable pub job-start : Bytes
@@ -176,7 +175,7 @@ two-bytes a b h k zero = h
 two-bytes a b h k (suc zero) = k
 two-bytes a b h k (suc (suc i)) = omega arith
 
-twice-sent : Sent twice
+twice-sent : Byte-buffers twice
 unfolding twice
 twice-sent = (two-bytes 0xF5 0xF0 (omega arith) (omega arith), (two-bytes 0xF1 0xF5 (omega arith) (omega arith), tt))
 
@@ -186,6 +185,6 @@ first-value = record { field = record { name = 0xD4C6; format = unpacked; size =
 apart : {xs ys : Bytes} → _≡_ {A = Outcome Bytes} (done (0xF1 ∷ xs)) (done (0xF5 ∷ ys)) → ⊥
 apart e = let z : _≡_ {A = ℕ} 0xF1 0xF5 = ap (λ bs. getD bs 0 0) (done-inj e) in omega arith
 
-pub first-only-breaks : ((h : History) → Sent h → Over-a-history job-table (entries-in (table job-table)) job-start h (first-only job-table job-start h)) → ⊥
+pub first-only-breaks : ((h : History) → Byte-buffers h → Over-a-history job-table (entries-in (table job-table)) job-start h (first-only job-table job-start h)) → ⊥
 unfolding agrees first-only twice mf1 items-by first-value
 first-only-breaks law = apart (law twice twice-sent .occurrences mf1 first-value false refl longest-items (omega arith))

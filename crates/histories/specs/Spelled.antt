@@ -18,6 +18,6 @@ valued ds vs = figures ds ++ (open-parenthesis ∷ figures vs ++ (close-parenthe
 unfoldable pub count-spelled : List ℕ → Bytes
 count-spelled ds = figures ds ++ (letter-C ∷ [])
 
--- A name and what stands after it, as a format.
+-- A name and the rest of an element after it, as a format.
 unfoldable pub element-alone : ℕ → ℕ → Bytes → Bytes
-element-alone a b behind = a ∷ b ∷ behind ++ (period ∷ [])
+element-alone a b rest = a ∷ b ∷ rest ++ (period ∷ [])

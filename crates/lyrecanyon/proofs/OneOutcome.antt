@@ -6,7 +6,7 @@ use lib.ListN.{getD}
 use Rattle.rules.specs.Outcome.{Outcome}
 use Rattle.rules.specs.Lists.{Bytes}
 use Rattle.rules.specs.declared.Refusal.the-variants.{BadTable, BadRecord, BadSyntax, UnknownName, UseRule, NamedTwice, BeyondBuffer, BadValue, OutOfRange, NoRoom}
-use Rattle.lyrecanyon.specs.Answers.{answer-number, answer-length, Returns, Settled, Exported}
+use Rattle.lyrecanyon.specs.Answers.{answer-number, answer-length, Returns, Settled, Exported, Applied}
 use Rattle.lyrecanyon.specs.declared.Answer.{Answer}
 use Rattle.lyrecanyon.specs.declared.Answer.the-variants.{Done, Refused}
 
@@ -43,3 +43,7 @@ one-answer {r = r} {s} x y =
 -- Of its export to C: one number, one length used, and one slice.
 pub one-export : {o : Outcome Bytes} {entry a b : Bytes} {used also n m : ℕ} → Exported o entry a used n → Exported o entry b also m → (n ≡ m) × (used ≡ also) × (a ≡ b)
 one-export x y = one-outcome x y
+
+-- Of the update in place as C has it: one number, one length of the record, and one slice.
+pub one-applied : {o : Outcome Bytes} {entry a b : Bytes} {used k l n m : ℕ} → Applied o entry a used k n → Applied o entry b used l m → (n ≡ m) × (k ≡ l) × (a ≡ b)
+one-applied x y = (x .number-is ∙ sym (y .number-is), x .used-is ∙ sym (y .used-is), x .bytes-are ∙ sym (y .bytes-are))

@@ -37,3 +37,14 @@ Settled o entry exit r = Returns o entry exit (answer-number r) (answer-length r
 -- The same as C has it: the length used is written, and the number returned.
 abbrev pub Exported : Outcome Bytes → Bytes → Bytes → ℕ → ℕ → Type 0
 Exported o entry exit used number = Returns o entry exit number used
+
+-- The length of a record after an update in place: that of the new record, or where the update is refused the one that it had.
+abbrev pub length-left : Outcome Bytes → ℕ → ℕ
+length-left (done b) used = length b
+length-left (refused n) used = used
+
+-- An update in place as C has it: the number is returned, and the slice and the length of the record in it are the outcome's.
+pub record Applied (o : Outcome Bytes) (entry exit : Bytes) (used used′ number : ℕ) : Type 0 where
+  pub number-is : number ≡ outcome-number o
+  pub used-is : used′ ≡ length-left o used
+  pub bytes-are : exit ≡ bytes-of o ++ drop (length (bytes-of o)) entry

@@ -6,7 +6,7 @@ ghost use Rattle.rules.specs.Limits.{longest-items};
 ghost use Rattle.rules.specs.Services as Rules;
 ghost use Rattle.tables.specs.Entries.{Valid, entries-of};
 ghost use Rattle.records.specs.Places.{Has-record};
-ghost use Rattle.lyrecanyon.specs.Answers.{Settled, Exported, answer-number, answer-length};
+ghost use Rattle.lyrecanyon.specs.Answers.{Settled, Exported, Applied, answer-number, answer-length};
 
 mod making;
 
@@ -197,6 +197,27 @@ pub fn apply(table: &[u8], stored: &mut [u8], used: usize, format: &[u8], buffer
     let mut new = [0u8; rules::LONGEST_NEW_RECORD];
     let answer = making::make(table, &stored[..end], format, buffer, &mut new);
     making::lend(answer, &new, stored)
+}
+
+// The same for C: the number is returned, and the length of the record is the new one, or stays where the update is refused.
+#[no_mangle]
+pub extern "C" fn lyrecanyon_apply(
+    table: &[u8],
+    stored: &mut [u8],
+    used: &mut usize,
+    format: &[u8],
+    buffer: &[u8],
+) -> u8
+    ensures { λ r. ⌜ Applied (Rules.update (now (table .entry)) (take (now (used .entry)) (now (stored .entry))) (now (format .entry)) (now (buffer .entry)) (length (now (stored .entry)))) (now (stored .entry)) (now (stored .exit)) (now (used .entry)) (now (used .exit)) r ⌝ }
+{
+    let answer = apply(table, stored, *used, format, buffer);
+    match answer {
+        Answer::Done(n) => {
+            *used = n;
+            0
+        }
+        Answer::Refused(x) => rules::refusal_number(x),
+    }
 }
 
 // The empty record of a table, to the front of the room. It is built by itself first, so that a refusal changes nothing.

@@ -55,7 +55,8 @@ fn no_call() -> CallLine
     }
 }
 
-fn take_read(line: &[u8], out: &mut [u8]) -> CallLine
+// A read, or a read after a history, which has a journal in the place of the record.
+fn take_read(letter: u8, line: &[u8], out: &mut [u8]) -> CallLine
     requires { ⌜ (2 ≤ length (now line)) × (length (now line) ≤ 2 * length (now out)) ⌝ }
     ensures { λ r. ⌜ Called (length (now (out .entry))) r ⌝ }
 {
@@ -63,7 +64,7 @@ fn take_read(line: &[u8], out: &mut [u8]) -> CallLine
     let n = hexadecimal::take_number(line, s.next);
     match n {
         NumberWord::Is(asked) => CallLine {
-            letter: b'R',
+            letter,
             table: s.table,
             record: s.record,
             format: s.format,
@@ -125,7 +126,8 @@ pub fn take_call(line: &[u8], out: &mut [u8]) -> CallLine
         return no_call();
     }
     match line[0] {
-        b'R' => take_read(line, out),
+        b'R' => take_read(b'R', line, out),
+        b'H' => take_read(b'H', line, out),
         b'U' => take_update(line, out),
         b'E' => take_empty(line, out),
         _ => no_call(),

@@ -10,11 +10,11 @@ use borrow.Author.Tests.{ltb-true, lt-ltb}
 use lib.Dec.{eqb, ltb}
 use Rattle.rules.specs.Outcome.{done}
 use Rattle.rules.specs.Values.{Format}
-use Rattle.rules.specs.Table.{Field, What, field, group, Entry, Part, inside-of, is-inside, fields-below, alone, part-of, parts-from, parts}
+use Rattle.rules.specs.Table.{Field, What, field, group, Entry, Part, inside-of, is-inside, fields-below, alone, part-of, parts-from, parts, part-named}
 use Rattle.rules.specs.Use.{Found, find-from, find}
 use Rattle.rules.proofs.Steps.{by-test, done-inj, not-done, not-both}
 use Rattle.rules.proofs.Back.{All, all-map}
-use Rattle.rules.proofs.Home.{home, part-named, named-here, named-skip}
+use Rattle.rules.proofs.Home.{home, named-here, named-skip}
 use Rattle.rules.proofs.Entries.{Sound}
 use Rattle.rules.proofs.FieldHomes.{named-field, named-entry, periodic-part, find-here, find-skip, below-field, below-group, parts-field, parts-group, parts-same, find-same, find-deep}
 

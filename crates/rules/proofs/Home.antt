@@ -5,7 +5,7 @@ use mathlib.Core.List.{List, [], _∷_}
 use mathlib.Core.Option.{Option, none, some}
 use Prim.Native.Nat.{ℕ, _≤_}
 use lib.Dec.{eqb}
-use Rattle.rules.specs.Table.{Field, Part, member}
+use Rattle.rules.specs.Table.{Field, Part, member, part-named}
 use Rattle.rules.proofs.Steps.{by-option, not-some, from-some-pair}
 
 -- The field with a name, and the part that it stands in.
@@ -26,11 +26,6 @@ home-member n [] p f h = absurd (not-some h)
 home-member n (q ∷ ps) p f h = by-option (member n (q .members))
     (λ g e. from-some-pair (rw (e, home) at h) λ a b. rw (← a, ← b) e)
     (λ e. home-member n ps p f (rw (e, home) at h))
-
--- The part with a name.
-unfoldable pub part-named : ℕ → List Part → Option Part
-part-named n [] = none
-part-named n (p ∷ ps) = elim (eqb (p .name) n) [ true ↦ some p | false ↦ part-named n ps ]
 
 pub named-here : (n : ℕ) (p : Part) (ps : List Part) → eqb (p .name) n ≡ true → part-named n (p ∷ ps) ≡ some p
 unfolding part-named

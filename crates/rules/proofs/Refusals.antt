@@ -38,7 +38,7 @@ entries-only (suc n) (a ∷ b ∷ l ∷ f ∷ s ∷ o ∷ bs) =
     only-need (Is 1) (is-name a b) refl _
     (only-bind (Is 1) (what-of l f s o) _ (what-only l f s o) (λ w. only-bind (Is 1) (entries n bs) _ (entries-only n bs) (λ es. tt)))
 
-table-only : (t : Bytes) → Only (Is 1) (table t)
+pub table-only : (t : Bytes) → Only (Is 1) (table t)
 unfolding table
 table-only t =
     only-need (Is 1) (same (take 5 t) table-head) refl _
@@ -87,7 +87,7 @@ part-only : (p : Part) (bs : Bytes) → Only (Is 2) (stored-part p bs)
 unfolding stored-part
 part-only p = counted-only (p .periodic) (each stored-cell (p .members)) (each-only stored-cell cell-only (p .members))
 
-stored-only : (ps : List Part) (bs : Bytes) → Only (Is 2) (stored ps bs)
+pub stored-only : (ps : List Part) (bs : Bytes) → Only (Is 2) (stored ps bs)
 unfolding stored
 stored-only ps bs =
     only-need (Is 2) (leb (length bs) longest-record) refl _
@@ -197,7 +197,7 @@ assembled-only (t ∷ ts) =
     only-bind (Is 3) (piece (trim t)) _ (piece-only (trim t))
     (λ p. only-bind (Is 3) (assembled ts) _ (assembled-only ts) (λ r. put-only p r))
 
-elements-only : (bs : Bytes) → Only (Is 3) (elements bs)
+pub elements-only : (bs : Bytes) → Only (Is 3) (elements bs)
 unfolding elements
 elements-only bs =
     only-need (Is 3) (leb (length bs) longest-format) refl _

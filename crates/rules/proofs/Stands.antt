@@ -11,7 +11,7 @@ use Rattle.rules.specs.Outcome.{done}
 use Rattle.rules.specs.Limits.{highest-index}
 use Rattle.rules.specs.Lists.{all, join, absent}
 use Rattle.rules.specs.Values.{Format}
-use Rattle.rules.specs.Table.{What, field, group, Entry, Field, Part, differ, names, fields-below, parts}
+use Rattle.rules.specs.Table.{What, field, group, Entry, Field, Part, differ, names, fields-below, parts, part-named}
 use Rattle.rules.specs.Format.{Range, Element, blanks, quoted, named, count, series}
 use Rattle.rules.specs.Use.{Item, blanks-item, text-item, group-count, value-count, value-item, Asked, Use, one, values, value-items, items-of, items, Found, find, asked, as-stored, in-order, just, Spread, spread, Indexes, indexes-after, last-index, plain, use-of-group, use-of-field, use-of-count, fields-to, use-of-series, use-of, uses}
 use Rattle.rules.proofs.Steps.{from-bind, from-need, done-inj, not-done, not-both, and-left, and-right, by-test, T-true}
@@ -19,7 +19,7 @@ use Rattle.rules.proofs.Back.{All, all-map}
 use Rattle.rules.proofs.Alls.{all-append, all-join, all-run, all-of-map}
 use Rattle.rules.proofs.Named.{asked-field}
 use Rattle.rules.proofs.Uses.{by-what, range-index, spread-in-order, not-group}
-use Rattle.rules.proofs.Home.{home, Occurs, part-named}
+use Rattle.rules.proofs.Home.{home, Occurs}
 use Rattle.rules.proofs.Entries.{Sound, Among, below-among, to-among, find-among}
 use Rattle.rules.proofs.Names.{parts-found}
 use Rattle.rules.proofs.FieldHomes.{named-field, field-home, among-find}

@@ -146,3 +146,8 @@ parts es = parts-from false es
 unfoldable pub member : ℕ → List Field → Option Field
 member n [] = none
 member n (f ∷ fs) = elim (eqb (f .name) n) [ true ↦ some f | false ↦ member n fs ]
+
+-- The part with a name.
+unfoldable pub part-named : ℕ → List Part → Option Part
+part-named n [] = none
+part-named n (p ∷ ps) = elim (eqb (p .name) n) [ true ↦ some p | false ↦ part-named n ps ]

@@ -1,5 +1,5 @@
-// The specimen job record of document 01: its cases that are not starred, run by the compiled services. Each line has a call, and the
-// number, the length and the bytes of its answer.
+// The specimen job record of document 01: its cases, run by the compiled services. Each line has a call, and the number, the length and the
+// bytes of its answer.
 use lyrecanyon::Answer;
 ghost use Prim.Native.Nat.{_≤_};
 ghost use lib.ListN.{length};
@@ -50,10 +50,49 @@ fn show_update(name: &[u8], format: &[u8], buffer: &[u8], room: &mut [u8])
     show(name, answer, room);
 }
 
-fn show_reads() {
+// Values at their standard length and format, and at others.
+fn show_values() {
     let mut buffer = [0u8; 8];
+    show_read(b"read AA,AB. ", b"\xc1\xc1\x6b\xc1\xc2\x4b", &mut buffer);
+    show_read(b"read AB,2. ", b"\xc1\xc2\x6b\xf2\x4b", &mut buffer);
+    show_read(b"read AB,1. ", b"\xc1\xc2\x6b\xf1\x4b", &mut buffer);
+    show_read(
+        b"read AB,5,U. ",
+        b"\xc1\xc2\x6b\xf5\x6b\xe4\x4b",
+        &mut buffer,
+    );
+    show_read(
+        b"read AB,2,B. ",
+        b"\xc1\xc2\x6b\xf2\x6b\xc2\x4b",
+        &mut buffer,
+    );
     show_read(b"read ZV. ", b"\xe9\xe5\x4b", &mut buffer);
     show_read(b"read ZV,3. ", b"\xe9\xe5\x6b\xf3\x4b", &mut buffer);
+}
+
+// Counts, values and occurrences, those that do not exist among them.
+fn show_occurrences() {
+    let mut buffer = [0u8; 8];
+    show_read(
+        b"read MF,MF,MF. ",
+        b"\xd4\xc6\x6b\xd4\xc6\x6b\xd4\xc6\x4b",
+        &mut buffer,
+    );
+    show_read(
+        b"read MFC,3X,MF2. ",
+        b"\xd4\xc6\xc3\x6b\xf3\xe7\x6b\xd4\xc6\xf2\x4b",
+        &mut buffer,
+    );
+    show_read(
+        b"read CB1(1-2),CB2C. ",
+        b"\xc3\xc2\xf1\x4d\xf1\x60\xf2\x5d\x6b\xc3\xc2\xf2\xc3\x4b",
+        &mut buffer,
+    );
+    show_read(b"read HB2. ", b"\xc8\xc2\xf2\x4b", &mut buffer);
+}
+
+fn show_refused_reads() {
+    let mut buffer = [0u8; 8];
     show_read(b"read . ", b"\x4b", &mut buffer);
     show_read(b"read QQ. ", b"\xd8\xd8\x4b", &mut buffer);
     show_read(b"read GB1. ", b"\xc7\xc2\xf1\x4b", &mut buffer);
@@ -64,7 +103,30 @@ fn show_reads() {
     show_read(b"read AA. into 5 bytes ", b"\xc1\xc1\x4b", &mut five);
 }
 
-fn show_updates() {
+fn show_counts_updated() {
+    let mut room = [0u8; 32];
+    show_update(b"update MF. F5F0 ", b"\xd4\xc6\x4b", b"\xf5\xf0", &mut room);
+    show_update(
+        b"update MF1. F5F0 ",
+        b"\xd4\xc6\xf1\x4b",
+        b"\xf5\xf0",
+        &mut room,
+    );
+    show_update(
+        b"update MF4. F1F0 ",
+        b"\xd4\xc6\xf4\x4b",
+        b"\xf1\xf0",
+        &mut room,
+    );
+    show_update(
+        b"update HB2. 05C1C2 ",
+        b"\xc8\xc2\xf2\x4b",
+        b"\x05\xc1\xc2",
+        &mut room,
+    );
+}
+
+fn show_values_updated() {
     let mut room = [0u8; 32];
     show_update(
         b"update AB. 00150C ",
@@ -91,7 +153,7 @@ fn show_updates() {
         &mut room,
     );
     show_update(
-        b"update MF2,MF1,MF. ",
+        b"update MF2,MF1,MF. F0F0F0F0F0F0 ",
         b"\xd4\xc6\xf2\x6b\xd4\xc6\xf1\x6b\xd4\xc6\x4b",
         b"\xf0\xf0\xf0\xf0\xf0\xf0",
         &mut room,
@@ -99,6 +161,9 @@ fn show_updates() {
 }
 
 fn main() {
-    show_reads();
-    show_updates();
+    show_values();
+    show_occurrences();
+    show_refused_reads();
+    show_counts_updated();
+    show_values_updated();
 }

@@ -9,16 +9,16 @@ use native.Mathlib.Omega.{arith}
 use borrow.Author.Tests.{ne-eqb, eqb-true}
 use lib.Dec.{T, eqb}
 use lib.ListN.{length, getD}
-use Rattle.rules.specs.Table.{Field, Part, differ, member}
+use Rattle.rules.specs.Table.{Field, Part, differ, member, part-named}
 use Rattle.rules.specs.Record.{Cell, Occurrence, Record, cell-of, values-at, group-count-at}
 use Rattle.rules.proofs.Steps.{by-test, not-some, eqb-same}
 use Rattle.rules.proofs.Back.{All, Beside, Sized, Cell-ok, Part-ok, Record-ok}
 use Rattle.rules.proofs.Places.{Avoids, from-avoids, from-differ}
 use Rattle.rules.proofs.Uses.{field-names}
-use Rattle.rules.proofs.Home.{part-named, home, named-here, named-skip}
+use Rattle.rules.proofs.Home.{home, named-here, named-skip}
 use Rattle.rules.proofs.Laid.{occurrences-at}
 use Rattle.rules.proofs.Names.{names-of, differ-left, differ-right, member-none, apart, home-there, part-names}
 use Rattle.rules.proofs.FieldHomes.{member-here, member-skip}
 
 pub list-ext : {X : Type 0} (xs ys : List X) (d : X) → length xs ≡ length ys → ((j : ℕ) → j < length xs → getD xs j d ≡ getD ys j d) → xs ≡ ys
 list-ext [] [] d e h = refl

@@ -1,0 +1,3 @@
+pub mod Stepping
+pub mod Replaying
+pub mod Telling
