@@ -26,7 +26,6 @@ struct Call {
 }
 
 /// What is lent to a call, and what the call is named. In `place` the record stands where it is updated.
-#[cfg_attr(not_yet, allow(dead_code))]
 struct Lent {
     row: String,
     table: Vec<u8>,
@@ -110,11 +109,8 @@ fn made(lent: &mut Lent) -> Vec<Call> {
     if let Some(buffer) = &lent.buffer {
         let parts = [&table, &stored, &format, &slice(buffer), &room];
         calls.push(call("lyrecanyon_update", exports::lyrecanyon_update as usize, &parts));
-        #[cfg(not(not_yet))]
         let place = vec![lent.place.as_mut_ptr() as usize, lent.place.len(), &mut lent.length as *mut usize as usize];
-        #[cfg(not(not_yet))]
         let parts = [&table, &place, &format, &slice(buffer)];
-        #[cfg(not(not_yet))]
         calls.push(call("lyrecanyon_apply", exports::lyrecanyon_apply as usize, &parts));
     } else {
         calls.push(call("lyrecanyon_read", exports::lyrecanyon_read as usize, &[&table, &stored, &format, &room]));
