@@ -1,4 +1,4 @@
-// A job record from nothing: the empty record of the specimen table, an update, a read of what was stored, and two refusals.
+// A job record from nothing: the empty record of the specimen table, updates, reads of what was stored, and two refusals.
 #include "lyrecanyon.h"
 #include <stdio.h>
 #include <string.h>
@@ -70,8 +70,8 @@ static void show_read(const uint8_t *record, size_t length, const char *text)
 
 int main(void)
 {
-    uint8_t empty[LYRECANYON_LONGEST_RECORD], job[LYRECANYON_LONGEST_RECORD], room[LYRECANYON_LONGEST_RECORD];
-    size_t empty_length, job_length, used;
+    uint8_t empty[LYRECANYON_LONGEST_RECORD], job[LYRECANYON_LONGEST_RECORD];
+    size_t empty_length, job_length;
     uint8_t number = lyrecanyon_empty(table, sizeof table, empty, sizeof empty, &empty_length);
     show("the empty record", number, empty, empty_length);
 
@@ -81,14 +81,16 @@ int main(void)
     number = lyrecanyon_update(table, sizeof table, empty, empty_length, format.bytes, format.length, values, sizeof values, job,
                                sizeof job, &job_length);
     show("the update", number, job, job_length);
-
     show_read(job, job_length, "AA,AB,5,U,MFC,MF1-3.");
     show_read(job, job_length, "AA,QQ.");
 
-    const uint8_t bad_value[] = {0x00, 0x1A, 0x5F};
+    // In place: 1,200 kilograms, and then a value with A for a digit, which leaves the record as it is.
+    const uint8_t weights[][3] = {{0x01, 0x20, 0x0F}, {0x00, 0x1A, 0x5F}};
     format = format_of("AB.");
-    number = lyrecanyon_update(table, sizeof table, job, job_length, format.bytes, format.length, bad_value, sizeof bad_value, room,
-                               sizeof room, &used);
-    show("the second update", number, room, used);
+    for (size_t i = 0; i < 2; i++) {
+        number = lyrecanyon_apply(table, sizeof table, job, sizeof job, &job_length, format.bytes, format.length, weights[i], 3);
+        show("the update in place", number, job, job_length);
+    }
+    show_read(job, job_length, "AB.");
     return 0;
 }

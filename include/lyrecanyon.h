@@ -15,11 +15,12 @@
 #include <stddef.h>
 #include <stdint.h>
 
-// The minor version rises with each function or number that is added. What is here stays as it is for as long as the major version does.
+// The minor version rises with each function or number that is added. A function keeps its parameters, and a number its meaning, for as long
+// as the major version stays.
 #define LYRECANYON_VERSION_MAJOR 1
 #define LYRECANYON_VERSION_MINOR 0
 
-// The longest that a record, and the answer of a read, can be: slices of these lengths have room for every one.
+// The longest that a record and the answer of a read can be: slices of these lengths have room for every one.
 #define LYRECANYON_LONGEST_RECORD 4096
 #define LYRECANYON_LONGEST_ANSWER 32767
 

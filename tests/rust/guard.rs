@@ -17,12 +17,26 @@ use exports::{lyrecanyon_apply, lyrecanyon_empty, lyrecanyon_read, lyrecanyon_up
 use lines::{Call, Service};
 use pages::{Area, Place};
 
+/// Calls with empty slices, each as far as it comes with one: on the table that has the field AB, packed, of three bytes.
+const EMPTY: [&str; 9] = [
+    "R - - - 0",
+    "U - - - - 0",
+    "E - 0",
+    "E e5c6e3000101c1c201d70300 0",
+    "R e5c6e3000101c1c201d70300 - c1c24b 3",
+    "R e5c6e3000101c1c201d70300 e5d9c3000100000f - 3",
+    "R e5c6e3000101c1c201d70300 e5d9c3000100000f c1c24b 0",
+    "U e5c6e3000101c1c201d70300 e5d9c3000100000f c1c24b - 4096",
+    "U e5c6e3000101c1c201d70300 e5d9c3000100000f c1c24b 00150f 0",
+];
+
 fn main() -> io::Result<()> {
     let count: usize = env::args().nth(1).and_then(|word| word.parse().ok()).expect("guard COUNT");
     pages::see_that_they_guard();
     let mut areas = Areas::new();
     let (mut calls, mut in_place, mut done) = (0, 0, 0);
-    for line in io::stdin().lock().lines() {
+    let empty = EMPTY.iter().map(|line| Ok(line.to_string()));
+    for line in empty.chain(io::stdin().lock().lines()) {
         let call = lines::call(&line?).unwrap();
         calls += 1;
         done += usize::from(areas.agree(&call, false).unwrap_or_else(|trouble| stop(calls, &trouble)));
@@ -31,7 +45,7 @@ fn main() -> io::Result<()> {
             in_place += 1;
         }
     }
-    if calls != count {
+    if calls != EMPTY.len() + count {
         stop(calls, "the last, and more were to come");
     }
     println!("{} calls, {} of them done, and {} updates in place", calls, done, in_place);

@@ -4,7 +4,7 @@
 mod lines;
 
 use lines::{Call, Service};
-use lyrecanyon::{empty, empty_vec, read, read_vec, update, update_vec, Refusal};
+use lyrecanyon::{apply, empty, empty_vec, read, read_vec, update, update_vec, Refusal, LONGEST_RECORD};
 use std::fs;
 use std::thread;
 
@@ -82,6 +82,21 @@ fn vectors_have_room_for_every_answer() {
     let specimen = vectors("specimen").into_iter().filter(|(_, expected)| !refused_for_room(expected));
     for (call, expected) in specimen {
         assert_eq!(line(answer_vec(&call).as_deref().map_err(|&refusal| refusal)), expected);
+    }
+}
+
+#[test]
+fn in_place() {
+    let updates = vectors("base").into_iter().map(|(call, _)| call).filter(|call| call.service == Service::Update);
+    for Call { table, stored, format, buffer, .. } in updates {
+        let mut place = stored.clone();
+        place.resize(LONGEST_RECORD.max(stored.len()), 0x5A);
+        let (before, mut used) = (place.clone(), stored.len());
+        let answer = apply(&table, &mut place, &mut used, &format, &buffer);
+        match update_vec(&table, &stored, &format, &buffer) {
+            Ok(new) => assert_eq!((answer, &place[..used], &place[used..]), (Ok(()), &new[..], &before[used..])),
+            Err(refusal) => assert_eq!((answer, place, used), (Err(refusal), before, stored.len())),
+        }
     }
 }
 
