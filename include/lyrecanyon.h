@@ -1,11 +1,12 @@
 // Lyrecanyon: stored records, read and updated by format buffers. C99 and later, and C++. Link with liblyrecanyon.a (x86-64).
+// What tables, records and formats are, and when each number is returned, are the rules of document 01, in crates/rules/specs.
 //
 // Every call takes all inputs, ends, and does nothing undefined: no byte of a lent slice has to be checked before. Each returns a number:
 // LYRECANYON_DONE, or the number of a refusal. A refusal changes no byte of the slices; done writes as many bytes as the length used says,
 // from the start of the slice, and none after.
 //
-// A slice is a pointer and the number of bytes behind it. Where the number is 0 the pointer may be null. `used` is never null. Slices that
-// are only read may overlap each other in any way; the slice that is written and `used` overlap nothing else that is lent.
+// A slice is a pointer to its first byte and the number of its bytes. Where the number is 0 the pointer may be null; `used` is never null.
+// Slices that are only read may overlap each other in any way. The slice that is written and `used` overlap nothing else that is lent.
 //
 // The library has no state, calls nothing but memcpy and memset, and takes no memory but the stack. Any number of threads may call it at
 // once, each with its own slices to write.
