@@ -1,12 +1,12 @@
 -- A journal is replayed entry by entry: the history so far, and the entries that are left, are the history that the journal keeps.
 use mathlib.Core.Path.{_≡_, refl, sym, _∙_, ap, subst}
-use mathlib.Core.Bool.{Bool, true, false, _&&_}
-use mathlib.Core.List.{List, [], _∷_}
+use mathlib.Core.Bool.{true, false}
+use mathlib.Core.List.{[], _∷_}
 use Prim.Native.Nat.{ℕ, zero, suc, _+_, _≤_, _<_}
 use native.Mathlib.Omega.{arith}
 use borrow.Author.Tests.{le-leb, lt-leb}
 use lib.Dec.{leb, leb→le}
-use lib.ListN.{length, take, getD}
+use lib.ListN.{length, take}
 use Rattle.rules.specs.Outcome.{done, refused}
 use Rattle.rules.specs.Limits.{longest-new-record}
 use Rattle.rules.specs.Lists.{Bytes}
@@ -14,7 +14,7 @@ use Rattle.rules.specs.Numbers.{refusal-number}
 use Rattle.rules.specs.Services.{read, empty}
 use Rattle.rules.specs.declared.Refusal.{Refusal}
 use Rattle.rules.proofs.Numbered.{empty-numbered}
-use Rattle.rules.proofs.Steps.{by-test, true-T, and-left, and-right}
+use Rattle.rules.proofs.Steps.{by-test, true-T, and-right}
 use Rattle.histories.specs.History.{History, answer, left-by, record-after}
 use Rattle.lyrecanyon.specs.Answers.{Settled}
 use Rattle.lyrecanyon.specs.Making.{Makes}

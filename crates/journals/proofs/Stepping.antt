@@ -1,9 +1,9 @@
 -- The contract of an update in place is the step of a history, so calls by the compiled service leave `record-after`.
-use mathlib.Core.Path.{_≡_, refl, sym, _∙_, ap}
-use mathlib.Core.List.{[], _∷_, _++_}
+use mathlib.Core.Path.{_≡_, sym, _∙_, ap}
+use mathlib.Core.List.{[], _∷_}
 use Prim.Native.Nat.{ℕ, _+_, _≤_}
 use native.Mathlib.Omega.{arith}
-use lib.ListN.{length, take, drop, length-append}
+use lib.ListN.{length, take, drop}
 use Rattle.rules.specs.Outcome.{Outcome, done, refused}
 use Rattle.rules.specs.Limits.{longest-new-record}
 use Rattle.rules.specs.Lists.{Bytes, bytes-of}
@@ -12,7 +12,7 @@ use Rattle.rules.specs.declared.Refusal.{Refusal}
 use Rattle.rules.proofs.Numbered.{update-numbered}
 use Rattle.buffer.specs.Splice.{splice}
 use Rattle.buffer.proofs.Laws.{take-splice}
-use Rattle.histories.specs.History.{Call, History, answer, left-by, record-after}
+use Rattle.histories.specs.History.{History, answer, left-by, record-after}
 use Rattle.lyrecanyon.specs.Answers.{Settled, Applied}
 use Rattle.lyrecanyon.specs.declared.Answer.the-variants.{Done, Refused}
 use Rattle.lyrecanyon.proofs.Settling.{done-back, refused-back}

@@ -1,5 +1,5 @@
 -- `journals::entry_end` meets its contract: an entry is cut short in its lengths, or in its bytes, or it is whole.
-use mathlib.Core.Path.{sym, _∙_, ap}
+use mathlib.Core.Path.{sym}
 use native.Mathlib.Omega.{arith}
 use Rattle.journals.proofs.Replaying.{cut-end, short-head, short-entry, is-whole, end-at}
 use borrow.Author.Needs.{needs}

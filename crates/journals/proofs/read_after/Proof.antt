@@ -1,6 +1,5 @@
 -- `journals::read_after` meets its contract: the record after the journal is read as any record is.
 use mathlib.Core.Path.{sym, subst}
-use lib.ListN.{length, take}
 use lib.Seq.{length-take-le}
 use Rattle.lyrecanyon.specs.Making.{Makes}
 use Rattle.lyrecanyon.specs.declared.Answer.the-variants.{Done}
