@@ -9,7 +9,11 @@ use std::process::exit;
 mod lines;
 mod service;
 
-use lines::bytes;
+use lines::{bytes, number};
+
+const MOST_RECORD: usize = 4096;
+
+type Answer = Result<(u8, Vec<u8>), &'static str>;
 
 fn main() -> io::Result<()> {
     let mut out = BufWriter::new(io::stdout());
@@ -28,28 +32,53 @@ fn main() -> io::Result<()> {
 }
 
 /// The number and the bytes written.
-fn answer(line: &str) -> Result<(u8, Vec<u8>), &'static str> {
+fn answer(line: &str) -> Answer {
     let words: Vec<&str> = line.split_whitespace().collect();
     match words[..] {
         ["R", table, record, format, length] => {
             let (table, record, format) = (bytes(table)?, bytes(record)?, bytes(format)?);
-            lend(length, |buffer| service::read(&table, &record, &format, buffer))
+            lend(number(length)?, |buffer| service::read(&table, &record, &format, buffer))
         }
         ["U", table, record, format, buffer, length] => {
             let (table, record, format, buffer) = (bytes(table)?, bytes(record)?, bytes(format)?, bytes(buffer)?);
-            lend(length, |room| service::update(&table, &record, &format, &buffer, room))
+            lend(number(length)?, |room| service::update(&table, &record, &format, &buffer, room))
         }
         ["E", table, length] => {
             let table = bytes(table)?;
-            lend(length, |room| service::empty(&table, room))
+            lend(number(length)?, |room| service::empty(&table, room))
+        }
+        ["H", table, journal, format, length] => {
+            let (table, journal, format) = (bytes(table)?, bytes(journal)?, bytes(format)?);
+            match carry_out(&table, &journal)? {
+                (0, record) => lend(number(length)?, |buffer| service::read(&table, &record, &format, buffer)),
+                refusal => Ok(refusal),
+            }
         }
         _ => Err("not a call"),
     }
 }
 
+/// The record after the updates of a journal, or the refusal of the empty record that they start from.
+fn carry_out(table: &[u8], mut journal: &[u8]) -> Answer {
+    let (number, mut record) = lend(MOST_RECORD, |room| service::empty(table, room))?;
+    while let (0, Some((format, buffer, rest))) = (number, entry(journal)) {
+        if let (0, new) = lend(MOST_RECORD, |room| service::update(table, &record, format, buffer, room))? {
+            record = new;
+        }
+        journal = rest;
+    }
+    Ok((number, record))
+}
+
+/// The format and record buffer of a journal's first update, and the rest of it; none if it is cut short.
+fn entry(journal: &[u8]) -> Option<(&[u8], &[u8], &[u8])> {
+    let length = |at: usize| Some(usize::from(*journal.get(at)?) << 8 | usize::from(*journal.get(at + 1)?));
+    let (middle, end) = (4 + length(0)?, 4 + length(0)? + length(2)?);
+    Some((journal.get(4..middle)?, journal.get(middle..end)?, journal.get(end..)?))
+}
+
 /// Lends a slice of that length to a service and looks at all of it afterwards.
-fn lend(length: &str, service: impl FnOnce(&mut [u8]) -> (u8, usize)) -> Result<(u8, Vec<u8>), &'static str> {
-    let length = length.parse::<usize>().map_err(|_| "not a length")?;
+fn lend(length: usize, service: impl FnOnce(&mut [u8]) -> (u8, usize)) -> Answer {
     let before: Vec<u8> = (0..length).map(|i| (i * 167 + 91) as u8).collect();
     let mut lent = before.clone();
     let (number, written) = service(&mut lent);

@@ -1,9 +1,11 @@
-//! Writes random calls: `generate SEED COUNT calls`, or chains of updates: `generate SEED COUNT chains`.
+//! Writes random calls: `generate SEED COUNT calls`, or chains of updates: `generate SEED COUNT chains`, or histories:
+//! `generate SEED COUNT histories`.
 //!
 //! Calls come in stories. A story has one table and one record; what an accepted update gives is mostly the record of the
 //! next call. Most calls are good ones, each of the others is made to be refused by one number, and some meet another
 //! first. A chain is a story of 8 to 20 updates and nothing else: what an accepted one gives is always the record of the
-//! next, and a refused one leaves the record as it is.
+//! next, and a refused one leaves the record as it is. A history is a chain that starts from the empty record, asked for
+//! by its first call; its table and record are good ones, and each call has room for every record.
 
 use std::env;
 use std::io::{self, BufWriter, Write};
@@ -14,6 +16,8 @@ mod service;
 const MOST_RECORD: usize = 4096;
 const MOST_FORMAT: usize = 2048;
 const HIGHEST_INDEX: usize = 191;
+/// How long the journal of a history may be: a line with it is shorter than the longest that is taken as a call.
+const MOST_JOURNAL: usize = 75_000;
 const SPACE: u8 = 0x40;
 const PERIOD: u8 = 0x4B;
 const APOSTROPHE: u8 = 0x7D;
@@ -33,13 +37,14 @@ fn main() -> io::Result<()> {
     match kind {
         "calls" => write_calls(&mut random, count, &mut out)?,
         "chains" => write_chains(&mut random, count, &mut out)?,
+        "histories" => write_histories(&mut random, count, &mut out)?,
         _ => usage(),
     }
     out.flush()
 }
 
 fn usage() -> ! {
-    eprintln!("generate SEED COUNT calls|chains");
+    eprintln!("generate SEED COUNT calls|chains|histories");
     exit(2);
 }
 
@@ -63,6 +68,18 @@ fn write_chains(random: &mut Random, count: u64, out: &mut impl Write) -> io::Re
         let mut story = Story::new(random);
         for _ in 0..random.between(8, 20) {
             story.write_update(random, 100, out)?;
+        }
+    }
+    Ok(())
+}
+
+fn write_histories(random: &mut Random, count: u64, out: &mut impl Write) -> io::Result<()> {
+    for _ in 0..count {
+        let mut story = Story::start(random);
+        writeln!(out, "E {} {}", hexadecimal(&table_bytes(&story.table)), MOST_RECORD)?;
+        let mut journal = 0;
+        for left in (1..=random.between(8, 20)).rev() {
+            journal += story.write_next(random, (MOST_JOURNAL - journal) / left, out)?;
         }
     }
     Ok(())
@@ -120,6 +137,7 @@ enum Plan {
     Bad,
     Misfit,
     Room,
+    Bare,
 }
 
 fn plan(random: &mut Random, plans: &[(usize, Plan)]) -> Plan {
@@ -284,6 +302,22 @@ fn make_table(random: &mut Random) -> Vec<Entry> {
     }
     close_groups(&mut table);
     table
+}
+
+/// A table whose empty record fits: mostly one with counts, and with more variable-length fields than other tables.
+fn history_table(random: &mut Random) -> Vec<Entry> {
+    loop {
+        let mut table = make_table(random);
+        for entry in table.iter_mut().filter(|entry| entry.format == b'A') {
+            if random.chance(25) {
+                entry.length = 0;
+            }
+        }
+        let counts = table.iter().any(|entry| entry.is_multiple() || entry.is_periodic());
+        if (counts || random.chance(10)) && !empty_record(&table).is_empty() {
+            return table;
+        }
+    }
 }
 
 fn close_groups(table: &mut [Entry]) {
@@ -484,6 +518,11 @@ fn make_record(random: &mut Random, table: &[Entry]) -> Vec<u8> {
             return bytes;
         }
     }
+    empty_record(table)
+}
+
+/// The empty record of a table; no bytes if it is too long.
+fn empty_record(table: &[Entry]) -> Vec<u8> {
     let mut room = vec![0; MOST_RECORD];
     let (_, length) = service::empty(&table_bytes(table), &mut room);
     room.truncate(length);
@@ -553,11 +592,12 @@ impl Named {
     }
 }
 
-/// The elements of one format as they are made.
+/// The elements of one format as they are made; so many percent of the MU fields outside get an index.
 struct Maker<'a> {
     table: &'a [Entry],
     plan: Plan,
     update: bool,
+    indexed: usize,
     last: Vec<usize>,
     elements: Vec<Element>,
 }
@@ -570,7 +610,8 @@ impl Maker<'_> {
             2..=9 => random.between(5, 12),
             _ => random.between(1, 4),
         };
-        let mut maker = Maker { table, plan, update, last: vec![0; table.len()], elements: Vec::new() };
+        let last = vec![0; table.len()];
+        let mut maker = Maker { table, plan, update, indexed: 40, last, elements: Vec::new() };
         let odd = random.below(count.min(4));
         for i in 0..count {
             match plan {
@@ -578,6 +619,7 @@ impl Maker<'_> {
                 Plan::Name if i == odd => maker.unknown(random),
                 Plan::Syntax if i == odd && random.chance(70) => maker.misspell(random),
                 Plan::Twice if i > 0 && random.chance(60) => maker.again(random),
+                Plan::Bare if i == 0 => maker.add_bare(random),
                 _ => maker.add(random),
             }
         }
@@ -659,7 +701,7 @@ impl Maker<'_> {
             }
         } else if entry.is_multiple() {
             values = (self.last[i] + 1, self.last[i] + 1);
-            if values.0 > HIGHEST_INDEX || random.chance(40) {
+            if values.0 > HIGHEST_INDEX || random.chance(self.indexed) {
                 values = range(random, self.plan);
                 written += &spell_range(random, values);
             }
@@ -672,6 +714,21 @@ impl Maker<'_> {
         if self.name(&written, named) {
             self.last[i] = values.1;
         }
+    }
+
+    /// Names an MU field outside periodic groups by its bare name, up to five times, if there is one.
+    fn add_bare(&mut self, random: &mut Random) {
+        let outside = |&i: &usize| self.table[i].is_multiple() && self.table[i].periodic.is_none();
+        let fields: Vec<usize> = (0..self.table.len()).filter(outside).collect();
+        if fields.is_empty() {
+            return self.add(random);
+        }
+        let i = random.pick(&fields);
+        self.indexed = 0;
+        for _ in 0..random.between(1, 5) {
+            self.add_values(random, i);
+        }
+        self.indexed = 40;
     }
 
     /// Adds an element, unless an update would name an occurrence twice by it.
@@ -852,13 +909,18 @@ impl Story {
         let table = make_table(random);
         let mut record = make_record(random, &table);
         if random.chance(25) {
-            record = vec![0; MOST_RECORD];
-            let (_, length) = service::empty(&table_bytes(&table), &mut record);
-            record.truncate(length);
+            record = empty_record(&table);
         }
         if record.is_empty() && random.chance(90) {
             return Story::new(random);
         }
+        Story { table, record }
+    }
+
+    /// The start of a history.
+    fn start(random: &mut Random) -> Story {
+        let table = history_table(random);
+        let record = empty_record(&table);
         Story { table, record }
     }
 
@@ -920,17 +982,47 @@ impl Story {
             (10, Plan::Room),
         ];
         let plan = plan(random, &PLANS);
+        let update = self.make_update(random, plan);
+        let (number, new) = update.carry_out();
+        let room = choose_length(random, new.len(), plan == Plan::Room);
+        if number == 0 && new.len() <= room && random.chance(percent) {
+            self.record = new;
+        }
+        update.write(room, out)
+    }
+
+    /// The next update of a history, which may take so many bytes of its journal; what it takes of them.
+    fn write_next(&mut self, random: &mut Random, most: usize, out: &mut impl Write) -> io::Result<usize> {
+        const PLANS: [(usize, Plan); 9] = [
+            (4, Plan::Syntax),
+            (3, Plan::Name),
+            (4, Plan::Use),
+            (5, Plan::Twice),
+            (4, Plan::Short),
+            (6, Plan::Bad),
+            (5, Plan::Misfit),
+            (4, Plan::Room),
+            (25, Plan::Bare),
+        ];
+        let plan = plan(random, &PLANS);
+        let update = self.make_update(random, plan);
+        let length = 4 + update.format.len() + update.buffer.len();
+        if length > most {
+            return self.write_next(random, most, out);
+        }
+        let (number, new) = update.carry_out();
+        if number == 0 {
+            self.record = new;
+        }
+        update.write(MOST_RECORD, out)?;
+        Ok(length)
+    }
+
+    fn make_update(&self, random: &mut Random, plan: Plan) -> Update {
         let elements = Maker::make(random, &self.table, plan, true);
         let (table, record, format) = self.lend(random, plan, &elements);
         let buffer = self.make_buffer(random, plan, &elements);
-        let mut new = vec![0; MOST_RECORD];
-        let (number, length) = service::update(&table, &record, &format, &buffer, &mut new);
-        let room = choose_length(random, length, plan == Plan::Room);
-        if number == 0 && length <= room && random.chance(percent) {
-            self.record = new[..length].to_vec();
-        }
-        let (table, record, format) = (hexadecimal(&table), hexadecimal(&record), hexadecimal(&format));
-        writeln!(out, "U {} {} {} {} {}", table, record, format, hexadecimal(&buffer), room)
+        Update { table, record, format, buffer }
     }
 
     fn make_buffer(&self, random: &mut Random, plan: Plan, elements: &[Element]) -> Vec<u8> {
@@ -967,6 +1059,29 @@ impl Story {
                 }
             }
         }
+    }
+}
+
+struct Update {
+    table: Vec<u8>,
+    record: Vec<u8>,
+    format: Vec<u8>,
+    buffer: Vec<u8>,
+}
+
+impl Update {
+    /// The number and the new record.
+    fn carry_out(&self) -> (u8, Vec<u8>) {
+        let mut new = vec![0; MOST_RECORD];
+        let (number, length) = service::update(&self.table, &self.record, &self.format, &self.buffer, &mut new);
+        new.truncate(length);
+        (number, new)
+    }
+
+    fn write(&self, room: usize, out: &mut impl Write) -> io::Result<()> {
+        let (table, record) = (hexadecimal(&self.table), hexadecimal(&self.record));
+        let (format, buffer) = (hexadecimal(&self.format), hexadecimal(&self.buffer));
+        writeln!(out, "U {} {} {} {} {}", table, record, format, buffer, room)
     }
 }
 

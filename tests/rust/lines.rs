@@ -32,8 +32,12 @@ pub fn call(line: &str) -> Result<Call, &'static str> {
         stored: bytes(stored)?,
         format: bytes(format)?,
         buffer: bytes(buffer)?,
-        lent: lent.parse().map_err(|_| "not a length")?,
+        lent: number(lent)?,
     })
+}
+
+pub fn number(word: &str) -> Result<usize, &'static str> {
+    word.parse().map_err(|_| "not a length")
 }
 
 pub fn bytes(word: &str) -> Result<Vec<u8>, &'static str> {

@@ -1,17 +1,16 @@
 -- What `read_after` gives is told by the journal alone: every read after a history is the one that the history tells, and a journal of bytes
 -- keeps record buffers of bytes.
-use mathlib.Core.Path.{_≡_, refl, sym, _∙_, ap, subst}
-use mathlib.Core.Bool.{true, false}
+use mathlib.Core.Path.{_≡_, sym, _∙_, subst}
 use mathlib.Core.List.{List, [], _∷_}
 use Prim.Native.Nat.{ℕ, zero, suc, _+_, _<_}
 use native.Mathlib.Omega.{arith}
 use lib.ListN.{length, take, drop, getD}
 use lib.Seq.{getD-drop}
-use Rattle.rules.specs.Outcome.{Outcome, done, refused, _>>=_}
+use Rattle.rules.specs.Outcome.{done, _>>=_}
 use Rattle.rules.specs.Limits.{longest-new-record}
 use Rattle.rules.specs.Lists.{Bytes}
 use Rattle.rules.specs.Table.{table}
-use Rattle.rules.specs.Services.{read, empty}
+use Rattle.rules.specs.Services.{empty}
 use Rattle.rules.proofs.Steps.{by-outcome, by-test, not-done}
 use Rattle.histories.specs.History.{History, Byte-buffers, accepted}
 use Rattle.histories.specs.Told.{told}

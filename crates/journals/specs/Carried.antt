@@ -4,7 +4,7 @@ use mathlib.Core.List.{[], _∷_}
 use Prim.Native.Nat.{ℕ}
 use lib.ListN.{length, take}
 use Rattle.rules.specs.Lists.{Bytes}
-use Rattle.histories.specs.History.{Call, History, answer}
+use Rattle.histories.specs.History.{History, answer}
 use Rattle.lyrecanyon.specs.Answers.{Applied}
 
 -- From a slice with a record of some length at its front to another. A call's room is the slice.

@@ -1,7 +1,7 @@
 -- A journal keeps the updates of a record, one entry after the other, the first update first. An entry has two lengths of two bytes each, the
 -- high byte first, of the update's format and of its record buffer, and then the bytes of both.
 use mathlib.Core.Bool.{Bool, true, false, _&&_}
-use mathlib.Core.List.{List, [], _∷_}
+use mathlib.Core.List.{[], _∷_}
 use Prim.Native.Nat.{ℕ, zero, suc, _+_, _*_}
 use lib.Dec.{leb}
 use lib.ListN.{length, take, drop, getD}

@@ -2,7 +2,7 @@
 use lyrecanyon::Answer;
 ghost use mathlib.Core.Path.{_≡_};
 ghost use mathlib.Core.Bool.{true};
-ghost use Prim.Native.Nat.{_+_, _≤_};
+ghost use Prim.Native.Nat.{_+_, _≤_, _<_};
 ghost use lib.ListN.{length, take};
 ghost use Rattle.rules.specs.Limits.{longest-new-record};
 ghost use Rattle.lyrecanyon.specs.Answers.{Settled};
@@ -15,7 +15,7 @@ const HEAD: usize = 4;
 
 fn length_at(journal: &[u8], at: usize) -> usize
     requires { ⌜ at + 2 ≤ length (now journal) ⌝ }
-    ensures { λ r. ⌜ r ≡ length-at (now (journal .entry)) at ⌝ }
+    ensures { λ r. ⌜ (r ≡ length-at (now (journal .entry)) at) × (r < 65536) ⌝ }
 {
     journal[at] as usize * 256 + journal[at + 1] as usize
 }

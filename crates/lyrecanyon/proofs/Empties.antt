@@ -1,21 +1,20 @@
 -- The empty record of a valid table is its head and what its entries add; it is refused where it is over 4,096 bytes or over the room.
 use mathlib.Core.Path.{_≡_, refl, sym, _∙_, ap}
-use mathlib.Core.Bool.{true, false}
-use mathlib.Core.List.{List, [], _∷_, _++_}
+use mathlib.Core.Bool.{false}
+use mathlib.Core.List.{_++_}
 use Prim.Native.Nat.{ℕ, _+_, _≤_, _<_, min}
 use native.Mathlib.Omega.{arith}
-use borrow.Author.Tests.{le-leb, lt-leb, leb-true}
-use lib.Dec.{leb}
-use lib.ListN.{length, length-append}
-use Rattle.rules.specs.Outcome.{Outcome, done, refused, is-done}
+use borrow.Author.Tests.{le-leb, lt-leb}
+use lib.ListN.{length}
+use Rattle.rules.specs.Outcome.{done, refused, is-done}
 use Rattle.rules.specs.Limits.{longest-new-record}
-use Rattle.rules.specs.Lists.{Bytes, bytes-of}
+use Rattle.rules.specs.Lists.{Bytes}
 use Rattle.rules.specs.Table.{table, parts}
-use Rattle.rules.specs.Record.{record-head, record-bytes, empty-record}
+use Rattle.rules.specs.Record.{record-head, record-bytes}
 use Rattle.rules.specs.Services.{empty, fitting}
 use Rattle.rules.proofs.Refusals.{no-table}
-use Rattle.rules.proofs.Steps.{by-outcome, by-test, not-both}
-use Rattle.tables.specs.Entries.{Valid, entries-of, listed}
+use Rattle.rules.proofs.Steps.{by-outcome, not-both}
+use Rattle.tables.specs.Entries.{Valid, entries-of}
 use Rattle.records.specs.Empty.{empty-from}
 use Rattle.records.proofs.EmptyBody.{empty-body-from}
 
@@ -48,16 +47,3 @@ empty-cramped t room v h = valid-empty t room v ∙ rw (lt-leb (length (empty-by
 pub empty-done : (t : Bytes) (room : ℕ) → Valid t → length (empty-bytes t) ≤ longest-new-record → length (empty-bytes t) ≤ room → empty t room ≡ done (empty-bytes t)
 unfolding fitting
 empty-done t room v h k = valid-empty t room v ∙ rw (le-leb (length (empty-bytes t)) (min room longest-new-record) (omega arith)) refl
-
--- What is written lies in the room.
-fitting-within : (room : ℕ) (b : Bytes) → length (bytes-of (fitting room b)) ≤ room
-unfolding fitting bytes-of
-fitting-within room b = by-test (leb (length b) (min room longest-new-record))
-    (λ e. rw e (omega (arith, leb-true (length b) (min room longest-new-record) e)))
-    (λ e. rw e (omega arith))
-
-pub empty-within : (t : Bytes) (room : ℕ) → length (bytes-of (empty t room)) ≤ room
-unfolding empty bytes-of
-empty-within t room = by-outcome (table t)
-    (λ es e. rw e (fitting-within room (record-bytes (parts es) (empty-record (parts es)))))
-    (λ n e. rw e (omega arith))

@@ -1,10 +1,9 @@
 -- A new record is made as the rules say: what is put into the array is the record by entries, a full stage is refusal 10, and what the format
 -- names comes before what the record buffer gives.
 use mathlib.Core.Path.{_≡_, refl, sym, _∙_, ap, subst}
-use mathlib.Core.Bool.{Bool, true, false, not}
+use mathlib.Core.Bool.{true, false, not}
 use mathlib.Core.List.{List, [], _++_}
 use Prim.Native.Nat.{ℕ, zero, suc, _+_, _-_, _≤_, _<_, min}
-use native.Mathlib.Nat.{sub-zero, zero-add}
 use native.Mathlib.Omega.{arith}
 use borrow.Author.Tests.{leb-false, lt-leb}
 use lib.Dec.{leb, leb→le}
@@ -20,7 +19,7 @@ use Rattle.rules.specs.Table.{Entry, table, parts}
 use Rattle.rules.specs.Record.{Record, record-head, record-bytes, group-count-at}
 use Rattle.rules.specs.Format.{Element, elements}
 use Rattle.rules.specs.Use.{Use, uses, items}
-use Rattle.rules.specs.Update.{Assignment, named-twice, assignments, after-update, update-plan}
+use Rattle.rules.specs.Update.{Assignment, named-twice, assignments, after-update}
 use Rattle.rules.specs.Services.{assignments-of, fitting}
 use Rattle.rules.proofs.Steps.{from-bind, from-need, by-outcome, by-test, done-inj, not-done, not-both}
 use Rattle.rules.proofs.Assigned.{bare-numbers}

@@ -1,5 +1,5 @@
 -- Read is refused by its table and its record in this order, and else it is the items of its format in the buffer, within 32,767 bytes. What is made in less room is made in more, and is refused so too, unless for want of room.
-use mathlib.Core.Path.{_≡_, refl, sym, _∙_, ap, subst}
+use mathlib.Core.Path.{_≡_, refl, sym, _∙_, ap}
 use mathlib.Core.Bool.{Bool, true, false}
 use mathlib.Core.List.{List, [], _∷_}
 use Prim.Native.Nat.{ℕ, _≤_, min}
@@ -14,13 +14,13 @@ use Rattle.rules.specs.Lists.{Bytes, bytes-of}
 use Rattle.rules.specs.Table.{Entry, table, parts}
 use Rattle.rules.specs.Record.{Record, stored}
 use Rattle.rules.specs.Format.{elements}
-use Rattle.rules.specs.Use.{uses, items}
+use Rattle.rules.specs.Use.{items}
 use Rattle.rules.specs.Services.{filled, read}
 use Rattle.rules.specs.Numbers.{refusal-number}
 use Rattle.rules.specs.declared.Refusal.{Refusal}
 use Rattle.rules.specs.declared.Refusal.the-variants.{BadTable, BadRecord, BadSyntax, UnknownName, UseRule, NamedTwice, BeyondBuffer, BadValue, OutOfRange, NoRoom}
 use Rattle.rules.proofs.Refusals.{no-table, no-record}
-use Rattle.rules.proofs.Steps.{by-outcome, by-test, not-both, done-inj, refused-inj, not-done}
+use Rattle.rules.proofs.Steps.{by-outcome, not-both, done-inj, refused-inj, not-done}
 use Rattle.buffer.specs.Splice.{splice}
 use Rattle.buffer.proofs.Laws.{take-splice}
 use Rattle.tables.specs.Entries.{Valid, entries-of}
@@ -162,18 +162,3 @@ module _ {t b : Bytes} {places : List ℕ} {f out : Bytes} {end : ℕ} (s : Read
   long-read g e k =
       let o = bytes-made end g e in
       made-read end g e (omega arith) (written end k (o .0) (o .1) ∙ ap (splice 0 (o .0)) (unwritten end g))
-
--- What is written lies in the buffer.
-filled-within : (t b f : Bytes) (room : ℕ) → Valid t → length (bytes-of (read t b f room)) ≤ room
-unfolding bytes-of
-filled-within t b f room v = by-outcome (stored (parts (entries-of t)) b)
-    (λ r h. by-outcome (made (entries-of t) f (min room longest-items) r)
-    (λ bs e. rw (read-stored t b f room v, h, e) (omega (arith, made-length (entries-of t) f r (min room longest-items) bs e)))
-    (λ n e. rw (read-stored t b f room v, h, e) (omega arith)))
-    (λ n h. rw (read-stored t b f room v, h) (omega arith))
-
-pub read-within : (t b f : Bytes) (room : ℕ) → length (bytes-of (read t b f room)) ≤ room
-unfolding bytes-of
-read-within t b f room = by-test (is-done (table t))
-    (λ v. filled-within t b f room v)
-    (λ e. rw (read-no-table t b f room e) (omega arith))

@@ -1,7 +1,6 @@
 -- An answer is settled by an outcome: a refusal leaves the slice as it was, and what is done stands at its front. And back: an answer tells the
 -- outcome, because no refusal has the number 0.
 use mathlib.Core.Path.{_≡_, refl, sym, _∙_, ap}
-use mathlib.Core.List.{List, [], _∷_, _++_}
 use Prim.Native.Nat.{ℕ, _≤_}
 use native.Mathlib.Omega.{arith}
 use lib.ListN.{length, take, drop, length-append}
@@ -13,7 +12,8 @@ use Rattle.buffer.specs.Splice.{splice}
 use Rattle.buffer.proofs.Laws.{take-splice}
 use Rattle.rules.specs.Numbers.{refusal-number}
 use Rattle.rules.specs.declared.Refusal.{Refusal}
-use Rattle.lyrecanyon.specs.Answers.{Settled, Applied}
+use Rattle.lyrecanyon.specs.Answers.{answer-length, Settled, Applied}
+use Rattle.lyrecanyon.specs.declared.Answer.{Answer}
 use Rattle.lyrecanyon.specs.declared.Answer.the-variants.{Done, Refused}
 
 pub settled-refused : (o : Outcome Bytes) (entry : Bytes) (x : Refusal) → o ≡ refused (refusal-number x) → Settled o entry entry (Refused x)
@@ -44,3 +44,7 @@ applied-done (refused m) k entry exit used n s = absurd (let h = not-zero m k in
 pub applied-refused : (o : Outcome Bytes) (entry exit : Bytes) (used : ℕ) (x : Refusal) → Settled o entry exit (Refused x) → Applied o entry exit used used (refusal-number x)
 applied-refused (done b) entry exit used x s = absurd (let h = not-zero (refusal-number x) (x, refl) in omega (arith, h, s .number-is))
 applied-refused (refused m) entry exit used x s = record { number-is = s .number-is; used-is = refl; bytes-are = s .bytes-are }
+
+-- What is written lies in the slice, which is as long as before.
+pub settled-within : (o : Outcome Bytes) (entry exit : Bytes) (r : Answer) → Settled o entry exit r → length exit ≡ length entry → answer-length r ≤ length entry
+settled-within o entry exit r s e = omega (arith, e, s .size-is, ap length (s .bytes-are), length-append (bytes-of o) (drop (length (bytes-of o)) entry))

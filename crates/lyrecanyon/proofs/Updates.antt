@@ -1,9 +1,8 @@
 -- Update is refused by its table and its record in this order, and else it is the new record by what is assigned: first within its own limit,
 -- and then within the room that is lent.
-use mathlib.Core.Path.{_≡_, refl, sym, _∙_, ap}
+use mathlib.Core.Path.{_≡_, refl, sym, _∙_}
 use mathlib.Core.Bool.{false}
 use Prim.Native.Nat.{ℕ, _≤_, _<_}
-use mathlib.Core.List.{List}
 use native.Mathlib.Omega.{arith}
 use borrow.Author.Tests.{leb-false, le-leb, lt-leb}
 use lib.Dec.{leb, leb→le}
@@ -11,10 +10,10 @@ use lib.ListN.{length, take}
 use lib.Seq.{length-take-le}
 use Rattle.rules.specs.Outcome.{Outcome, done, refused, _>>=_, is-done}
 use Rattle.rules.specs.Limits.{longest-new-record}
-use Rattle.rules.specs.Lists.{Bytes, bytes-of}
+use Rattle.rules.specs.Lists.{Bytes}
 use Rattle.rules.specs.Table.{table, parts}
 use Rattle.rules.specs.Record.{Record, stored, record-bytes}
-use Rattle.rules.specs.Update.{Assignment, after-update}
+use Rattle.rules.specs.Update.{after-update}
 use Rattle.rules.specs.Services.{assignments-of, fitting, update}
 use Rattle.rules.proofs.Refusals.{no-table, no-record}
 use Rattle.rules.proofs.Steps.{by-outcome, by-test, true-T}

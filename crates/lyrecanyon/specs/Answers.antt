@@ -1,6 +1,6 @@
 -- What an answer says, by document 01, "Numbers returned", and what a service leaves in the slice that was lent to it.
 use mathlib.Core.Path.{_≡_}
-use mathlib.Core.List.{List, _++_}
+use mathlib.Core.List.{_++_}
 use Prim.Native.Nat.{ℕ}
 use lib.ListN.{length, drop}
 use Rattle.rules.specs.Outcome.{Outcome, done, refused}

@@ -1,24 +1,24 @@
 -- A service is refused only with the number of a refusal of document 01, so the number 0 means done and nothing else: every test refuses with
 -- such a number, and a `do` block keeps to the numbers of its steps.
-use mathlib.Core.Path.{_≡_, refl, sym, _∙_}
+use mathlib.Core.Path.{_≡_, refl}
 use mathlib.Core.Bool.{Bool, true, false, not, _&&_}
-use mathlib.Core.List.{List, [], _∷_, map}
+use mathlib.Core.List.{List, [], _∷_}
 use mathlib.Core.Option.{Option, none, some}
-use Prim.Native.Nat.{ℕ, zero, suc, _+_, _-_, _*_, _/_, _^_, _≤_, min}
+use Prim.Native.Nat.{ℕ, zero, suc, _-_, _*_, _/_, _^_, _≤_, min}
 use native.Mathlib.Omega.{arith}
 use lib.Dec.{eqb, leb, ltb}
 use lib.ListN.{length, take}
-use Rattle.rules.specs.Outcome.{Outcome, done, refused, _>>=_}
+use Rattle.rules.specs.Outcome.{Outcome, done, refused}
 use Rattle.rules.specs.Limits.{longest-alpha, longest-items, longest-new-record}
 use Rattle.rules.specs.Lists.{Bytes, absent, all, cut, but-last, last}
 use Rattle.rules.specs.Numbers.{refusal-number}
 use Rattle.rules.specs.declared.Refusal.{Refusal}
 use Rattle.rules.specs.declared.Refusal.the-variants.{BadTable, BadRecord, BadSyntax, UnknownName, UseRule, NamedTwice, BeyondBuffer, BadValue, OutOfRange, NoRoom}
-use Rattle.rules.specs.Values.{Format, alpha, binary, fixed, packed, unpacked, Value, text, number, accepted-plus, accepted-minus, sign-means, decimal, halves, meaning, normal, conversion, in-range, converts, converted, converted-bytes, content, allowed, first-value}
+use Rattle.rules.specs.Values.{Format, alpha, binary, fixed, packed, unpacked, Value, text, number, accepted-plus, accepted-minus, sign-means, decimal, halves, meaning, normal, conversion, in-range, converts, converted, converted-bytes, allowed, first-value}
 use Rattle.rules.specs.Table.{Part, Entry, What, field, group, Field, is-inside, fields-below, table, parts}
-use Rattle.rules.specs.Record.{Record, stored, record-bytes, empty-record, value-at}
+use Rattle.rules.specs.Record.{Record, stored, record-bytes, empty-record}
 use Rattle.rules.specs.Format.{Range, Element, blanks, quoted, named, count, series, elements}
-use Rattle.rules.specs.Use.{Item, blanks-item, text-item, group-count, value-count, value-item, Use, Found, Indexes, Spread, find-from, find, format-in-effect, length-in-effect, asked, in-order, just, spread, plain, last-index, use-of-group, use-of-field, use-of-count, fields-to, use-of-series, use-of, indexes-after, uses, items}
+use Rattle.rules.specs.Use.{Item, blanks-item, text-item, group-count, value-count, value-item, Use, Found, Indexes, find-from, find, format-in-effect, length-in-effect, asked, in-order, just, spread, plain, last-index, use-of-group, use-of-field, use-of-count, fields-to, use-of-series, use-of, indexes-after, uses, items}
 use Rattle.rules.specs.Update.{named-twice, assignments, after-update}
 use Rattle.rules.specs.Services.{item-bytes, filled, read, assignments-of, fitting, update, empty}
 use Rattle.rules.proofs.Only.{Only, Is, only-bind, only-need, only-pick, only-option}

@@ -1,7 +1,6 @@
 -- `calls::answer_empty` meets its contract: what the service writes lies in the room.
 use native.Mathlib.Omega.{arith}
-use lib.ListN.{length}
-use Rattle.lyrecanyon.proofs.Empties.{empty-within}
+use Rattle.lyrecanyon.proofs.Settling.{settled-within}
 use borrow.Author.Needs.{needs}
 use Rattle.calls.proofs.answer_empty.Statement.{statement}
 use Rattle.calls.proofs.answer_empty.Tie as tie
@@ -20,8 +19,8 @@ same-length c = search needs
 
 returns : tie.Need-returns
 returns c =
-    let s = c .before .before .before .before .before .before .before .before in
-    omega (arith, c .length .ensures, c .before .before .before .before .empty .ensures .size-is, empty-within (s .args .table .now) (length (s .args .room .now)))
+    let s = c .before .before .before .before in
+    omega (arith, c .length .ensures, settled-within _ _ _ (s .empty .result) (s .empty .ensures) (same-length c))
 
 pub answer-empty-spec : {M : Type 1} → statement M
 answer-empty-spec =

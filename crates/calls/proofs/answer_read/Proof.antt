@@ -1,7 +1,6 @@
 -- `calls::answer_read` meets its contract: what the service writes lies in the room.
 use native.Mathlib.Omega.{arith}
-use lib.ListN.{length}
-use Rattle.lyrecanyon.proofs.Readings.{read-within}
+use Rattle.lyrecanyon.proofs.Settling.{settled-within}
 use borrow.Author.Needs.{needs}
 use Rattle.calls.proofs.answer_read.Statement.{statement}
 use Rattle.calls.proofs.answer_read.Tie as tie
@@ -20,8 +19,8 @@ same-length c = search needs
 
 returns : tie.Need-returns
 returns c =
-    let s = c .before .before .before .before .before .before .before .before .before .before in
-    omega (arith, c .length .ensures, c .before .before .before .before .read .ensures .size-is, read-within (s .args .table .now) (s .args .stored .now) (s .args .format .now) (length (s .args .room .now)))
+    let s = c .before .before .before .before in
+    omega (arith, c .length .ensures, settled-within _ _ _ (s .read .result) (s .read .ensures) (same-length c))
 
 pub answer-read-spec : {M : Type 1} → statement M
 answer-read-spec =

@@ -1,7 +1,6 @@
--- `calls::answer_update` meets its contract: what the service writes lies in the room, which is as long as before.
-use mathlib.Core.Path.{ap}
+-- `calls::answer_update` meets its contract: what the service writes lies in the room.
 use native.Mathlib.Omega.{arith}
-use lib.ListN.{length, length-append, length-drop}
+use Rattle.lyrecanyon.proofs.Settling.{settled-within}
 use borrow.Author.Needs.{needs}
 use Rattle.calls.proofs.answer_update.Statement.{statement}
 use Rattle.calls.proofs.answer_update.Tie as tie
@@ -20,8 +19,8 @@ same-length c = search needs
 
 returns : tie.Need-returns
 returns c =
-    let s = c .before .before .before .before .update .ensures in
-    omega (arith, same-length c, c .length .ensures, s .size-is, simp (length-append, length-drop) at (ap length (s .bytes-are)))
+    let s = c .before .before .before .before in
+    omega (arith, c .length .ensures, settled-within _ _ _ (s .update .result) (s .update .ensures) (same-length c))
 
 pub answer-update-spec : {M : Type 1} → statement M
 answer-update-spec =

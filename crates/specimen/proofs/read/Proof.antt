@@ -1,7 +1,5 @@
--- `specimen::read` meets its contract: what the service writes lies in the buffer, which is as long as before.
-use mathlib.Core.Path.{ap}
-use native.Mathlib.Omega.{arith}
-use lib.ListN.{length, length-append, length-drop}
+-- `specimen::read` meets its contract: what the service writes lies in the buffer.
+use Rattle.lyrecanyon.proofs.Settling.{settled-within}
 use borrow.Author.Needs.{needs}
 use Rattle.specimen.proofs.read.Statement.{statement}
 use Rattle.specimen.proofs.read.Tie as tie
@@ -19,9 +17,7 @@ same-length : tie.Need-same-length
 same-length c = search needs
 
 returns : tie.Need-returns
-returns c =
-    let s = c .before .before .read .ensures in
-    omega (arith, same-length c, s .size-is, simp (length-append, length-drop) at (ap length (s .bytes-are)))
+returns c = let s = c .before .before .read in settled-within _ _ _ (s .result) (s .ensures) (same-length c)
 
 pub read-spec : {M : Type 1} → statement M
 read-spec = tie.close (tie.spec slice-aggregate-read slice-aggregate-read-2 read-requires same-length returns)

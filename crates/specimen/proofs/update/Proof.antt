@@ -1,7 +1,5 @@
--- `specimen::update` meets its contract: what the service writes lies in the room, which is as long as before.
-use mathlib.Core.Path.{ap}
-use native.Mathlib.Omega.{arith}
-use lib.ListN.{length, length-append, length-drop}
+-- `specimen::update` meets its contract: what the service writes lies in the room.
+use Rattle.lyrecanyon.proofs.Settling.{settled-within}
 use borrow.Author.Needs.{needs}
 use Rattle.specimen.proofs.update.Statement.{statement}
 use Rattle.specimen.proofs.update.Tie as tie
@@ -19,9 +17,7 @@ same-length : tie.Need-same-length
 same-length c = search needs
 
 returns : tie.Need-returns
-returns c =
-    let s = c .before .before .update .ensures in
-    omega (arith, same-length c, s .size-is, simp (length-append, length-drop) at (ap length (s .bytes-are)))
+returns c = let s = c .before .before .update in settled-within _ _ _ (s .result) (s .ensures) (same-length c)
 
 pub update-spec : {M : Type 1} → statement M
 update-spec = tie.close (tie.spec slice-aggregate-update slice-aggregate-update-2 update-requires same-length returns)

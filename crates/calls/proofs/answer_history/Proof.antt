@@ -1,0 +1,27 @@
+-- `calls::answer_history` meets its contract: what the service writes lies in the room.
+use native.Mathlib.Omega.{arith}
+use Rattle.lyrecanyon.proofs.Settling.{settled-within}
+use borrow.Author.Needs.{needs}
+use Rattle.calls.proofs.answer_history.Statement.{statement}
+use Rattle.calls.proofs.answer_history.Tie as tie
+
+read-after-requires : tie.Need-read-after-requires
+read-after-requires c κs = search needs
+
+number-requires : tie.Need-number-requires
+number-requires c κs = search needs
+
+length-requires : tie.Need-length-requires
+length-requires c κs = search needs
+
+same-length : tie.Need-same-length
+same-length c = search needs
+
+returns : tie.Need-returns
+returns c =
+    let s = c .before .before .before .before in
+    omega (arith, c .length .ensures, settled-within _ _ _ (s .read-after .result) (s .read-after .ensures) (same-length c))
+
+pub answer-history-spec : {M : Type 1} → statement M
+answer-history-spec =
+    tie.close (tie.spec read-after-requires number-requires length-requires same-length returns)
