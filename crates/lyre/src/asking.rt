@@ -1,0 +1,90 @@
+// The services, asked by one function.
+use uses::Index;
+use uses::kept;
+use uses::kept::Decoded;
+ghost use Prim.Native.Nat.{_≤_};
+ghost use lib.ListN.{length};
+ghost use Rattle.io.specs.Counts.{Counts};
+
+// What is asked for. To explain is to decode the format alone.
+pub enum Service {
+    Read,
+    Update,
+    Empty,
+    Explain,
+}
+
+// The number that is returned, and how many bytes stand at the front of the room.
+pub struct Answered {
+    pub number: u8,
+    pub used: usize,
+}
+
+// What the longest format takes: ten numbers for each element, of three bytes at least.
+pub const KEPT: usize = 6830;
+
+pub fn read(t: &[u8], record: &[u8], f: &[u8], room: &mut [u8]) -> Answered
+    ensures { λ r. ⌜ Counts (r .used) (now (room .exit)) ⌝ }
+{
+    let answer = lyrecanyon::read(t, record, f, room);
+    Answered {
+        number: answer.number(),
+        used: answer.length(),
+    }
+}
+
+fn update(t: &[u8], record: &[u8], f: &[u8], values: &[u8], room: &mut [u8]) -> Answered
+    ensures { λ r. ⌜ Counts (r .used) (now (room .exit)) ⌝ }
+{
+    let answer = lyrecanyon::update(t, record, f, values, room);
+    Answered {
+        number: answer.number(),
+        used: answer.length(),
+    }
+}
+
+fn empty(t: &[u8], room: &mut [u8]) -> Answered
+    ensures { λ r. ⌜ Counts (r .used) (now (room .exit)) ⌝ }
+{
+    let answer = lyrecanyon::empty(t, room);
+    Answered {
+        number: answer.number(),
+        used: answer.length(),
+    }
+}
+
+// The number of a format by itself.
+fn explain(t: &[u8], f: &[u8]) -> u8 {
+    if !tables::valid(t) {
+        return rules::refusal_number(rules::Refusal::BadTable);
+    }
+    if rules::LONGEST_FORMAT < f.len() {
+        return rules::refusal_number(rules::Refusal::BadSyntax);
+    }
+    let mut uses: [Index; KEPT] = [0; KEPT];
+    match kept::decode(t, f, &mut uses) {
+        Decoded::Uses(_) => 0,
+        Decoded::Refused(x) => rules::refusal_number(x),
+    }
+}
+
+pub fn ask(
+    service: Service,
+    t: &[u8],
+    record: &[u8],
+    f: &[u8],
+    values: &[u8],
+    room: &mut [u8],
+) -> Answered
+    ensures { λ r. ⌜ Counts (r .used) (now (room .exit)) ⌝ }
+{
+    match service {
+        Service::Read => read(t, record, f, room),
+        Service::Update => update(t, record, f, values, room),
+        Service::Empty => empty(t, room),
+        Service::Explain => Answered {
+            number: explain(t, f),
+            used: 0,
+        },
+    }
+}
