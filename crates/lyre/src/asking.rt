@@ -1,10 +1,13 @@
 // The services, asked by one function.
+use rules::Refusal;
 use uses::Index;
 use uses::kept;
 use uses::kept::Decoded;
 ghost use Prim.Native.Nat.{_≤_};
 ghost use lib.ListN.{length};
 ghost use Rattle.io.specs.Counts.{Counts};
+ghost use Rattle.rules.specs.Limits.{longest-format};
+ghost use Rattle.tables.specs.Entries.{Valid};
 
 // What is asked for. To explain is to decode the format alone.
 pub enum Service {
@@ -53,19 +56,25 @@ fn empty(t: &[u8], room: &mut [u8]) -> Answered
     }
 }
 
-// The number of a format by itself.
-fn explain(t: &[u8], f: &[u8]) -> u8 {
-    if !tables::valid(t) {
-        return rules::refusal_number(rules::Refusal::BadTable);
-    }
-    if rules::LONGEST_FORMAT < f.len() {
-        return rules::refusal_number(rules::Refusal::BadSyntax);
-    }
+// The number of a format by a valid table.
+fn explain_format(t: &[u8], f: &[u8]) -> u8
+    requires { ⌜ Valid (now t) × (length (now f) ≤ longest-format) ⌝ }
+{
     let mut uses: [Index; KEPT] = [0; KEPT];
     match kept::decode(t, f, &mut uses) {
         Decoded::Uses(_) => 0,
         Decoded::Refused(x) => rules::refusal_number(x),
     }
+}
+
+fn explain(t: &[u8], f: &[u8]) -> u8 {
+    if tables::valid(t) {
+        if f.len() <= rules::LONGEST_FORMAT {
+            return explain_format(t, f);
+        }
+        return rules::refusal_number(Refusal::BadSyntax);
+    }
+    rules::refusal_number(Refusal::BadTable)
 }
 
 pub fn ask(

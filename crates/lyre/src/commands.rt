@@ -20,14 +20,14 @@ const FORMAT: usize = 8192;
 // The longest word that Linux hands to a program.
 const VALUES: usize = 131072;
 
-// The words after the last one that a command needs, if any, are `-o` and a file.
-fn has_file(i: usize) -> bool {
+// Whether there are so many words, or two more, which are `-o` and a file.
+fn has_file(words: usize, more: usize) -> bool {
     let n = os::arg_count();
-    if n == i {
+    if n == words {
         return true;
     }
-    if n == i + 2 {
-        return words::is(i, b"-o");
+    if n == more {
+        return words::is(words, b"-o");
     }
     false
 }
@@ -112,7 +112,7 @@ fn read() {
 }
 
 fn update() {
-    if !has_file(6) {
+    if !has_file(6, 8) {
         help::tell_update();
         return;
     }
@@ -141,7 +141,7 @@ fn update() {
 }
 
 fn empty() {
-    if !has_file(3) {
+    if !has_file(3, 5) {
         help::tell_empty();
         return;
     }

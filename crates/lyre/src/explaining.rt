@@ -5,13 +5,13 @@ use crate::listing;
 use crate::listing::Manner;
 use crate::plain;
 use crate::refusals;
-use format_buffer::syntax::Step;
 use uses::Index;
 use uses::Use;
 use uses::kept;
 use uses::kept::Decoded;
 ghost use Prim.Native.Nat.{_*_, _+_, _≤_, _<_};
 ghost use lib.ListN.{length};
+ghost use Rattle.rules.specs.Limits.{longest-format};
 ghost use Rattle.tables.specs.Entries.{Valid};
 ghost use Rattle.uses.specs.Kept.{numbers-kept};
 
@@ -83,15 +83,14 @@ fn say_element(f: &[u8], at: usize, n: usize, valued: bool) -> usize
     requires { ⌜ at ≤ length (now f) ⌝ }
     ensures { λ r. ⌜ r ≤ length (now (f .entry)) ⌝ }
 {
-    match format_buffer::syntax::next(f, at) {
-        Step::Bad => at,
-        Step::At(_, stop) => {
-            if !valued {
-                refusals::write_element(libc::STDOUT_FILENO, f, at, stop, n);
-            }
-            stop + 1
-        }
+    let stop = refusals::element_end(f, at);
+    if stop == f.len() {
+        return stop;
     }
+    if !valued {
+        refusals::write_element(libc::STDOUT_FILENO, f, at, stop, n);
+    }
+    stop + 1
 }
 
 fn say_each(t: &[u8], record: &[u8], f: &[u8], kept: &[Index], n: usize, valued: bool)
@@ -105,16 +104,26 @@ fn say_each(t: &[u8], record: &[u8], f: &[u8], kept: &[Index], n: usize, valued:
     }
 }
 
+// What a format that is not refused names by a valid table.
+fn say_decoded(t: &[u8], record: &[u8], f: &[u8], valued: bool)
+    requires { ⌜ Valid (now t) × (length (now f) ≤ longest-format) ⌝ }
+{
+    let mut uses: [Index; KEPT] = [0; KEPT];
+    match kept::decode(t, f, &mut uses) {
+        Decoded::Refused(_) => {
+            return;
+        }
+        Decoded::Uses(n) => {
+            say_each(t, record, f, &uses, n, valued);
+        }
+    }
+}
+
 // What a format names by a table: with the values in a record, or with the bytes that each takes.
 pub fn say_format(t: &[u8], record: &[u8], f: &[u8], valued: bool) {
-    if !tables::valid(t) {
-        return;
-    }
-    if rules::LONGEST_FORMAT < f.len() {
-        return;
-    }
-    let mut uses: [Index; KEPT] = [0; KEPT];
-    if let Decoded::Uses(n) = kept::decode(t, f, &mut uses) {
-        say_each(t, record, f, &uses, n, valued);
+    if tables::valid(t) {
+        if f.len() <= rules::LONGEST_FORMAT {
+            say_decoded(t, record, f, valued);
+        }
     }
 }

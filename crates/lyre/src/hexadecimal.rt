@@ -51,11 +51,13 @@ struct Taken {
     next: usize,
 }
 
-fn take(text: &[u8], at: usize) -> Taken
-    requires { ⌜ at < length (now text) ⌝ }
-    ensures { λ r. ⌜ (at < r .next) × (r .next ≤ length (now (text .entry))) × (r .made ≤ 1) ⌝ }
+// What stands at a place of the text that ends at another.
+fn take(text: &[u8], at: usize, end: usize) -> Taken
+    requires { ⌜ (at < end) × (end ≤ length (now text)) ⌝ }
+    ensures { λ r. ⌜ (at < r .next) × (r .next ≤ end) × (r .made ≤ 1) ⌝ }
 {
     let after = at + 1;
+    let high = digit(text[at]);
     if is_blank(text[at]) {
         return Taken {
             good: true,
@@ -64,8 +66,7 @@ fn take(text: &[u8], at: usize) -> Taken
             next: after,
         };
     }
-    let high = digit(text[at]);
-    if after < text.len() {
+    if after < end {
         let low = digit(text[after]);
         if high < NONE {
             if low < NONE {
@@ -94,7 +95,7 @@ pub fn decode(area: &mut [u8], used: usize) -> Given
     let mut at = 0;
     let mut made = 0;
     while at < used {
-        let taken = take(&area[..used], at);
+        let taken = take(area, at, used);
         if !taken.good {
             return Given {
                 good: false,

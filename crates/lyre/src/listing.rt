@@ -220,7 +220,8 @@ fn say_periodic(t: &[u8], record: &[u8], i: usize, m: Manner)
 {
     say_count(t, record, i, 1, m);
     let n = values_shown::count(t, record, i, 1);
-    say_occurrences(t, record, i + 1, tables::group_end(t, i), 1, n, m);
+    let end = tables::group_end(t, i);
+    say_occurrences(t, record, i + 1, end, 1, n, m);
 }
 
 // An entry of the record; the members of a periodic group are said with it.

@@ -1,5 +1,7 @@
 // What is said, to standard output or to standard error, and how the call ended.
 
+ghost use Prim.Native.Nat.{_<_};
+
 // How a call ended, as a digit.
 pub const DONE: u8 = b'0';
 
@@ -46,8 +48,10 @@ pub fn say_counted(n: usize, one: &[u8]) {
     }
 }
 
-fn wide(n: u8) -> usize {
-    n as usize
+pub fn wide(b: u8) -> usize
+    ensures { λ r. ⌜ r < 256 ⌝ }
+{
+    b as usize
 }
 
 // The blanks before a line of a level: two for each level after the first.

@@ -9,6 +9,7 @@ use format_buffer::syntax::Step;
 use libc::STDERR_FILENO;
 ghost use Prim.Native.Nat.{_≤_, _<_};
 ghost use lib.ListN.{length};
+ghost use Rattle.io.specs.Counts.{Counts};
 ghost use Rattle.rules.specs.Limits.{longest-format};
 
 fn tell(text: &[u8]) {
@@ -52,6 +53,17 @@ fn tell_meaning(number: u8) {
     }
 }
 
+// Where the element at a place stops: its comma or its period; the end of the format where its syntax is bad.
+pub fn element_end(f: &[u8], at: usize) -> usize
+    requires { ⌜ at ≤ length (now f) ⌝ }
+    ensures { λ r. ⌜ (at ≤ r) × (r ≤ length (now (f .entry))) ⌝ }
+{
+    match format_buffer::syntax::next(f, at) {
+        Step::At(_, stop) => stop,
+        Step::Bad => f.len(),
+    }
+}
+
 // Element n, which stands in the format from one place up to another, as it is written.
 pub fn write_element(to: i32, f: &[u8], at: usize, stop: usize, n: usize)
     requires { ⌜ (at ≤ stop) × (stop ≤ length (now f)) ⌝ }
@@ -67,26 +79,6 @@ pub fn write_element(to: i32, f: &[u8], at: usize, stop: usize, n: usize)
     } else {
         plain::write(to, b" is empty\n");
     }
-}
-
-// The number of the call whose format is the elements before a place, ended by a period.
-fn number_upto(
-    service: Service,
-    t: &[u8],
-    record: &[u8],
-    f: &[u8],
-    values: &[u8],
-    stop: usize,
-) -> u8
-    requires { ⌜ (stop < length (now f)) × (length (now f) ≤ longest-format) ⌝ }
-{
-    let mut first = [0u8; rules::LONGEST_FORMAT];
-    let mut room = [0u8; rules::LONGEST_ITEMS];
-    buffer::put(&f[..stop], &mut first, 0);
-    first[stop] = PERIOD;
-    let end = stop + 1;
-    let a = asking::ask(service, t, record, &first[..end], values, &mut room);
-    a.number
 }
 
 // Whether a period ends the format: one that stands in no text.
@@ -118,33 +110,65 @@ fn tell_bad(f: &[u8], at: usize, n: usize)
     }
 }
 
+// The first element whose syntax is bad.
+fn tell_first_bad(f: &[u8])
+    requires { ⌜ length (now f) ≤ longest-format ⌝ }
+{
+    let mut at = 0;
+    let mut n = 1;
+    loop {
+        let stop = element_end(f, at);
+        if stop == f.len() {
+            tell_bad(f, at, n);
+            return;
+        }
+        if format_buffer::syntax::is_last(f, stop) {
+            return;
+        }
+        at = stop + 1;
+        n += 1;
+    }
+}
+
 // What is bad about the syntax.
 fn tell_syntax(f: &[u8]) {
     if rules::LONGEST_FORMAT < f.len() {
         tell(b"  it is over 2,048 bytes\n");
         return;
     }
-    if !has_period(f) {
-        tell(b"  no period ends it\n");
+    if has_period(f) {
+        tell_first_bad(f);
         return;
     }
-    let mut at = 0;
-    let mut n = 1;
-    loop {
-        match format_buffer::syntax::next(f, at) {
-            Step::Bad => {
-                tell_bad(f, at, n);
-                return;
-            }
-            Step::At(_, stop) => {
-                if format_buffer::syntax::is_last(f, stop) {
-                    return;
-                }
-                at = stop + 1;
-                n += 1;
-            }
-        }
-    }
+    tell(b"  no period ends it\n");
+}
+
+// The elements before a place, ended by a period; how many bytes they take.
+fn put_first(f: &[u8], stop: usize, area: &mut [u8]) -> usize
+    requires { ⌜ (stop < length (now f)) × (stop < length (now area)) ⌝ }
+    ensures { λ r. ⌜ Counts r (now (area .exit)) ⌝ }
+{
+    buffer::put(&f[..stop], area, 0);
+    area[stop] = PERIOD;
+    stop + 1
+}
+
+// The number of the call whose format is the elements before a place.
+fn number_upto(
+    service: Service,
+    t: &[u8],
+    record: &[u8],
+    f: &[u8],
+    values: &[u8],
+    stop: usize,
+) -> u8
+    requires { ⌜ (stop < length (now f)) × (length (now f) ≤ longest-format) ⌝ }
+{
+    let mut first = [0u8; rules::LONGEST_FORMAT];
+    let mut room = [0u8; rules::LONGEST_ITEMS];
+    let end = put_first(f, stop, &mut first);
+    let a = asking::ask(service, t, record, &first[..end], values, &mut room);
+    a.number
 }
 
 // The first element with which the call is refused with this number: the refusals that come before it are those of earlier elements.
@@ -154,23 +178,20 @@ fn tell_element(service: Service, t: &[u8], record: &[u8], f: &[u8], values: &[u
     let mut at = 0;
     let mut n = 1;
     loop {
-        match format_buffer::syntax::next(f, at) {
-            Step::Bad => {
-                return;
-            }
-            Step::At(_, stop) => {
-                if number_upto(service, t, record, f, values, stop) == number {
-                    tell(b"  ");
-                    write_element(STDERR_FILENO, f, at, stop, n);
-                    return;
-                }
-                if format_buffer::syntax::is_last(f, stop) {
-                    return;
-                }
-                at = stop + 1;
-                n += 1;
-            }
+        let stop = element_end(f, at);
+        if stop == f.len() {
+            return;
         }
+        if number_upto(service, t, record, f, values, stop) == number {
+            tell(b"  ");
+            write_element(STDERR_FILENO, f, at, stop, n);
+            return;
+        }
+        if format_buffer::syntax::is_last(f, stop) {
+            return;
+        }
+        at = stop + 1;
+        n += 1;
     }
 }
 

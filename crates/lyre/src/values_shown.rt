@@ -50,7 +50,7 @@ fn count_of(t: &[u8], record: &[u8], f: [u8; SIZE]) -> usize
 {
     let mut room = [0u8; 1];
     asking::read(t, record, &f, &mut room);
-    room[0] as usize
+    plain::wide(room[0])
 }
 
 // The count of entry i, a periodic group or an MU field, which may stand in occurrence o of one.
@@ -66,12 +66,13 @@ pub fn count(t: &[u8], record: &[u8], i: usize, o: usize) -> usize
     count_of(t, record, elements::counted(f))
 }
 
-// The place of the first digit that is not 0, or of the last digit.
-fn first_digit(digits: &[u8]) -> usize
-    ensures { λ r. ⌜ r ≤ length (now (digits .entry)) ⌝ }
+// The place of the first digit before the last that is not 0, or of the last.
+fn first_digit(digits: &[u8], last: usize) -> usize
+    requires { ⌜ last < length (now digits) ⌝ }
+    ensures { λ r. ⌜ r ≤ last ⌝ }
 {
     let mut i = 0;
-    while i + 1 < digits.len() {
+    while i < last {
         if digits[i] % 16 != 0 {
             return i;
         }
@@ -85,21 +86,23 @@ fn say_digit(b: u8) {
 }
 
 fn say_digits(digits: &[u8]) {
-    let first = first_digit(digits);
-    for i in first..digits.len() {
+    for i in 0..digits.len() {
         say_digit(digits[i]);
     }
 }
 
-// Unpacked digits, with the sign in the high half of the last.
+// Unpacked digits, without leading zeros. The sign is in the high half of the last.
 fn say_unpacked(digits: &[u8]) {
     let n = digits.len();
-    if 0 < n {
-        if digits[n - 1] / 16 == MINUS {
-            plain::say(b"-");
-        }
+    if n == 0 {
+        return;
     }
-    say_digits(digits);
+    let last = n - 1;
+    if digits[last] / 16 == MINUS {
+        plain::say(b"-");
+    }
+    let first = first_digit(digits, last);
+    say_digits(&digits[first..]);
 }
 
 fn say_text(t: &[u8], record: &[u8], f: [u8; SIZE]) {

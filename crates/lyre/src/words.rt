@@ -48,6 +48,7 @@ pub fn word(i: usize, area: &mut [u8]) -> Given
 // Each character of a format in EBCDIC, in its place.
 fn translate(area: &mut [u8], used: usize) -> bool
     requires { ⌜ used ≤ length (now area) ⌝ }
+    ensures { λ _. ⌜ Counts used (now (area .exit)) ⌝ }
 {
     for i in 0..used {
         let code = letters::ebcdic_of(area[i]);
@@ -145,6 +146,13 @@ fn load(path: &[u8], area: &mut [u8]) -> Given
     Given { good: true, used }
 }
 
+fn is_binary(bytes: &[u8]) -> bool {
+    if bytes.len() == 0 {
+        return false;
+    }
+    bytes[0] == HEAD
+}
+
 // Word i, a file with a table or a record, in binary or in hexadecimal.
 pub fn file(i: usize, area: &mut [u8]) -> Given
     ensures { λ r. ⌜ Counts (r .used) (now (area .exit)) ⌝ }
@@ -164,7 +172,7 @@ pub fn file(i: usize, area: &mut [u8]) -> Given
     if !given.good {
         return given;
     }
-    if area[0] == HEAD {
+    if is_binary(area) {
         return given;
     }
     let bytes = hexadecimal::decode(area, used);
