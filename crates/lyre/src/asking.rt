@@ -3,18 +3,21 @@ use rules::Refusal;
 use uses::Index;
 use uses::kept;
 use uses::kept::Decoded;
+ghost use mathlib.Core.Path.{_≡_};
 ghost use Prim.Native.Nat.{_≤_};
 ghost use lib.ListN.{length};
 ghost use Rattle.io.specs.Counts.{Counts};
 ghost use Rattle.rules.specs.Limits.{longest-format};
 ghost use Rattle.tables.specs.Entries.{Valid};
 
-// What is asked for. To explain is to decode the format alone.
+// What is asked for: the services, and whether a format, a table or a record is good by itself.
 pub enum Service {
     Read,
     Update,
     Empty,
     Explain,
+    Table,
+    Record,
 }
 
 // The number that is returned, and how many bytes stand at the front of the room.
@@ -56,6 +59,29 @@ fn empty(t: &[u8], room: &mut [u8]) -> Answered
     }
 }
 
+fn by_number(number: u8) -> Answered
+    ensures { λ r. ⌜ r .used ≡ 0 ⌝ }
+{
+    Answered { number, used: 0 }
+}
+
+// The number of a table by itself.
+fn check_table(t: &[u8]) -> u8 {
+    if tables::valid(t) {
+        return 0;
+    }
+    rules::refusal_number(Refusal::BadTable)
+}
+
+// The number of a record: a read with no format at all is refused with 3, unless the table or the record is refused before that.
+fn check_record(t: &[u8], record: &[u8], room: &mut [u8]) -> u8 {
+    let a = read(t, record, b"", room);
+    if a.number < 3 {
+        return a.number;
+    }
+    0
+}
+
 // The number of a format by a valid table.
 fn explain_format(t: &[u8], f: &[u8]) -> u8
     requires { ⌜ Valid (now t) × (length (now f) ≤ longest-format) ⌝ }
@@ -91,9 +117,8 @@ pub fn ask(
         Service::Read => read(t, record, f, room),
         Service::Update => update(t, record, f, values, room),
         Service::Empty => empty(t, room),
-        Service::Explain => Answered {
-            number: explain(t, f),
-            used: 0,
-        },
+        Service::Explain => by_number(explain(t, f)),
+        Service::Table => by_number(check_table(t)),
+        Service::Record => by_number(check_record(t, record, room)),
     }
 }

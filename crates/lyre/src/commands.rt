@@ -1,4 +1,4 @@
-// What each command does.
+// What each command does: the words are taken, the service is asked, and its answer is said.
 use crate::asking;
 use crate::asking::Service;
 use crate::explaining;
@@ -10,15 +10,20 @@ use crate::refusals;
 use crate::saving;
 use crate::tables_shown;
 use crate::words;
+use crate::words::Given;
 use crate::words::same;
-ghost use mathlib.Core.Path.{_≡_};
-ghost use lib.ListN.{length};
+ghost use Rattle.io.specs.Counts.{Counts};
 
 // A format may be longer than the services take: they refuse it.
 const FORMAT: usize = 8192;
 
 // The longest word that Linux hands to a program.
 const VALUES: usize = 131072;
+
+// The words of an update, and of an empty record, before `-o`.
+const UPDATE: usize = 6;
+
+const EMPTY: usize = 3;
 
 // Whether there are so many words, or two more, which are `-o` and a file.
 fn has_file(words: usize, more: usize) -> bool {
@@ -32,179 +37,141 @@ fn has_file(words: usize, more: usize) -> bool {
     false
 }
 
-// The answer of a service that gives a record.
-fn give(service: Service, t: &[u8], record: &[u8], f: &[u8], values: &[u8], i: usize) {
-    let mut room = [0u8; rules::LONGEST_NEW_RECORD];
+// The record, where the service takes one.
+fn take_record(service: Service, area: &mut [u8]) -> Given
+    ensures { λ r. ⌜ Counts (r .used) (now (area .exit)) ⌝ }
+{
+    match service {
+        Service::Read => words::file(3, area),
+        Service::Update => words::file(3, area),
+        Service::Record => words::file(3, area),
+        _ => words::nothing(area),
+    }
+}
+
+// The format, where the service takes one.
+fn take_format(service: Service, area: &mut [u8]) -> Given
+    ensures { λ r. ⌜ Counts (r .used) (now (area .exit)) ⌝ }
+{
+    match service {
+        Service::Read => words::format(4, area),
+        Service::Update => words::format(4, area),
+        Service::Explain => words::format(3, area),
+        _ => words::nothing(area),
+    }
+}
+
+// The values, which an update takes.
+fn take_values(service: Service, area: &mut [u8]) -> Given
+    ensures { λ r. ⌜ Counts (r .used) (now (area .exit)) ⌝ }
+{
+    match service {
+        Service::Update => words::bytes(5, area),
+        _ => words::nothing(area),
+    }
+}
+
+// The answer of a service that was not refused.
+fn say_answer(service: Service, t: &[u8], record: &[u8], f: &[u8], answer: &[u8]) {
+    match service {
+        Service::Read => {
+            hexadecimal::say_line(answer);
+            explaining::say_format(t, record, f, true);
+        }
+        Service::Update => {
+            saving::give(answer, UPDATE);
+        }
+        Service::Empty => {
+            saving::give(answer, EMPTY);
+        }
+        Service::Explain => {
+            explaining::say_format(t, record, f, false);
+        }
+        Service::Table => {
+            tables_shown::show(t);
+        }
+        Service::Record => {
+            listing::show(t, record);
+        }
+    }
+}
+
+fn answer(service: Service, t: &[u8], record: &[u8], f: &[u8], values: &[u8]) {
+    let mut room = [0u8; rules::LONGEST_ITEMS];
     let a = asking::ask(service, t, record, f, values, &mut room);
     let used = a.used;
     if a.number == 0 {
-        saving::give(&room[..used], i);
+        say_answer(service, t, record, f, &room[..used]);
     } else {
         refusals::refuse(service, t, record, f, values, a.number);
     }
 }
 
-fn answer_read(t: &[u8], record: &[u8], f: &[u8]) {
-    let mut room = [0u8; rules::LONGEST_ITEMS];
-    let a = asking::read(t, record, f, &mut room);
-    let used = a.used;
-    if a.number == 0 {
-        hexadecimal::say_bytes(&room[..used]);
-        plain::say(b"\n");
-        explaining::say_format(t, record, f, true);
-    } else {
-        refusals::refuse(Service::Read, t, record, f, b"", a.number);
-    }
-}
-
-// A read with no format at all is refused with 3, unless the table or the record is refused before that.
-fn answer_show(t: &[u8], record: &[u8]) {
-    let mut room = [0u8; 1];
-    let a = asking::read(t, record, b"", &mut room);
-    if a.number < 3 {
-        refusals::refuse(Service::Read, t, record, b"", b"", a.number);
-        return;
-    }
-    if tables::valid(t) {
-        listing::say_record(t, record);
-    }
-}
-
-fn answer_explain(t: &[u8], f: &[u8]) {
-    let mut room = [0u8; 1];
-    let a = asking::ask(Service::Explain, t, b"", f, b"", &mut room);
-    if a.number == 0 {
-        explaining::say_format(t, b"", f, false);
-    } else {
-        refusals::refuse(Service::Explain, t, b"", f, b"", a.number);
-    }
-}
-
-fn answer_table(t: &[u8]) {
-    if tables::valid(t) {
-        tables_shown::say_table(t);
-    } else {
-        refusals::refuse(Service::Empty, t, b"", b"", b"", 1);
-    }
-}
-
-fn read() {
-    if os::arg_count() != 5 {
-        help::tell_read();
-        return;
-    }
+// A service with the words that it takes. A word that is not good has been said so.
+fn run(service: Service) {
     let mut table = io::large_buffer();
     let t = words::file(2, &mut table);
-    let mut record = io::large_buffer();
-    let r = words::file(3, &mut record);
-    let mut format = [0u8; FORMAT];
-    let f = words::format(4, &mut format);
-    let table_end = t.used;
-    let record_end = r.used;
-    let format_end = f.used;
-    if t.good && r.good && f.good {
-        answer_read(
-            &table[..table_end],
-            &record[..record_end],
-            &format[..format_end],
-        );
-    }
-}
-
-fn update() {
-    if !has_file(6, 8) {
-        help::tell_update();
+    if !t.good {
         return;
     }
-    let mut table = io::large_buffer();
-    let t = words::file(2, &mut table);
     let mut record = io::large_buffer();
-    let r = words::file(3, &mut record);
+    let r = take_record(service, &mut record);
+    if !r.good {
+        return;
+    }
     let mut format = [0u8; FORMAT];
-    let f = words::format(4, &mut format);
+    let f = take_format(service, &mut format);
+    if !f.good {
+        return;
+    }
     let mut values = [0u8; VALUES];
-    let v = words::bytes(5, &mut values);
+    let v = take_values(service, &mut values);
+    if !v.good {
+        return;
+    }
     let table_end = t.used;
     let record_end = r.used;
     let format_end = f.used;
     let values_end = v.used;
-    if t.good && r.good && f.good && v.good {
-        give(
-            Service::Update,
-            &table[..table_end],
-            &record[..record_end],
-            &format[..format_end],
-            &values[..values_end],
-            6,
-        );
+    answer(
+        service,
+        &table[..table_end],
+        &record[..record_end],
+        &format[..format_end],
+        &values[..values_end],
+    );
+}
+
+// A service that has its words, or what they would be.
+fn start(service: Service, enough: bool) {
+    if enough {
+        run(service);
+    } else {
+        help::tell_use(service);
     }
 }
 
-fn empty() {
-    if !has_file(3, 5) {
-        help::tell_empty();
-        return;
-    }
-    let mut table = io::large_buffer();
-    let t = words::file(2, &mut table);
-    let end = t.used;
-    if t.good {
-        give(Service::Empty, &table[..end], b"", b"", b"", 3);
-    }
-}
-
+// Which of the two is shown, a table or a record, goes by the words.
 fn show() {
-    if os::arg_count() == 3 {
-        let mut table = io::large_buffer();
-        let t = words::file(2, &mut table);
-        let end = t.used;
-        if t.good {
-            answer_table(&table[..end]);
-        }
+    let n = os::arg_count();
+    if n == 3 {
+        start(Service::Table, true);
         return;
     }
-    if os::arg_count() != 4 {
-        help::tell_show();
-        return;
-    }
-    let mut table = io::large_buffer();
-    let t = words::file(2, &mut table);
-    let mut record = io::large_buffer();
-    let r = words::file(3, &mut record);
-    let table_end = t.used;
-    let record_end = r.used;
-    if t.good && r.good {
-        answer_show(&table[..table_end], &record[..record_end]);
-    }
+    start(Service::Record, n == 4);
 }
 
-fn explain() {
-    if os::arg_count() != 4 {
-        help::tell_explain();
-        return;
-    }
-    let mut table = io::large_buffer();
-    let t = words::file(2, &mut table);
-    let mut format = [0u8; FORMAT];
-    let f = words::format(3, &mut format);
-    let table_end = t.used;
-    let format_end = f.used;
-    if t.good && f.good {
-        answer_explain(&table[..table_end], &format[..format_end]);
-    }
-}
-
-pub fn answer(word: &[u8]) {
+pub fn command(word: &[u8]) {
     if same(word, b"read") {
-        read();
+        start(Service::Read, os::arg_count() == 5);
         return;
     }
     if same(word, b"update") {
-        update();
+        start(Service::Update, has_file(UPDATE, UPDATE + 2));
         return;
     }
     if same(word, b"empty") {
-        empty();
+        start(Service::Empty, has_file(EMPTY, EMPTY + 2));
         return;
     }
     if same(word, b"show") {
@@ -212,7 +179,7 @@ pub fn answer(word: &[u8]) {
         return;
     }
     if same(word, b"explain") {
-        explain();
+        start(Service::Explain, os::arg_count() == 4);
         return;
     }
     help::help(word);

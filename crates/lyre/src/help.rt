@@ -1,37 +1,39 @@
 // The help, and what is said where the words of a command are not right.
+use crate::asking::Service;
 use crate::plain;
 use crate::words::same;
 
-pub fn tell_read() {
-    plain::complain(
-        b"read takes a table, a record and a format: ",
-        b"lyre read TABLE RECORD 'AA,AB.'",
-    );
-}
-
-pub fn tell_update() {
-    plain::complain(
-        b"update takes a table, a record, a format and values: ",
-        b"lyre update TABLE RECORD 'MF1.' F5F0 [-o OUT]",
-    );
-}
-
-pub fn tell_empty() {
-    plain::complain(b"empty takes a table: ", b"lyre empty TABLE [-o OUT]");
-}
-
-pub fn tell_show() {
-    plain::complain(
-        b"show takes a table, and a record or none: ",
-        b"lyre show TABLE [RECORD]",
-    );
-}
-
-pub fn tell_explain() {
-    plain::complain(
-        b"explain takes a table and a format: ",
-        b"lyre explain TABLE 'AA,AB.'",
-    );
+// What the words of a command would be.
+pub fn tell_use(service: Service) {
+    match service {
+        Service::Read => {
+            plain::complain(
+                b"read takes a table, a record and a format: ",
+                b"lyre read TABLE RECORD 'AA,AB.'",
+            );
+        }
+        Service::Update => {
+            plain::complain(
+                b"update takes a table, a record, a format and values: ",
+                b"lyre update TABLE RECORD 'MF1.' F5F0 [-o OUT]",
+            );
+        }
+        Service::Empty => {
+            plain::complain(b"empty takes a table: ", b"lyre empty TABLE [-o OUT]");
+        }
+        Service::Explain => {
+            plain::complain(
+                b"explain takes a table and a format: ",
+                b"lyre explain TABLE 'AA,AB.'",
+            );
+        }
+        _ => {
+            plain::complain(
+                b"show takes a table, and a record or none: ",
+                b"lyre show TABLE [RECORD]",
+            );
+        }
+    }
 }
 
 fn say_help() {

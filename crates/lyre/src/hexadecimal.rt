@@ -24,6 +24,11 @@ pub fn say_bytes(bytes: &[u8]) {
     }
 }
 
+pub fn say_line(bytes: &[u8]) {
+    say_bytes(bytes);
+    plain::say(b"\n");
+}
+
 // The value of a digit, below 16, or NONE.
 fn digit(c: u8) -> u8
     ensures { λ r. ⌜ r < 17 ⌝ }

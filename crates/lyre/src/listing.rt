@@ -238,7 +238,7 @@ fn say_part(t: &[u8], record: &[u8], i: usize, m: Manner)
 }
 
 // A whole record, field by field.
-pub fn say_record(t: &[u8], record: &[u8])
+fn say_record(t: &[u8], record: &[u8])
     requires { ⌜ Valid (now t) ⌝ }
 {
     let m = Manner {
@@ -251,5 +251,11 @@ pub fn say_record(t: &[u8], record: &[u8])
     let n = tables::count(t);
     for i in 0..n {
         say_part(t, record, i, m);
+    }
+}
+
+pub fn show(t: &[u8], record: &[u8]) {
+    if tables::valid(t) {
+        say_record(t, record);
     }
 }

@@ -17,6 +17,6 @@ mod words;
 fn main() {
     let mut word = [0u8; 8];
     let used = os::arg(1, &mut word);
-    commands::answer(&word[..used]);
+    commands::command(&word[..used]);
     plain::end(plain::DONE);
 }

@@ -9,6 +9,9 @@ pub const REFUSED: u8 = b'1';
 
 pub const WRONG: u8 = b'2';
 
+// What was said could not be written.
+const LOST: u8 = b'3';
+
 // Where the digits are written. A program has no exit status of its own: the script `lyre` makes one of the greatest digit.
 const STATUS: i32 = 9;
 
@@ -19,15 +22,15 @@ pub fn end(digit: u8) {
 }
 
 pub fn write(to: i32, text: &[u8]) {
-    if io::write_all(to, text) {
-        return;
+    if !io::write_all(to, text) {
+        end(LOST);
     }
-    os::fail(b"lyre: output");
-    end(WRONG);
 }
 
 pub fn write_number(to: i32, n: usize) {
-    io::print_decimal(to, n as u64);
+    if !io::print_decimal(to, n as u64) {
+        end(LOST);
+    }
 }
 
 pub fn say(text: &[u8]) {

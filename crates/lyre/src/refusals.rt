@@ -102,12 +102,12 @@ fn tell_bad(f: &[u8], at: usize, n: usize)
     requires { ⌜ at ≤ length (now f) ⌝ }
 {
     let b = format_buffer::texts::bounds_at(f, at);
-    tell(b"  ");
-    write_element(STDERR_FILENO, f, at, b.end, n);
     let piece = format_buffer::pieces::piece_at(f, b.first, b.last);
+    tell(b"  ");
     if let Piece::Element(_) = piece {
-        tell(b"  or what follows it\n");
+        tell(b"what follows ");
     }
+    write_element(STDERR_FILENO, f, at, b.end, n);
 }
 
 // The first element whose syntax is bad.

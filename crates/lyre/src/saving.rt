@@ -5,8 +5,6 @@ use crate::words;
 ghost use Prim.Native.Nat.{_+_, _≤_};
 ghost use lib.ListN.{length};
 
-const NEW: [u8; 4] = *b".new";
-
 // The room for a path, which leaves enough for the new file's.
 const PATH: usize = 4000;
 
@@ -23,12 +21,8 @@ fn is_special(path: &[u8]) -> bool {
     false
 }
 
-// Makes the new file; whether it is whole.
-fn make(path: &[u8], record: &[u8]) -> bool {
-    let fd = os::create(path);
-    if fd < 0 {
-        return false;
-    }
+// Writes a new file; whether it is whole.
+fn fill(fd: i32, record: &[u8]) -> bool {
     let written = io::write_all(fd, record);
     let kept = libc::fsync(fd);
     let closed = libc::close(fd);
@@ -40,11 +34,8 @@ fn make(path: &[u8], record: &[u8]) -> bool {
     false
 }
 
-fn replace(new: &[u8], path: &[u8], record: &[u8]) {
-    if !make(new, record) {
-        failed(new);
-        return;
-    }
+// The new file takes the place of the old one, or goes away again.
+fn put_in_place(new: &[u8], path: &[u8], record: &[u8]) {
     if os::rename(new, path) != 0 {
         failed(path);
         os::unlink(new);
@@ -56,7 +47,21 @@ fn replace(new: &[u8], path: &[u8], record: &[u8]) {
     plain::say(b"\n");
 }
 
-pub fn save(path: &[u8], record: &[u8]) {
+fn replace(new: &[u8], path: &[u8], record: &[u8]) {
+    let fd = os::create(new);
+    if fd < 0 {
+        failed(new);
+        return;
+    }
+    if fill(fd, record) {
+        put_in_place(new, path, record);
+        return;
+    }
+    failed(new);
+    os::unlink(new);
+}
+
+fn save(path: &[u8], record: &[u8]) {
     if is_special(path) {
         plain::complain(
             path,
@@ -79,8 +84,7 @@ pub fn save(path: &[u8], record: &[u8]) {
 // Hexadecimal to standard output; or, where word i is `-o`, to the file that the next word names.
 pub fn give(record: &[u8], i: usize) {
     if os::arg_count() <= i {
-        hexadecimal::say_bytes(record);
-        plain::say(b"\n");
+        hexadecimal::say_line(record);
         return;
     }
     let mut name = io::buffer();

@@ -67,11 +67,17 @@ fn say_entry(t: &[u8], i: usize)
     say_what(t, i);
 }
 
-pub fn say_table(t: &[u8])
+fn say_table(t: &[u8])
     requires { ⌜ Valid (now t) ⌝ }
 {
     let n = tables::count(t);
     for i in 0..n {
         say_entry(t, i);
+    }
+}
+
+pub fn show(t: &[u8]) {
+    if tables::valid(t) {
+        say_table(t);
     }
 }

@@ -30,6 +30,16 @@ pub fn is(i: usize, text: &[u8]) -> bool {
     same(&area[..used], text)
 }
 
+// No word at all, where none is asked for.
+pub fn nothing(area: &[u8]) -> Given
+    ensures { λ r. ⌜ Counts (r .used) (now (area .entry)) ⌝ }
+{
+    Given {
+        good: true,
+        used: 0,
+    }
+}
+
 // Word i, as it is.
 pub fn word(i: usize, area: &mut [u8]) -> Given
     ensures { λ r. ⌜ Counts (r .used) (now (area .exit)) ⌝ }
