@@ -1,0 +1,29 @@
+-- `lyre::asking::read` meets its contract: what the service writes lies in the room.
+use borrow.Author.Needs.{needs}
+use mathlib.Core.Path.{ap}
+use native.Mathlib.Omega.{arith}
+use lib.ListN.{length, length-append, length-drop}
+use Rattle.io.proofs.Counting.{counts}
+use borrow.Author.Needs.{needs}
+use Rattle.lyre.proofs.asking.read.Statement.{statement}
+use Rattle.lyre.proofs.asking.read.Tie as tie
+
+read-requires : tie.Need-read-requires
+read-requires c κs = search needs
+
+number-requires : tie.Need-number-requires
+number-requires c κs = search needs
+
+length-requires : tie.Need-length-requires
+length-requires c κs = search needs
+
+same-length : tie.Need-same-length
+same-length c = search needs
+
+returns : tie.Need-returns
+returns c =
+    let s = c .before .before .before .before .read .ensures in
+    counts _ _ (omega (arith, same-length c, c .length .ensures, s .size-is, simp (length-append, length-drop) at (ap length (s .bytes-are))))
+
+pub read-spec : {M : Type 1} → statement M
+read-spec = tie.close (tie.spec read-requires number-requires length-requires same-length returns)

@@ -1,0 +1,124 @@
+// The services, asked by one function.
+use rules::Refusal;
+use uses::Index;
+use uses::kept;
+use uses::kept::Decoded;
+ghost use mathlib.Core.Path.{_≡_};
+ghost use Prim.Native.Nat.{_≤_};
+ghost use lib.ListN.{length};
+ghost use Rattle.io.specs.Counts.{Counts};
+ghost use Rattle.rules.specs.Limits.{longest-format};
+ghost use Rattle.tables.specs.Entries.{Valid};
+
+// What is asked for: the services, and whether a format, a table or a record is good by itself.
+pub enum Service {
+    Read,
+    Update,
+    Empty,
+    Explain,
+    Table,
+    Record,
+}
+
+// The number that is returned, and how many bytes stand at the front of the room.
+pub struct Answered {
+    pub number: u8,
+    pub used: usize,
+}
+
+// What the longest format takes: ten numbers for each element, of three bytes at least.
+pub const KEPT: usize = 6830;
+
+pub fn read(t: &[u8], record: &[u8], f: &[u8], room: &mut [u8]) -> Answered
+    ensures { λ r. ⌜ Counts (r .used) (now (room .exit)) ⌝ }
+{
+    let answer = lyrecanyon::read(t, record, f, room);
+    Answered {
+        number: answer.number(),
+        used: answer.length(),
+    }
+}
+
+fn update(t: &[u8], record: &[u8], f: &[u8], values: &[u8], room: &mut [u8]) -> Answered
+    ensures { λ r. ⌜ Counts (r .used) (now (room .exit)) ⌝ }
+{
+    let answer = lyrecanyon::update(t, record, f, values, room);
+    Answered {
+        number: answer.number(),
+        used: answer.length(),
+    }
+}
+
+fn empty(t: &[u8], room: &mut [u8]) -> Answered
+    ensures { λ r. ⌜ Counts (r .used) (now (room .exit)) ⌝ }
+{
+    let answer = lyrecanyon::empty(t, room);
+    Answered {
+        number: answer.number(),
+        used: answer.length(),
+    }
+}
+
+fn by_number(number: u8) -> Answered
+    ensures { λ r. ⌜ r .used ≡ 0 ⌝ }
+{
+    Answered { number, used: 0 }
+}
+
+// The number of a table by itself.
+fn check_table(t: &[u8]) -> u8 {
+    if tables::valid(t) {
+        return 0;
+    }
+    rules::refusal_number(Refusal::BadTable)
+}
+
+// The number of a record: a read with no format at all is refused with 3, unless the table or the record is refused before that.
+fn check_record(t: &[u8], record: &[u8], room: &mut [u8]) -> u8 {
+    let a = read(t, record, b"", room);
+    if a.number < 3 {
+        return a.number;
+    }
+    0
+}
+
+// The number of a format by a valid table.
+fn explain_format(t: &[u8], f: &[u8]) -> u8
+    requires { ⌜ Valid (now t) × (length (now f) ≤ longest-format) ⌝ }
+{
+    let mut uses: [Index; KEPT] = [0; KEPT];
+    match kept::decode(t, f, &mut uses) {
+        Decoded::Uses(_) => 0,
+        Decoded::Refused(x) => rules::refusal_number(x),
+    }
+}
+
+fn explain(t: &[u8], f: &[u8]) -> u8 {
+    if tables::valid(t) {
+        if f.len() <= rules::LONGEST_FORMAT {
+            return explain_format(t, f);
+        }
+        return rules::refusal_number(Refusal::BadSyntax);
+    }
+    rules::refusal_number(Refusal::BadTable)
+}
+
+pub fn ask(
+    service: Service,
+    t: &[u8],
+    record: &[u8],
+    f: &[u8],
+    values: &[u8],
+    room: &mut [u8],
+) -> Answered
+    ensures { λ r. ⌜ Counts (r .used) (now (room .exit)) ⌝ }
+{
+    match service {
+        Service::Read => read(t, record, f, room),
+        Service::Update => update(t, record, f, values, room),
+        Service::Empty => empty(t, room),
+        Service::Explain => by_number(explain(t, f)),
+        Service::Table => by_number(check_table(t)),
+        Service::Record => by_number(check_record(t, record, room)),
+    }
+}

@@ -1,0 +1,82 @@
+// The help, and what is said where the words of a command are not right.
+use crate::asking::Service;
+use crate::plain;
+use crate::words::same;
+
+// What the words of a command would be.
+pub fn tell_use(service: Service) {
+    match service {
+        Service::Read => {
+            plain::complain(
+                b"read takes a table, a record and a format: ",
+                b"lyre read TABLE RECORD 'AA,AB.'",
+            );
+        }
+        Service::Update => {
+            plain::complain(
+                b"update takes a table, a record, a format and values: ",
+                b"lyre update TABLE RECORD 'MF1.' F5F0 [-o OUT]",
+            );
+        }
+        Service::Empty => {
+            plain::complain(b"empty takes a table: ", b"lyre empty TABLE [-o OUT]");
+        }
+        Service::Explain => {
+            plain::complain(
+                b"explain takes a table and a format: ",
+                b"lyre explain TABLE 'AA,AB.'",
+            );
+        }
+        _ => {
+            plain::complain(
+                b"show takes a table, and a record or none: ",
+                b"lyre show TABLE [RECORD]",
+            );
+        }
+    }
+}
+
+fn say_help() {
+    plain::say(b"lyre answers calls on job records.\n\n");
+    plain::say(
+        b"  lyre read TABLE RECORD FORMAT                  the items of a read in hexadecimal, and each in plain words\n",
+    );
+    plain::say(
+        b"  lyre update TABLE RECORD FORMAT HEX [-o OUT]   the record with the values HEX stored\n",
+    );
+    plain::say(b"  lyre empty TABLE [-o OUT]                      the empty record of a table\n");
+    plain::say(
+        b"  lyre show TABLE [RECORD]                       a table as a list, or a record field by field\n",
+    );
+    plain::say(
+        b"  lyre explain TABLE FORMAT                      what each element of a format names\n\n",
+    );
+    plain::say(
+        b"TABLE and RECORD are files, - is standard input. A file is binary where its first byte is E5; any other has\n",
+    );
+    plain::say(
+        b"hexadecimal digits in pairs, with blanks and line ends between them. FORMAT is text, as 'AA,MF1-3,AB,5,U.'; HEX is\n",
+    );
+    plain::say(
+        b"digits in pairs. A record is written in hexadecimal, or in binary to the file OUT, which a refusal leaves as it is.\n\n",
+    );
+    plain::say(
+        b"Exit status: 0 done, 1 refused, 2 wrong use or a file that cannot be read or written.\n",
+    );
+}
+
+// The word `help` or none; any other is no command.
+pub fn help(word: &[u8]) {
+    if os::arg_count() < 2 {
+        say_help();
+        return;
+    }
+    if same(word, b"help") {
+        say_help();
+        return;
+    }
+    plain::complain(
+        b"this is no command: ",
+        b"use read, update, empty, show, explain or help",
+    );
+}

@@ -1,0 +1,78 @@
+// What is said, to standard output or to standard error, and how the call ended.
+
+ghost use Prim.Native.Nat.{_<_};
+
+// How a call ended, as a digit.
+pub const DONE: u8 = b'0';
+
+pub const REFUSED: u8 = b'1';
+
+pub const WRONG: u8 = b'2';
+
+// What was said could not be written.
+const LOST: u8 = b'3';
+
+// Where the digits are written. A program has no exit status of its own: the script `lyre` makes one of the greatest digit.
+const STATUS: i32 = 9;
+
+const BLANKS: [u8; 16] = [b' '; 16];
+
+pub fn end(digit: u8) {
+    io::write_all(STATUS, &[digit]);
+}
+
+pub fn write(to: i32, text: &[u8]) {
+    if !io::write_all(to, text) {
+        end(LOST);
+    }
+}
+
+pub fn write_number(to: i32, n: usize) {
+    if !io::print_decimal(to, n as u64) {
+        end(LOST);
+    }
+}
+
+pub fn say(text: &[u8]) {
+    write(libc::STDOUT_FILENO, text);
+}
+
+pub fn say_number(n: usize) {
+    write_number(libc::STDOUT_FILENO, n);
+}
+
+// A number and what it counts: `1 byte`, `2 bytes`.
+pub fn say_counted(n: usize, one: &[u8]) {
+    say_number(n);
+    say(b" ");
+    say(one);
+    if n != 1 {
+        say(b"s");
+    }
+}
+
+pub fn wide(b: u8) -> usize
+    ensures { λ r. ⌜ r < 256 ⌝ }
+{
+    b as usize
+}
+
+// The blanks before a line of a level: two for each level after the first.
+pub fn indent(level: u8) {
+    let blanks = BLANKS;
+    let n = 2 * wide(level);
+    if 2 <= n {
+        if n <= 16 {
+            say(&blanks[2..n]);
+        }
+    }
+}
+
+// A message on wrong use, in two parts.
+pub fn complain(what: &[u8], why: &[u8]) {
+    write(libc::STDERR_FILENO, b"lyre: ");
+    write(libc::STDERR_FILENO, what);
+    write(libc::STDERR_FILENO, why);
+    write(libc::STDERR_FILENO, b"\n");
+    end(WRONG);
+}

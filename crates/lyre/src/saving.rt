@@ -1,0 +1,96 @@
+// A new record to standard output, or to a file: as a new file that takes the place of the old one once it is whole.
+use crate::hexadecimal;
+use crate::plain;
+use crate::words;
+ghost use Prim.Native.Nat.{_+_, _≤_};
+ghost use lib.ListN.{length};
+
+// The room for a path, which leaves enough for the new file's.
+const PATH: usize = 4000;
+
+fn failed(path: &[u8]) {
+    os::fail(path);
+    plain::complain(path, b" cannot be written, and nothing was changed");
+}
+
+// Devices and the like cannot be replaced by a file.
+fn is_special(path: &[u8]) -> bool {
+    if 5 <= path.len() {
+        return buffer::stands_at(path, 0, b"/dev/");
+    }
+    false
+}
+
+// Writes a new file; whether it is whole.
+fn fill(fd: i32, record: &[u8]) -> bool {
+    let written = io::write_all(fd, record);
+    let kept = libc::fsync(fd);
+    let closed = libc::close(fd);
+    if written {
+        if kept == 0 {
+            return closed == 0;
+        }
+    }
+    false
+}
+
+// The new file takes the place of the old one, or goes away again.
+fn put_in_place(new: &[u8], path: &[u8], record: &[u8]) {
+    if os::rename(new, path) != 0 {
+        failed(path);
+        os::unlink(new);
+        return;
+    }
+    plain::say_counted(record.len(), b"byte");
+    plain::say(b" written to ");
+    plain::say(path);
+    plain::say(b"\n");
+}
+
+fn replace(new: &[u8], path: &[u8], record: &[u8]) {
+    let fd = os::create(new);
+    if fd < 0 {
+        failed(new);
+        return;
+    }
+    if fill(fd, record) {
+        put_in_place(new, path, record);
+        return;
+    }
+    failed(new);
+    os::unlink(new);
+}
+
+fn save(path: &[u8], record: &[u8]) {
+    if is_special(path) {
+        plain::complain(
+            path,
+            b" is not a file: leave -o out for hexadecimal on standard output",
+        );
+        return;
+    }
+    let mut new = io::buffer();
+    let end = path.len();
+    if end <= PATH {
+        buffer::put(path, &mut new, 0);
+        buffer::put(b".new", &mut new, end);
+        let whole = end + 4;
+        replace(&new[..whole], path, record);
+        return;
+    }
+    plain::complain(b"the name of a file is too long", b"");
+}
+
+// Hexadecimal to standard output; or, where word i is `-o`, to the file that the next word names.
+pub fn give(record: &[u8], i: usize) {
+    if os::arg_count() <= i {
+        hexadecimal::say_line(record);
+        return;
+    }
+    let mut name = io::buffer();
+    let given = words::word(i + 1, &mut name);
+    let used = given.used;
+    if given.good {
+        save(&name[..used], record);
+    }
+}

@@ -1,0 +1,196 @@
+// The words of the command line, and the files that they name, each into an area.
+use crate::hexadecimal;
+use crate::letters;
+use crate::plain;
+ghost use Rattle.io.specs.Counts.{Counts};
+ghost use Prim.Native.Nat.{_≤_};
+ghost use lib.ListN.{length};
+
+// The first byte of a table and of a record.
+const HEAD: u8 = 0xE5;
+
+// What a word gave: the bytes at the front of an area. Where it gave nothing good, a message has said so.
+pub struct Given {
+    pub good: bool,
+    pub used: usize,
+}
+
+// Whether a word is this one.
+pub fn same(word: &[u8], text: &[u8]) -> bool {
+    if word.len() == text.len() {
+        return buffer::stands_at(word, 0, text);
+    }
+    false
+}
+
+// Whether word i is this one.
+pub fn is(i: usize, text: &[u8]) -> bool {
+    let mut area = [0u8; 8];
+    let used = os::arg(i, &mut area);
+    same(&area[..used], text)
+}
+
+// No word at all, where none is asked for.
+pub fn nothing(area: &[u8]) -> Given
+    ensures { λ r. ⌜ Counts (r .used) (now (area .entry)) ⌝ }
+{
+    Given {
+        good: true,
+        used: 0,
+    }
+}
+
+// Word i, as it is.
+pub fn word(i: usize, area: &mut [u8]) -> Given
+    ensures { λ r. ⌜ Counts (r .used) (now (area .exit)) ⌝ }
+{
+    let used = os::arg(i, area);
+    if os::errno() == 0 {
+        return Given { good: true, used };
+    }
+    plain::complain(
+        b"a word is too long: ",
+        b"a format has up to 8,192 characters, the values up to 131,072",
+    );
+    Given { good: false, used }
+}
+
+// Each character of a format in EBCDIC, in its place.
+fn translate(area: &mut [u8], used: usize) -> bool
+    requires { ⌜ used ≤ length (now area) ⌝ }
+    ensures { λ _. ⌜ Counts used (now (area .exit)) ⌝ }
+{
+    for i in 0..used {
+        let code = letters::ebcdic_of(area[i]);
+        if code == 0 {
+            return false;
+        }
+        area[i] = code;
+    }
+    true
+}
+
+// Word i, a format.
+pub fn format(i: usize, area: &mut [u8]) -> Given
+    ensures { λ r. ⌜ Counts (r .used) (now (area .exit)) ⌝ }
+{
+    let given = word(i, area);
+    let used = given.used;
+    if given.good {
+        if translate(area, used) {
+            return Given { good: true, used };
+        }
+        plain::complain(
+            b"the format has a character that EBCDIC 037 does not print: ",
+            b"use printable ASCII",
+        );
+    }
+    Given {
+        good: false,
+        used: 0,
+    }
+}
+
+// Word i, bytes in hexadecimal.
+pub fn bytes(i: usize, area: &mut [u8]) -> Given
+    ensures { λ r. ⌜ Counts (r .used) (now (area .exit)) ⌝ }
+{
+    let given = word(i, area);
+    let used = given.used;
+    if given.good {
+        let bytes = hexadecimal::decode(area, used);
+        if bytes.good {
+            return bytes;
+        }
+        plain::complain(
+            b"the values are not hexadecimal: ",
+            b"use pairs of digits, as in 'F5F0 00150F'",
+        );
+    }
+    Given {
+        good: false,
+        used: 0,
+    }
+}
+
+// A file by its name, or standard input by `-`.
+fn open(path: &[u8]) -> i32 {
+    if same(path, b"-") {
+        return libc::STDIN_FILENO;
+    }
+    os::open_read(path)
+}
+
+// What a file holds, as it is.
+fn load(path: &[u8], area: &mut [u8]) -> Given
+    ensures { λ r. ⌜ Counts (r .used) (now (area .exit)) ⌝ }
+{
+    let fd = open(path);
+    if fd < 0 {
+        os::fail(path);
+        plain::complain(
+            path,
+            b" cannot be opened: name a file, or - for standard input",
+        );
+        return Given {
+            good: false,
+            used: 0,
+        };
+    }
+    let used = io::read_full(fd, area);
+    libc::close(fd);
+    if used == 0 {
+        plain::complain(path, b" is empty or cannot be read");
+        return Given {
+            good: false,
+            used: 0,
+        };
+    }
+    if used == area.len() {
+        plain::complain(path, b" is too long: a file has up to 65,535 bytes");
+        return Given {
+            good: false,
+            used: 0,
+        };
+    }
+    Given { good: true, used }
+}
+
+fn is_binary(bytes: &[u8]) -> bool {
+    if bytes.len() == 0 {
+        return false;
+    }
+    bytes[0] == HEAD
+}
+
+// Word i, a file with a table or a record, in binary or in hexadecimal.
+pub fn file(i: usize, area: &mut [u8]) -> Given
+    ensures { λ r. ⌜ Counts (r .used) (now (area .exit)) ⌝ }
+{
+    let mut name = io::buffer();
+    let given = word(i, &mut name);
+    let end = given.used;
+    if !given.good {
+        return Given {
+            good: false,
+            used: 0,
+        };
+    }
+    let path = &name[..end];
+    let given = load(path, area);
+    let used = given.used;
+    if !given.good {
+        return given;
+    }
+    if is_binary(area) {
+        return given;
+    }
+    let bytes = hexadecimal::decode(area, used);
+    if !bytes.good {
+        plain::complain(
+            path,
+            b" is neither binary, with E5 first, nor hexadecimal digits in pairs",
+        );
+    }
+    bytes
+}
