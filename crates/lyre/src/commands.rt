@@ -45,7 +45,7 @@ fn take_record(service: Service, area: &mut [u8]) -> Given
         Service::Read => words::file(3, area),
         Service::Update => words::file(3, area),
         Service::Record => words::file(3, area),
-        _ => words::nothing(area),
+        _ => words::nothing(area, true),
     }
 }
 
@@ -57,7 +57,7 @@ fn take_format(service: Service, area: &mut [u8]) -> Given
         Service::Read => words::format(4, area),
         Service::Update => words::format(4, area),
         Service::Explain => words::format(3, area),
-        _ => words::nothing(area),
+        _ => words::nothing(area, true),
     }
 }
 
@@ -67,7 +67,7 @@ fn take_values(service: Service, area: &mut [u8]) -> Given
 {
     match service {
         Service::Update => words::bytes(5, area),
-        _ => words::nothing(area),
+        _ => words::nothing(area, true),
     }
 }
 

@@ -8,60 +8,42 @@ pub fn tell_use(service: Service) {
     match service {
         Service::Read => {
             plain::complain(
-                b"read takes a table, a record and a format: ",
-                b"lyre read TABLE RECORD 'AA,AB.'",
+                b"read takes a table, a record and a format: lyre read TABLE RECORD 'AA,AB.'",
             );
         }
         Service::Update => {
             plain::complain(
-                b"update takes a table, a record, a format and values: ",
-                b"lyre update TABLE RECORD 'MF1.' F5F0 [-o OUT]",
+                b"update takes a table, a record, a format and values: lyre update TABLE RECORD 'MF1.' F5F0 [-o OUT]",
             );
         }
         Service::Empty => {
-            plain::complain(b"empty takes a table: ", b"lyre empty TABLE [-o OUT]");
+            plain::complain(b"empty takes a table: lyre empty TABLE [-o OUT]");
         }
         Service::Explain => {
-            plain::complain(
-                b"explain takes a table and a format: ",
-                b"lyre explain TABLE 'AA,AB.'",
-            );
+            plain::complain(b"explain takes a table and a format: lyre explain TABLE 'AA,AB.'");
         }
         _ => {
-            plain::complain(
-                b"show takes a table, and a record or none: ",
-                b"lyre show TABLE [RECORD]",
-            );
+            plain::complain(b"show takes a table, and a record or none: lyre show TABLE [RECORD]");
         }
     }
 }
 
 fn say_help() {
-    plain::say(b"lyre answers calls on job records.\n\n");
     plain::say(
-        b"  lyre read TABLE RECORD FORMAT                  the items of a read in hexadecimal, and each in plain words\n",
-    );
-    plain::say(
-        b"  lyre update TABLE RECORD FORMAT HEX [-o OUT]   the record with the values HEX stored\n",
-    );
-    plain::say(b"  lyre empty TABLE [-o OUT]                      the empty record of a table\n");
-    plain::say(
-        b"  lyre show TABLE [RECORD]                       a table as a list, or a record field by field\n",
-    );
-    plain::say(
-        b"  lyre explain TABLE FORMAT                      what each element of a format names\n\n",
-    );
-    plain::say(
-        b"TABLE and RECORD are files, - is standard input. A file is binary where its first byte is E5; any other has\n",
-    );
-    plain::say(
-        b"hexadecimal digits in pairs, with blanks and line ends between them. FORMAT is text, as 'AA,MF1-3,AB,5,U.'; HEX is\n",
-    );
-    plain::say(
-        b"digits in pairs. A record is written in hexadecimal, or in binary to the file OUT, which a refusal leaves as it is.\n\n",
-    );
-    plain::say(
-        b"Exit status: 0 done, 1 refused, 2 wrong use or a file that cannot be read or written.\n",
+        b"lyre answers calls on job records.
+
+  lyre read TABLE RECORD FORMAT                  the items of a read in hexadecimal, and each in plain words
+  lyre update TABLE RECORD FORMAT HEX [-o OUT]   the record with the values HEX stored
+  lyre empty TABLE [-o OUT]                      the empty record of a table
+  lyre show TABLE [RECORD]                       a table as a list, or a record field by field
+  lyre explain TABLE FORMAT                      what each element of a format names
+
+TABLE and RECORD are files, - is standard input. A file is binary where its first byte is E5; any other has hexadecimal digits in
+pairs, with blanks and line ends between them. FORMAT is text, as 'AA,MF1-3,AB,5,U.'; HEX is digits in pairs. A record is written
+in hexadecimal, or in binary to the file OUT, which a refusal leaves as it was.
+
+Exit status: 0 done, 1 refused, 2 wrong use or a file that cannot be read or written.
+",
     );
 }
 
@@ -75,8 +57,5 @@ pub fn help(word: &[u8]) {
         say_help();
         return;
     }
-    plain::complain(
-        b"this is no command: ",
-        b"use read, update, empty, show, explain or help",
-    );
+    plain::complain(b"this is no command: use read, update, empty, show, explain or help");
 }

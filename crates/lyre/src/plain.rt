@@ -68,11 +68,21 @@ pub fn indent(level: u8) {
     }
 }
 
-// A message on wrong use, in two parts.
-pub fn complain(what: &[u8], why: &[u8]) {
-    write(libc::STDERR_FILENO, b"lyre: ");
-    write(libc::STDERR_FILENO, what);
-    write(libc::STDERR_FILENO, why);
+fn complain_after(text: &[u8]) {
+    write(libc::STDERR_FILENO, text);
     write(libc::STDERR_FILENO, b"\n");
     end(WRONG);
+}
+
+// What is wrong with the words of a command.
+pub fn complain(text: &[u8]) {
+    write(libc::STDERR_FILENO, b"lyre: ");
+    complain_after(text);
+}
+
+// What is wrong with a file.
+pub fn complain_of(path: &[u8], text: &[u8]) {
+    write(libc::STDERR_FILENO, b"lyre: ");
+    write(libc::STDERR_FILENO, path);
+    complain_after(text);
 }

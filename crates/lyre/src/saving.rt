@@ -10,7 +10,7 @@ const PATH: usize = 4000;
 
 fn failed(path: &[u8]) {
     os::fail(path);
-    plain::complain(path, b" cannot be written, and nothing was changed");
+    plain::complain_of(path, b" cannot be written, and nothing was changed");
 }
 
 // Devices and the like cannot be replaced by a file.
@@ -63,7 +63,7 @@ fn replace(new: &[u8], path: &[u8], record: &[u8]) {
 
 fn save(path: &[u8], record: &[u8]) {
     if is_special(path) {
-        plain::complain(
+        plain::complain_of(
             path,
             b" is not a file: leave -o out for hexadecimal on standard output",
         );
@@ -78,7 +78,7 @@ fn save(path: &[u8], record: &[u8]) {
         replace(&new[..whole], path, record);
         return;
     }
-    plain::complain(b"the name of a file is too long", b"");
+    plain::complain(b"the name of a file is too long");
 }
 
 // Hexadecimal to standard output; or, where word i is `-o`, to the file that the next word names.

@@ -30,14 +30,11 @@ pub fn is(i: usize, text: &[u8]) -> bool {
     same(&area[..used], text)
 }
 
-// No word at all, where none is asked for.
-pub fn nothing(area: &[u8]) -> Given
+// No bytes: none were asked for, or a message has said what is wrong.
+pub fn nothing(area: &[u8], good: bool) -> Given
     ensures { λ r. ⌜ Counts (r .used) (now (area .entry)) ⌝ }
 {
-    Given {
-        good: true,
-        used: 0,
-    }
+    Given { good, used: 0 }
 }
 
 // Word i, as it is.
@@ -49,10 +46,9 @@ pub fn word(i: usize, area: &mut [u8]) -> Given
         return Given { good: true, used };
     }
     plain::complain(
-        b"a word is too long: ",
-        b"a format has up to 8,192 characters, the values up to 131,072",
+        b"a word is too long: a format has up to 8,192 characters, the values up to 131,072",
     );
-    Given { good: false, used }
+    nothing(area, false)
 }
 
 // Each character of a format in EBCDIC, in its place.
@@ -76,19 +72,16 @@ pub fn format(i: usize, area: &mut [u8]) -> Given
 {
     let given = word(i, area);
     let used = given.used;
-    if given.good {
-        if translate(area, used) {
-            return Given { good: true, used };
-        }
-        plain::complain(
-            b"the format has a character that EBCDIC 037 does not print: ",
-            b"use printable ASCII",
-        );
+    if !given.good {
+        return nothing(area, false);
     }
-    Given {
-        good: false,
-        used: 0,
+    if translate(area, used) {
+        return Given { good: true, used };
     }
+    plain::complain(
+        b"the format has a character that EBCDIC 037 does not print: use printable ASCII",
+    );
+    nothing(area, false)
 }
 
 // Word i, bytes in hexadecimal.
@@ -97,20 +90,16 @@ pub fn bytes(i: usize, area: &mut [u8]) -> Given
 {
     let given = word(i, area);
     let used = given.used;
-    if given.good {
-        let bytes = hexadecimal::decode(area, used);
-        if bytes.good {
-            return bytes;
-        }
+    if !given.good {
+        return nothing(area, false);
+    }
+    let bytes = hexadecimal::decode(area, used);
+    if !bytes.good {
         plain::complain(
-            b"the values are not hexadecimal: ",
-            b"use pairs of digits, as in 'F5F0 00150F'",
+            b"the values are not hexadecimal: use pairs of digits, as in 'F5F0 00150F'",
         );
     }
-    Given {
-        good: false,
-        used: 0,
-    }
+    bytes
 }
 
 // A file by its name, or standard input by `-`.
@@ -128,30 +117,21 @@ fn load(path: &[u8], area: &mut [u8]) -> Given
     let fd = open(path);
     if fd < 0 {
         os::fail(path);
-        plain::complain(
+        plain::complain_of(
             path,
             b" cannot be opened: name a file, or - for standard input",
         );
-        return Given {
-            good: false,
-            used: 0,
-        };
+        return nothing(area, false);
     }
     let used = io::read_full(fd, area);
     libc::close(fd);
     if used == 0 {
-        plain::complain(path, b" is empty or cannot be read");
-        return Given {
-            good: false,
-            used: 0,
-        };
+        plain::complain_of(path, b" is empty or cannot be read");
+        return nothing(area, false);
     }
     if used == area.len() {
-        plain::complain(path, b" is too long: a file has up to 65,535 bytes");
-        return Given {
-            good: false,
-            used: 0,
-        };
+        plain::complain_of(path, b" is too long: a file has up to 65,535 bytes");
+        return nothing(area, false);
     }
     Given { good: true, used }
 }
@@ -171,10 +151,7 @@ pub fn file(i: usize, area: &mut [u8]) -> Given
     let given = word(i, &mut name);
     let end = given.used;
     if !given.good {
-        return Given {
-            good: false,
-            used: 0,
-        };
+        return nothing(area, false);
     }
     let path = &name[..end];
     let given = load(path, area);
@@ -187,7 +164,7 @@ pub fn file(i: usize, area: &mut [u8]) -> Given
     }
     let bytes = hexadecimal::decode(area, used);
     if !bytes.good {
-        plain::complain(
+        plain::complain_of(
             path,
             b" is neither binary, with E5 first, nor hexadecimal digits in pairs",
         );

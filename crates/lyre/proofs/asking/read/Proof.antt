@@ -4,18 +4,8 @@ use mathlib.Core.Path.{ap}
 use native.Mathlib.Omega.{arith}
 use lib.ListN.{length, length-append, length-drop}
 use Rattle.io.proofs.Counting.{counts}
-use borrow.Author.Needs.{needs}
 use Rattle.lyre.proofs.asking.read.Statement.{statement}
 use Rattle.lyre.proofs.asking.read.Tie as tie
-
-read-requires : tie.Need-read-requires
-read-requires c κs = search needs
-
-number-requires : tie.Need-number-requires
-number-requires c κs = search needs
-
-length-requires : tie.Need-length-requires
-length-requires c κs = search needs
 
 same-length : tie.Need-same-length
 same-length c = search needs
@@ -26,4 +16,6 @@ returns c =
     counts _ _ (omega (arith, same-length c, c .length .ensures, s .size-is, simp (length-append, length-drop) at (ap length (s .bytes-are))))
 
 pub read-spec : {M : Type 1} → statement M
-read-spec = tie.close (tie.spec read-requires number-requires length-requires same-length returns)
+read-spec =
+    tie.close
+    (tie.spec (λ c κs. search needs) (λ c κs. search needs) (λ c κs. search needs) same-length returns)

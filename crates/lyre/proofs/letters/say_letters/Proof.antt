@@ -12,37 +12,8 @@ Inv-loop text i₀ i-end i = (i ≤ i-end) × (i-end ≡ length text)
 abbrev μ-loop : tie.MeasureT-loop
 μ-loop text i₀ i-end i = i-end - i
 
-loop-holds : tie.Need-loop-holds Inv-loop μ-loop
-loop-holds c = search needs
-
-shared-slice-read-say-letter : tie.Need-shared-slice-read-say-letter Inv-loop μ-loop
-shared-slice-read-say-letter c = search needs
-
-say-letter-requires : tie.Need-say-letter-requires Inv-loop μ-loop
-say-letter-requires c κs = search needs
-
-add-i : tie.Need-add-i Inv-loop μ-loop
-add-i c = search needs
-
-loop-less : tie.Need-loop-less Inv-loop μ-loop
-loop-less c = search needs
-
-loop-again : tie.Need-loop-again Inv-loop μ-loop
-loop-again c = search needs
-
-returns : tie.Need-returns Inv-loop μ-loop
-returns c = search needs
-
 pub say-letters-spec : {M : Type 1} → statement M
 say-letters-spec =
     tie.close
-    (tie.spec
-    Inv-loop
-    μ-loop
-    loop-holds
-    shared-slice-read-say-letter
-    say-letter-requires
-    add-i
-    loop-less
-    loop-again
-    returns)
+    (tie.spec Inv-loop μ-loop (λ c. search needs) (λ c. search needs) (λ c κs. search needs) (λ c. search needs) (λ c. search needs)
+    (λ c. search needs) (λ c. search needs))

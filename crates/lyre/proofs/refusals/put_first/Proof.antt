@@ -3,7 +3,6 @@ use borrow.Author.Needs.{needs}
 use native.Mathlib.Omega.{arith}
 use lib.ListN.{length-take}
 use Rattle.io.proofs.Counting.{counts}
-use borrow.Author.Needs.{needs}
 use Rattle.lyre.proofs.refusals.put_first.Statement.{statement}
 use Rattle.lyre.proofs.refusals.put_first.Tie as tie
 
@@ -12,12 +11,6 @@ slice-aggregate-put c = simp length-take (omega arith)
 
 put-requires : tie.Need-put-requires
 put-requires c κs = omega (arith, slice-aggregate-put (c .before))
-
-slice-write-area : tie.Need-slice-write-area
-slice-write-area c = search needs
-
-add-result : tie.Need-add-result
-add-result c = search needs
 
 same-length : tie.Need-same-length
 same-length c = search needs
@@ -28,4 +21,4 @@ returns c = counts _ _ (omega (arith, same-length c))
 pub put-first-spec : {M : Type 1} → statement M
 put-first-spec =
     tie.close
-    (tie.spec slice-aggregate-put put-requires slice-write-area add-result same-length returns)
+    (tie.spec slice-aggregate-put put-requires (λ c. search needs) (λ c. search needs) same-length returns)
