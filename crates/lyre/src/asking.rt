@@ -21,7 +21,7 @@ pub enum Service {
 }
 
 // The number that is returned, and how many bytes stand at the front of the room.
-pub struct Answered {
+pub struct Reply {
     pub number: u8,
     pub used: usize,
 }
@@ -29,40 +29,40 @@ pub struct Answered {
 // What the longest format takes: ten numbers for each element, of three bytes at least.
 pub const KEPT: usize = 6830;
 
-pub fn read(t: &[u8], record: &[u8], f: &[u8], room: &mut [u8]) -> Answered
+pub fn read(t: &[u8], record: &[u8], f: &[u8], room: &mut [u8]) -> Reply
     ensures { λ r. ⌜ Counts (r .used) (now (room .exit)) ⌝ }
 {
     let answer = lyrecanyon::read(t, record, f, room);
-    Answered {
+    Reply {
         number: answer.number(),
         used: answer.length(),
     }
 }
 
-fn update(t: &[u8], record: &[u8], f: &[u8], values: &[u8], room: &mut [u8]) -> Answered
+fn update(t: &[u8], record: &[u8], f: &[u8], values: &[u8], room: &mut [u8]) -> Reply
     ensures { λ r. ⌜ Counts (r .used) (now (room .exit)) ⌝ }
 {
     let answer = lyrecanyon::update(t, record, f, values, room);
-    Answered {
+    Reply {
         number: answer.number(),
         used: answer.length(),
     }
 }
 
-fn empty(t: &[u8], room: &mut [u8]) -> Answered
+fn empty(t: &[u8], room: &mut [u8]) -> Reply
     ensures { λ r. ⌜ Counts (r .used) (now (room .exit)) ⌝ }
 {
     let answer = lyrecanyon::empty(t, room);
-    Answered {
+    Reply {
         number: answer.number(),
         used: answer.length(),
     }
 }
 
-fn by_number(number: u8) -> Answered
+fn by_number(number: u8) -> Reply
     ensures { λ r. ⌜ r .used ≡ 0 ⌝ }
 {
-    Answered { number, used: 0 }
+    Reply { number, used: 0 }
 }
 
 // The number of a table by itself.
@@ -110,7 +110,7 @@ pub fn ask(
     f: &[u8],
     values: &[u8],
     room: &mut [u8],
-) -> Answered
+) -> Reply
     ensures { λ r. ⌜ Counts (r .used) (now (room .exit)) ⌝ }
 {
     match service {

@@ -10,7 +10,7 @@ use crate::refusals;
 use crate::saving;
 use crate::tables_shown;
 use crate::words;
-use crate::words::Given;
+use crate::words::Input;
 use crate::words::same;
 ghost use Rattle.io.specs.Counts.{Counts};
 
@@ -38,7 +38,7 @@ fn has_file(words: usize, more: usize) -> bool {
 }
 
 // The record, where the service takes one.
-fn take_record(service: Service, area: &mut [u8]) -> Given
+fn take_record(service: Service, area: &mut [u8]) -> Input
     ensures { λ r. ⌜ Counts (r .used) (now (area .exit)) ⌝ }
 {
     match service {
@@ -50,7 +50,7 @@ fn take_record(service: Service, area: &mut [u8]) -> Given
 }
 
 // The format, where the service takes one.
-fn take_format(service: Service, area: &mut [u8]) -> Given
+fn take_format(service: Service, area: &mut [u8]) -> Input
     ensures { λ r. ⌜ Counts (r .used) (now (area .exit)) ⌝ }
 {
     match service {
@@ -62,7 +62,7 @@ fn take_format(service: Service, area: &mut [u8]) -> Given
 }
 
 // The values, which an update takes.
-fn take_values(service: Service, area: &mut [u8]) -> Given
+fn take_values(service: Service, area: &mut [u8]) -> Input
     ensures { λ r. ⌜ Counts (r .used) (now (area .exit)) ⌝ }
 {
     match service {

@@ -1,6 +1,6 @@
 // Bytes as pairs of hexadecimal digits.
 use crate::plain;
-use crate::words::Given;
+use crate::words::Input;
 ghost use Rattle.io.specs.Counts.{Counts};
 ghost use Prim.Native.Nat.{_+_, _≤_, _<_};
 ghost use lib.ListN.{length};
@@ -49,7 +49,7 @@ fn is_blank(c: u8) -> bool {
 }
 
 // What stands at a place: a pair of digits, which makes a byte, or a blank, which makes none; or neither.
-struct Taken {
+struct Pair {
     good: bool,
     byte: u8,
     made: usize,
@@ -57,14 +57,14 @@ struct Taken {
 }
 
 // What stands at a place of the text that ends at another.
-fn take(text: &[u8], at: usize, end: usize) -> Taken
+fn take(text: &[u8], at: usize, end: usize) -> Pair
     requires { ⌜ (at < end) × (end ≤ length (now text)) ⌝ }
     ensures { λ r. ⌜ (at < r .next) × (r .next ≤ end) × (r .made ≤ 1) ⌝ }
 {
     let after = at + 1;
     let high = digit(text[at]);
     if is_blank(text[at]) {
-        return Taken {
+        return Pair {
             good: true,
             byte: 0,
             made: 0,
@@ -75,7 +75,7 @@ fn take(text: &[u8], at: usize, end: usize) -> Taken
         let low = digit(text[after]);
         if high < NONE {
             if low < NONE {
-                return Taken {
+                return Pair {
                     good: true,
                     byte: high * 16 + low,
                     made: 1,
@@ -84,7 +84,7 @@ fn take(text: &[u8], at: usize, end: usize) -> Taken
             }
         }
     }
-    Taken {
+    Pair {
         good: false,
         byte: 0,
         made: 0,
@@ -93,7 +93,7 @@ fn take(text: &[u8], at: usize, end: usize) -> Taken
 }
 
 // The bytes that the first `used` characters of an area spell, to its front: digits in pairs, with blanks and line ends between them.
-pub fn decode(area: &mut [u8], used: usize) -> Given
+pub fn decode(area: &mut [u8], used: usize) -> Input
     requires { ⌜ used ≤ length (now area) ⌝ }
     ensures { λ r. ⌜ Counts (r .used) (now (area .exit)) ⌝ }
 {
@@ -102,7 +102,7 @@ pub fn decode(area: &mut [u8], used: usize) -> Given
     while at < used {
         let taken = take(area, at, used);
         if !taken.good {
-            return Given {
+            return Input {
                 good: false,
                 used: 0,
             };
@@ -111,7 +111,7 @@ pub fn decode(area: &mut [u8], used: usize) -> Given
         made += taken.made;
         at = taken.next;
     }
-    Given {
+    Input {
         good: true,
         used: made,
     }

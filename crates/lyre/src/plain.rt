@@ -1,5 +1,4 @@
 // What is said, to standard output or to standard error, and how the call ended.
-
 ghost use Prim.Native.Nat.{_<_};
 
 // How a call ended, as a digit.

@@ -195,27 +195,21 @@ fn tell_element(service: Service, t: &[u8], record: &[u8], f: &[u8], values: &[u
     }
 }
 
-// The services refuse a longer format with 3.
-fn tell_named(service: Service, t: &[u8], record: &[u8], f: &[u8], values: &[u8], number: u8) {
-    if f.len() <= rules::LONGEST_FORMAT {
-        tell_element(service, t, record, f, values, number);
-    }
-}
-
-// Refusals 3 to 9 are about an element.
+// Refusals 3 to 9 are about an element. A format that is too long is refused with 3.
 pub fn refuse(service: Service, t: &[u8], record: &[u8], f: &[u8], values: &[u8], number: u8) {
     tell(b"refused with ");
     plain::write_number(STDERR_FILENO, number as usize);
     tell(b": ");
     tell_meaning(number);
     plain::end(plain::REFUSED);
-    if number == 3 {
-        tell_syntax(f);
-        return;
-    }
     match number {
+        3 => {
+            tell_syntax(f);
+        }
         4..=9 => {
-            tell_named(service, t, record, f, values, number);
+            if f.len() <= rules::LONGEST_FORMAT {
+                tell_element(service, t, record, f, values, number);
+            }
         }
         _ => {
             return;

@@ -10,7 +10,7 @@ ghost use lib.ListN.{length};
 const HEAD: u8 = 0xE5;
 
 // What a word gave: the bytes at the front of an area. Where it gave nothing good, a message has said so.
-pub struct Given {
+pub struct Input {
     pub good: bool,
     pub used: usize,
 }
@@ -31,19 +31,19 @@ pub fn is(i: usize, text: &[u8]) -> bool {
 }
 
 // No bytes: none were asked for, or a message has said what is wrong.
-pub fn nothing(area: &[u8], good: bool) -> Given
+pub fn nothing(area: &[u8], good: bool) -> Input
     ensures { λ r. ⌜ Counts (r .used) (now (area .entry)) ⌝ }
 {
-    Given { good, used: 0 }
+    Input { good, used: 0 }
 }
 
 // Word i, as it is.
-pub fn word(i: usize, area: &mut [u8]) -> Given
+pub fn word(i: usize, area: &mut [u8]) -> Input
     ensures { λ r. ⌜ Counts (r .used) (now (area .exit)) ⌝ }
 {
     let used = os::arg(i, area);
     if os::errno() == 0 {
-        return Given { good: true, used };
+        return Input { good: true, used };
     }
     plain::complain(
         b"a word is too long: a format has up to 8,192 characters, the values up to 131,072",
@@ -67,7 +67,7 @@ fn translate(area: &mut [u8], used: usize) -> bool
 }
 
 // Word i, a format.
-pub fn format(i: usize, area: &mut [u8]) -> Given
+pub fn format(i: usize, area: &mut [u8]) -> Input
     ensures { λ r. ⌜ Counts (r .used) (now (area .exit)) ⌝ }
 {
     let given = word(i, area);
@@ -76,7 +76,7 @@ pub fn format(i: usize, area: &mut [u8]) -> Given
         return nothing(area, false);
     }
     if translate(area, used) {
-        return Given { good: true, used };
+        return Input { good: true, used };
     }
     plain::complain(
         b"the format has a character that EBCDIC 037 does not print: use printable ASCII",
@@ -85,7 +85,7 @@ pub fn format(i: usize, area: &mut [u8]) -> Given
 }
 
 // Word i, bytes in hexadecimal.
-pub fn bytes(i: usize, area: &mut [u8]) -> Given
+pub fn bytes(i: usize, area: &mut [u8]) -> Input
     ensures { λ r. ⌜ Counts (r .used) (now (area .exit)) ⌝ }
 {
     let given = word(i, area);
@@ -111,7 +111,7 @@ fn open(path: &[u8]) -> i32 {
 }
 
 // What a file holds, as it is.
-fn load(path: &[u8], area: &mut [u8]) -> Given
+fn load(path: &[u8], area: &mut [u8]) -> Input
     ensures { λ r. ⌜ Counts (r .used) (now (area .exit)) ⌝ }
 {
     let fd = open(path);
@@ -133,7 +133,7 @@ fn load(path: &[u8], area: &mut [u8]) -> Given
         plain::complain_of(path, b" is too long: a file has up to 65,535 bytes");
         return nothing(area, false);
     }
-    Given { good: true, used }
+    Input { good: true, used }
 }
 
 fn is_binary(bytes: &[u8]) -> bool {
@@ -144,7 +144,7 @@ fn is_binary(bytes: &[u8]) -> bool {
 }
 
 // Word i, a file with a table or a record, in binary or in hexadecimal.
-pub fn file(i: usize, area: &mut [u8]) -> Given
+pub fn file(i: usize, area: &mut [u8]) -> Input
     ensures { λ r. ⌜ Counts (r .used) (now (area .exit)) ⌝ }
 {
     let mut name = io::buffer();

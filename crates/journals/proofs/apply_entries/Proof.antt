@@ -44,7 +44,7 @@ apply-entry-requires c κs =
     (goes-on (start l .args .journal .now) (l .loop .at) (omega (arith, c .before .loop-test .taken, l .loop .inv .1)), l .loop .inv .0 .room, l .loop .inv .0 .within)
 
 entry-end-requires-2 : tie.Need-entry-end-requires-2 Inv-loop μ-loop
-entry-end-requires-2 c κs = turned (c .before .before) .inside
+entry-end-requires-2 c κs = omega (arith, turned (c .before .before) .inside)
 
 loop-less : tie.Need-loop-less Inv-loop μ-loop
 loop-less c = let t = c .before .before .before in omega (arith, turned t .inside, t .before .before .loop-test .taken)
