@@ -4,20 +4,15 @@ use Prim.Native.Nat.{ℕ, zero, suc, _+_, _-_, _≤_, _<_}
 use native.Mathlib.Nat.{le-of-suc-le-suc, not-suc-le-zero, suc-add, zero-add, add-zero}
 use native.Mathlib.Numerals.{add-one}
 use native.Mathlib.Omega.{arith}
-use mathlib.Core.List.{List, [], _∷_, _++_, append-nil}
+use mathlib.Core.List.{List, [], _∷_, _++_}
 use lib.ListN.{length, take, drop, getD, set, length-append, length-take, length-drop, take-append-drop, drop-of-length-le}
-use lib.Seq.{take-at, drop-cons, drop-length, take-suc, take-all, length-take-le}
-use Rattle.buffer.specs.Splice.{splice, tabulate}
+use lib.Seq.{take-at, drop-cons, take-suc, take-all, length-take-le}
+use Rattle.buffer.specs.Splice.{splice}
 
 -- nothing written
 pub splice-nil : (at : ℕ) (out : List ℕ) → splice at [] out ≡ out
 unfolding splice
 splice-nil at out = take-append-drop at out
-
--- a write that is the whole
-pub splice-whole : (bs out : List ℕ) → length bs ≡ length out → splice 0 bs out ≡ bs
-unfolding splice
-splice-whole bs out e = rw (e, drop-length out, append-nil)
 
 -- a write that fits keeps the length
 pub length-splice : (at : ℕ) (bs out : List ℕ) → at + length bs ≤ length out → length (splice at bs out) ≡ length out
@@ -104,34 +99,6 @@ done-down at t out₀ out (suc j) h e = absurd (not-suc-le-zero h)
 
 -- ---- a part
 
-part-zero : (n : ℕ) (bs out : List ℕ) → length bs ≤ n → n ≤ length out
-    → (bs ++ drop (length bs) (take n out)) ++ drop n out ≡ bs ++ drop (length bs) out
-part-zero n [] out h k = take-append-drop n out
-part-zero zero (b ∷ bs) out h k = absurd (not-suc-le-zero h)
-part-zero (suc n) (b ∷ bs) [] h k = absurd (not-suc-le-zero k)
-part-zero (suc n) (b ∷ bs) (x ∷ out) h k = ap (λ (l : List ℕ). b ∷ l) (part-zero n bs out (le-of-suc-le-suc h) (le-of-suc-le-suc k))
-
--- a write into a front `&mut out[..n]` that comes back
-pub part-front : (k n : ℕ) (bs out : List ℕ) → k + length bs ≤ n → n ≤ length out → splice k bs (take n out) ++ drop n out ≡ splice k bs out
-unfolding splice
-part-front zero n bs out h l = part-zero n bs out (omega arith) l
-part-front (suc k) zero bs out h l = absurd (not-suc-le-zero (rw suc-add at h))
-part-front (suc k) (suc n) bs [] h l = absurd (not-suc-le-zero l)
-part-front (suc k) (suc n) bs (x ∷ out) h l = ap (λ (r : List ℕ). x ∷ r) (part-front k n bs out (omega arith) (le-of-suc-le-suc l))
-
-part-whole : (a n k : ℕ) (bs out : List ℕ) → a + n ≤ length out → k + length bs ≤ n
-    → take a out ++ (splice k bs (take n (drop a out)) ++ drop n (drop a out)) ≡ splice (a + k) bs out
-unfolding splice
-part-whole zero n k bs out h1 h2 = rw zero-add (part-front k n bs out h2 (omega arith))
-part-whole (suc a) n k bs [] h1 h2 = absurd (not-suc-le-zero (rw suc-add at h1))
-part-whole (suc a) n k bs (x ∷ out) h1 h2 = rw suc-add (ap (λ (r : List ℕ). x ∷ r) (part-whole a n k bs out (omega arith) h2))
-
--- a write into a part `&mut out[a..a + n]` that comes back as ys is a write into the whole
-pub splice-part : (a n k : ℕ) (bs out ys : List ℕ) (q : ℕ) → ys ≡ splice k bs (take n (drop a out))
-    → q ≡ a + k → a + n ≤ length out → k + length bs ≤ n
-    → take a out ++ (ys ++ drop n (drop a out)) ≡ splice q bs out
-splice-part a n k bs out ys q e eq h1 h2 = rw (e, eq) (part-whole a n k bs out h1 h2)
-
 -- how many elements a part `&s[from..to]` has
 pub length-part : (s : List ℕ) (from to : ℕ) → from ≤ to → to ≤ length s → length (take (to - from) (drop from s)) ≡ to - from
 length-part s from to h k = simp (length-take, length-drop) (omega arith)
@@ -140,15 +107,3 @@ length-part s from to h k = simp (length-take, length-drop) (omega arith)
 pub take-splice : (bs out : List ℕ) (n : ℕ) → n ≡ length bs → take n (splice 0 bs out) ≡ bs
 unfolding splice
 take-splice bs out n e = take-at bs _ n (sym e)
-
--- ---- a list by its places
-pub length-tabulate : (n : ℕ) (f : ℕ → ℕ) → length (tabulate n f) ≡ n
-unfolding tabulate
-length-tabulate zero f = refl
-length-tabulate (suc n) f = ap suc (length-tabulate n (λ j. f (suc j)))
-
-pub getD-tabulate : (n : ℕ) (f : ℕ → ℕ) (j : ℕ) → j < n → getD (tabulate n f) j 0 ≡ f j
-unfolding tabulate
-getD-tabulate zero f j h = absurd (not-suc-le-zero h)
-getD-tabulate (suc n) f zero h = refl
-getD-tabulate (suc n) f (suc j) h = getD-tabulate n (λ j. f (suc j)) j (le-of-suc-le-suc h)

@@ -12,7 +12,7 @@ use Rattle.rules.specs.Lists.{Bytes, nothing, same, cut, join}
 use Rattle.rules.specs.Values.{Format, first-value, with-length-byte, in-normal-form}
 use Rattle.rules.specs.Table.{Field, Part}
 use Rattle.rules.specs.Record.{Cell, Occurrence, Record, Reader, times, stored-count, counted, each, count-bytes, counted-bytes, each-bytes, stored-value, stored-cell, stored-part, stored, record-head, cell-bytes, part-bytes, body-bytes, record-bytes}
-use Rattle.rules.proofs.Steps.{nothing-eq, done-inj, not-done, bind-done, need-done, from-need, from-as, from-bind, from-done, and-left, and-right, same-eq}
+use Rattle.rules.proofs.Steps.{nothing-eq, done-inj, not-done, from-need, from-as, from-bind, from-done, and-left, and-right, same-eq}
 
 -- what a reader took is what the writer writes
 abbrev pub Sound : {X : Type 0} → Reader X → (X → Bytes) → Type 0

@@ -203,6 +203,3 @@ elements-only bs =
     only-need (Is 3) (leb (length bs) longest-format) refl _
     (only-bind (Is 3) (texts false bs) _ (texts-only false bs)
     (λ ts. only-bind (Is 3) (assembled ts) _ (assembled-only ts) (λ p. only-need (Is 3) (settled p) refl _ tt)))
-
-pub bad-syntax : (f : Bytes) → is-done (elements f) ≡ false → elements f ≡ refused 3
-bad-syntax f h = refused-by 3 (elements f) (elements-only f) h

@@ -1,5 +1,5 @@
 -- Taking a `do` block apart, and tests.
-use mathlib.Core.Path.{_≡_, refl, sym, _∙_, ap}
+use mathlib.Core.Path.{_≡_, refl, ap}
 use mathlib.Core.Bool.{Bool, true, false, _&&_}
 use mathlib.Core.List.{List, [], _∷_}
 use mathlib.Core.Option.{Option, none, some}
@@ -17,18 +17,6 @@ refused-inj p = cc
 
 pub not-done : {A : Type 0} {a : A} {n : ℕ} → _≡_ {A = Outcome A} (refused n) (done a) → ⊥
 not-done p = let z : _≡_ {A = ℕ} 0 1 = cc in omega arith
-
-pub bind-done : {A B : Type 0} (m : Outcome A) (f : A → Outcome B) {b : B} → (m >>= f) ≡ done b → (a : A) × (m ≡ done a) × (f a ≡ done b)
-bind-done (done a) f p = (a, refl, p)
-bind-done (refused n) f p = absurd (not-done p)
-
-pub need-done : (t : Bool) (n : ℕ) {u : Unit {0}} → need t n ≡ done u → T t
-need-done true n p = tt
-need-done false n p = absurd (not-done p)
-
-pub refused-as-done : {A : Type 0} (n : ℕ) (m : Outcome A) {a : A} → refused-as n m ≡ done a → m ≡ done a
-refused-as-done n (done a) p = p
-refused-as-done n (refused k) p = absurd (not-done p)
 
 pub and-left : (a b : Bool) → T (a && b) → T a
 and-left true b t = tt

@@ -7,7 +7,7 @@ use Prim.Native.Nat.{ℕ, zero, suc, _-_, _≤_, _<_}
 use native.Mathlib.Omega.{arith}
 use lib.ListN.{length, take, drop, length-append, length-drop}
 use lib.Seq.{take-at}
-use Rattle.rules.specs.Outcome.{Outcome, done, refused, _>>=_, is-done}
+use Rattle.rules.specs.Outcome.{done, refused, _>>=_, is-done}
 use Rattle.rules.specs.Limits.{longest-alpha}
 use Rattle.rules.specs.Lists.{Bytes}
 use Rattle.rules.specs.Values.{meaning, first-value, with-length-byte, in-normal-form, converted-bytes}
@@ -15,12 +15,11 @@ use Rattle.rules.specs.Table.{Entry}
 use Rattle.rules.specs.Use.{Asked}
 use Rattle.rules.specs.Update.{Assignment}
 use Rattle.rules.specs.declared.Refusal.{Refusal}
-use Rattle.rules.proofs.Steps.{not-done, refused-inj}
 use Rattle.rules.proofs.Places.{spot}
 use Rattle.rules.proofs.Ranges.{taking, item-at}
 use Rattle.rules.proofs.Readers.{first-sound}
 use Rattle.value_formats.specs.Formats.{format-at}
-use Rattle.values.specs.Fits.{bytes-size, Convertible}
+use Rattle.values.specs.Fits.{Convertible}
 use Rattle.values.specs.Places.{Located}
 use Rattle.values.specs.declared.FirstValue.{FirstValue}
 use Rattle.values.specs.declared.FirstValue.the-variants as first
@@ -50,14 +49,9 @@ shorter : (n : ℕ) (bs c rest : Bytes) → first-value n bs ≡ done (c, rest) 
 shorter n bs c rest e =
     omega (arith, some-bytes n bs c rest e, ap length (first-sound n bs c rest e), length-append (with-length-byte n c) rest)
 
-bytes-refused : (o : Outcome Bytes) (n : ℕ) → bytes-size o ≡ refused n → o ≡ refused n
-bytes-refused (done b) n e = absurd (not-done (sym e))
-bytes-refused (refused m) n e = ap refused (refused-inj e)
-
 -- What means nothing is refused.
 pub value-bad : (g : Given) (content : Bytes) → is-done (meaning (format-at (g .format)) content) ≡ false → given-bytes g content ≡ refused 8
-value-bad g content m =
-    bytes-refused (given-bytes g content) 8 (bad-value (format-at (g .format)) (format-at (g .own)) (g .standard) content m)
+value-bad g content m = bad-value (format-at (g .format)) (format-at (g .own)) (g .standard) content m
 
 -- What is in normal form at its field's own format and length is given as it is.
 pub value-normal : (g : Given) (content : Bytes) → g .format ≡ g .own → g .size ≡ g .standard

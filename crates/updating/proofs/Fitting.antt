@@ -1,17 +1,16 @@
 -- Refusal 10 in two tests: the bytes do not fit in 4,096, else not in the room.
-use mathlib.Core.Path.{_≡_, _∙_, ap}
+use mathlib.Core.Path.{_≡_}
 use mathlib.Core.Bool.{false}
-use mathlib.Core.List.{_++_}
 use Prim.Native.Nat.{ℕ, _≤_, _<_, min}
 use native.Mathlib.Omega.{arith}
 use borrow.Author.Tests.{leb-false}
 use lib.Dec.{leb, leb→le, le→leb}
-use lib.ListN.{length, length-append}
-use Rattle.rules.specs.Outcome.{done, refused, _>>=_, need, refused-as}
+use lib.ListN.{length}
+use Rattle.rules.specs.Outcome.{done, refused, need, _>>=_}
 use Rattle.rules.specs.Limits.{longest-new-record}
 use Rattle.rules.specs.Lists.{Bytes}
 use Rattle.rules.specs.Services.{fitting}
-use Rattle.rules.proofs.Steps.{need-true, by-test, true-T, from-need, done-inj}
+use Rattle.rules.proofs.Steps.{need-true, by-test, true-T}
 
 not-leb : (m n : ℕ) → n < m → leb m n ≡ false
 not-leb m n h = by-test (leb m n) (λ t. absurd (let l = leb→le m n (true-T t) in omega arith)) (λ t. t)
@@ -39,22 +38,3 @@ module _ (room : ℕ) (b : Bytes) where
       (λ u. rw (t, u) (fits (leb→le (length b) longest-new-record (true-T t)) (leb→le (length b) room (true-T u))))
       (λ u. rw (t, u) (over-room (leb-false (length b) room u))))
       (λ t. rw t (too-long (leb-false (length b) longest-new-record t)))
-
-  pub fitted : (c : Bytes) → fitting room b ≡ done c → (b ≡ c) × (length b ≤ longest-new-record) × (length b ≤ room)
-  unfolding fitting
-  fitted c p = from-need (leb (length b) (min room longest-new-record)) 10 _ p λ t k.
-      let l = leb→le (length b) (min room longest-new-record) t in
-      (done-inj k, omega arith, omega arith)
-
-  -- A part of the bytes that is already too long settles it.
-  pub part-too-long : (front back : Bytes) → b ≡ front ++ back → longest-new-record < length front → fitting room b ≡ refused 10
-  part-too-long front back e l = too-long (let n = ap length e ∙ length-append front back in omega arith)
-
-  -- As a writer in an array of 4,096 answers it: its 7 is 10, and the room is tested after it.
-  pub fitting-written : fitting room b ≡ (do
-    c ← refused-as 10 (do
-      _ ← need (leb (length b) longest-new-record) 7
-      done b)
-    _ ← need (leb (length c) room) 10
-    done c)
-  fitting-written = fitting-twice ∙ by-test (leb (length b) longest-new-record) (λ t. rw t) (λ t. rw t)

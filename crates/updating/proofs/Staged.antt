@@ -2,33 +2,33 @@
 -- least, and where that alone is too long the update is refused.
 use mathlib.Core.Path.{_≡_}
 use mathlib.Core.Bool.{true, false, not, _&&_}
-use mathlib.Core.List.{List, [], _∷_, _++_, map}
+use mathlib.Core.List.{List, [], _∷_, map}
 use mathlib.Core.Option.{some}
 use Prim.Native.Nat.{ℕ, _+_, _≤_, _<_}
 use native.Mathlib.Omega.{arith}
 use lib.Dec.{eqb}
-use lib.ListN.{length, take, length-append}
+use lib.ListN.{length, length-append}
 use Rattle.rules.specs.Outcome.{done, refused}
-use Rattle.rules.specs.Limits.{longest-items, longest-new-record, record-head-size}
+use Rattle.rules.specs.Limits.{longest-new-record, record-head-size}
 use Rattle.rules.specs.Lists.{Bytes, absent, join}
 use Rattle.rules.specs.Table.{Entry, Part, member, parts, table}
 use Rattle.rules.specs.Record.{Record, body-bytes, record-head, record-bytes, value-count-at}
-use Rattle.rules.specs.Format.{Element, elements}
+use Rattle.rules.specs.Format.{Element}
 use Rattle.rules.specs.Use.{Place, Item, blanks-item, text-item, group-count, value-count, value-item, Use, items, uses}
 use Rattle.rules.specs.Update.{Assignment, same-place, assigned, assignments, named-twice, to-field, to-part, highest-occurrence, highest-value, new-value, new-value-count, new-group-count, update-plan, after-update}
-use Rattle.rules.specs.Services.{assignments-of, fitting}
-use Rattle.rules.proofs.Steps.{from-bind, from-need, eqb-same}
+use Rattle.rules.specs.Services.{fitting}
+use Rattle.rules.proofs.Steps.{eqb-same}
 use Rattle.rules.proofs.Back.{All, all-map}
 use Rattle.rules.proofs.Alls.{all-both}
 use Rattle.rules.proofs.Bare.{named-counted}
 use Rattle.rules.proofs.Places.{places-of, repeats}
-use Rattle.rules.proofs.Uses.{table-differ, not-T-false}
+use Rattle.rules.proofs.Uses.{table-differ}
 use Rattle.rules.proofs.Home.{home, Occurs, home-member}
 use Rattle.rules.proofs.Laid.{occurrences-at, within-count}
 use Rattle.rules.proofs.Entries.{table-sound}
 use Rattle.rules.proofs.Stands.{Stands, uses-stand}
 use Rattle.rules.proofs.Assigned.{place-of, own-bytes, assigned-places, places-once, Reached, all-reached}
-use Rattle.updating.proofs.Sums.{found, Sized-at, total, total-bytes, front-total, at-most}
+use Rattle.updating.proofs.Sums.{found, Sized-at, total-bytes, at-most}
 use Rattle.updating.proofs.BodyPlaces.{weight, body-places, body-sum, body-found}
 use Rattle.updating.proofs.Fitting.{too-long}
 
@@ -105,25 +105,6 @@ assigned-staged t es tabled r xs us meant once buffer ws gives =
     let x = assigned-fit (parts es) r ws (λ n i old. named-counted es xs us meant buffer ws gives n i old) o (all-from-map (parts es) ws s) in
     let y = length-append record-head (body-bytes (parts es) (after-update (parts es) r ws)) in
     omega arith
-
--- The same by a format's bytes: what an update assigns; and where that alone is too long, or a front part of it is, the update is refused.
-pub update-staged : (t : Bytes) (es : List Entry) → table t ≡ done es → (r : Record) (f buffer : Bytes) (ws : List Assignment) → assignments-of es f buffer ≡ done ws
-    → length (join (map (λ a. a .bytes) ws)) + record-head-size ≤ length (record-bytes (parts es) (after-update (parts es) r ws))
-unfolding assignments-of
-update-staged t es tabled r f buffer ws p =
-    from-bind (elements f) _ p λ xs h k.
-    from-bind (uses es [] xs) _ k λ us h₂ k₂.
-    from-need (not (named-twice us)) 6 _ k₂ λ u k₃.
-    assigned-staged t es tabled r xs us h₂ (not-T-false (named-twice us) u) (take longest-items buffer) ws k₃
-
-pub staged-too-long : (t : Bytes) (es : List Entry) → table t ≡ done es → (r : Record) (xs : List Element) (us : List Use) → uses es [] xs ≡ done us → named-twice us ≡ false
-    → (buffer : Bytes) (own more : List Assignment) → assignments (items us) buffer ≡ done (own ++ more) → longest-new-record < total own + record-head-size
-    → (room : ℕ) → fitting room (record-bytes (parts es) (after-update (parts es) r (own ++ more))) ≡ refused 10
-staged-too-long t es tabled r xs us meant once buffer own more gives l room =
-    let x = assigned-staged t es tabled r xs us meant once buffer (own ++ more) gives in
-    let y = front-total own more in
-    let z = total-bytes (own ++ more) in
-    too-long room (record-bytes (parts es) (after-update (parts es) r (own ++ more))) (omega arith)
 
 pub staged-beyond : (t : Bytes) (es : List Entry) → table t ≡ done es → (r : Record) (xs : List Element) (us : List Use) → uses es [] xs ≡ done us → named-twice us ≡ false
     → (buffer : Bytes) (ws : List Assignment) → assignments (items us) buffer ≡ done ws → longest-new-record < length (join (map (λ a. a .bytes) ws))

@@ -32,11 +32,6 @@ unfolding total join
 total-bytes [] = refl
 total-bytes (a ∷ ws) = length-append (a .bytes) (join (map (λ b. b .bytes) ws)) ∙ ap (λ n. length (a .bytes) + n) (total-bytes ws)
 
-pub front-total : (vs ws : List Assignment) → total vs ≤ total (vs ++ ws)
-unfolding total
-front-total [] ws = omega arith
-front-total (a ∷ vs) ws = let h = front-total vs ws in omega arith
-
 pub sums-append : (v : Place → ℕ) (ps qs : List Place) → sums v (ps ++ qs) ≡ sums v ps + sums v qs
 unfolding sums
 sums-append v [] qs = omega arith

@@ -15,15 +15,6 @@ use Rattle.tables.specs.Groups.{field-by}
 use Rattle.updating.specs.Laid.{group-part, count-byte, values-laid, cell-laid, member-laid, occurrence-laid, occurrences-laid, entry-laid, laid-from}
 
 module _ (w : Plan) where
-  -- Values k to n of a field in an occurrence.
-  pub value-turn : (f : Field) (i k n : ℕ) → k ≤ n → values-laid w f i k (suc n - k) ≡ w .value f i k ++ values-laid w f i (k + 1) (suc n - (k + 1))
-  unfolding values-laid
-  value-turn f i k n h = let e : suc n - k ≡ suc (suc n - (k + 1)) = omega arith in rw (e, add-one)
-
-  pub values-over : (f : Field) (i k n : ℕ) → n < k → values-laid w f i k (suc n - k) ≡ []
-  unfolding values-laid
-  values-over f i k n h = let e : suc n - k ≡ 0 = omega arith in rw e
-
   -- A cell: of a plain field one value; of an MU field a count and the values 1 to that count.
   pub plain-cell : (i : ℕ) (f : Field) → f .multiple ≡ false → w .values f i ≡ 1 → cell-laid w i f ≡ w .value f i 1
   unfolding cell-laid count-byte values-laid

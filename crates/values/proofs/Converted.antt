@@ -13,7 +13,7 @@ use Rattle.rules.specs.Outcome.{Outcome, done, refused, _>>=_, need, is-done}
 use Rattle.rules.specs.Characters.{space}
 use Rattle.rules.specs.Limits.{longest-alpha, lowest-word, greatest-word}
 use Rattle.rules.specs.Lists.{Bytes, bytes-of, digits, all, but-last, last}
-use Rattle.rules.specs.Values.{Format, alpha, binary, fixed, packed, unpacked, Value, text, number, allowed, strip, halves, decimal, sign-means, accepted-plus, accepted-minus, meaning, normal, conversion, never, every, in-range, converted, converted-bytes}
+use Rattle.rules.specs.Values.{Format, alpha, binary, fixed, packed, unpacked, Value, text, number, allowed, strip, halves, decimal, sign-means, accepted-plus, accepted-minus, meaning, normal, conversion, every, in-range, converted, converted-bytes}
 use Rattle.rules.specs.Values as Rules
 use Rattle.rules.proofs.Steps.{from-need, done-inj, refused-inj, not-done, and-left, true-T, T-true}
 use Rattle.fixed.specs.Words.{pick, signed-value, word-of, value-of}
@@ -24,7 +24,7 @@ use Rattle.decimals.specs.Decimals.{decimal-format}
 use Rattle.decimals.proofs.Normal.{normal-fits, normal-done, converted-value}
 use Rattle.decimals.proofs.Written.{length-written}
 use Rattle.values.specs.Formats.{range-kind}
-use Rattle.values.specs.Fits.{bytes-size, converted-length}
+use Rattle.values.specs.Fits.{converted-length}
 
 -- A refusal has one number: 8 of a meaning, 9 of a normal form.
 abbrev Refuses : {A : Type 0} → ℕ → Outcome A → Type 0
@@ -89,7 +89,7 @@ unfolding converted
 converted-refuses f g n v = need-refuses 9 (in-range (conversion f g) v) _ (normal-refuses g n v)
 
 -- "8 where they mean nothing, then 9"
-pub bad-value : (f g : Format) (n : ℕ) (bs : Bytes) → is-done (meaning f bs) ≡ false → bytes-size (converted-bytes f g n bs) ≡ refused 8
+pub bad-value : (f g : Format) (n : ℕ) (bs : Bytes) → is-done (meaning f bs) ≡ false → converted-bytes f g n bs ≡ refused 8
 unfolding converted-bytes
 bad-value f g n bs e = rw (meaning-refuses f bs e)
 
@@ -109,26 +109,10 @@ no-fit f g n bs e h =
     let c = converted-by f g n bs e in
     c ∙ converted-refuses f g n (value-of (meaning f bs)) (rw c at h)
 
-pub does-fit : (f g : Format) (n : ℕ) (bs : Bytes) → is-done (converted-bytes f g n bs) ≡ true
-    → bytes-size (converted-bytes f g n bs) ≡ done (length (bytes-of (converted-bytes f g n bs)))
-unfolding bytes-of
-does-fit f g n bs h = by-outcome (converted-bytes f g n bs) h
-  where
-    by-outcome : (o : Outcome Bytes) → is-done o ≡ true → bytes-size o ≡ done (length (bytes-of o))
-    by-outcome (done b) e = refl
-    by-outcome (refused k) e = cc
-
 -- Every value converts: it is written as it is meant.
 pub every-converted : (f g : Format) (n : ℕ) (bs : Bytes) {v : Value} → conversion f g ≡ every → meaning f bs ≡ done v → converted-bytes f g n bs ≡ normal g n v
 unfolding converted-bytes converted in-range
 every-converted f g n bs c m = rw (m, c)
-
-never-converted : (f g : Format) (n : ℕ) (v : Value) → conversion f g ≡ never → is-done (converted f g n v) ≡ false
-unfolding converted in-range
-never-converted f g n v c = rw c
-
-pub no-conversion : (f g : Format) (n : ℕ) (bs : Bytes) → is-done (meaning f bs) ≡ true → conversion f g ≡ never → is-done (converted-bytes f g n bs) ≡ false
-no-conversion f g n bs e c = rw (converted-by f g n bs e) (never-converted f g n (value-of (meaning f bs)) c)
 
 -- A word converts where it lies in the range.
 in-and-fits : (t : Bool) (o : Outcome Bytes) → is-done (need t 9 >>= λ _. o) ≡ (t && is-done o)

@@ -1,25 +1,13 @@
--- Whether a value fits another format and length: the code's answer, and what is asked of its functions.
+-- What is asked of the functions that convert a value to another format and length.
 use mathlib.Core.Path.{_≡_}
 use mathlib.Core.Bool.{true}
 use Prim.Native.Nat.{ℕ, zero, suc, _+_, _≤_, _<_}
 use lib.ListN.{length}
-use Rattle.rules.specs.Outcome.{Outcome, done, refused, is-done}
+use Rattle.rules.specs.Outcome.{is-done}
 use Rattle.rules.specs.Limits.{formats}
 use Rattle.rules.specs.Lists.{Bytes, bytes-of}
 use Rattle.rules.specs.Values.{allowed, strip, meaning, converted-bytes}
-use Rattle.rules.specs.Numbers.{refusal-number}
 use Rattle.values.specs.Formats.{format-at}
-use Rattle.values.specs.declared.Fit.{Fit}
-use Rattle.values.specs.declared.Fit.the-variants.{Length, Refused}
-
--- The length of the bytes, or the refusal.
-abbrev pub bytes-size : Outcome Bytes → Outcome ℕ
-bytes-size (done b) = done (length b)
-bytes-size (refused k) = refused k
-
-abbrev pub fitted : Fit → Outcome ℕ
-fitted (Length n) = done n
-fitted (Refused x) = refused (refusal-number x)
 
 -- The length of a value that is converted to length n.
 unfoldable pub converted-length : ℕ → Bytes → ℕ

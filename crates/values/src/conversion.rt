@@ -1,13 +1,12 @@
 // A value converted from a format to another: between formats that convert every value, and through a word.
 ghost use mathlib.Core.Path.{_≡_};
 ghost use mathlib.Core.Bool.{true, _&&_};
-ghost use mathlib.Core.Logic.{_⊎_};
 ghost use Prim.Native.Nat.{_+_, _<_, _≤_};
 ghost use lib.ListN.{length};
 ghost use Rattle.rules.specs.Outcome.{is-done};
 ghost use Rattle.rules.specs.Limits.{formats, longest-alpha, lowest-word};
 ghost use Rattle.rules.specs.Lists.{bytes-of};
-ghost use Rattle.rules.specs.Values.{every, word, natural, allowed, normal, conversion, in-range, converted-bytes};
+ghost use Rattle.rules.specs.Values.{every, natural, allowed, normal, conversion, in-range, converted-bytes};
 ghost use Rattle.fixed.specs.Words.{signed-value};
 ghost use Rattle.buffer.specs.Splice.{splice};
 ghost use Rattle.values.specs.Formats.{format-at, range-kind};
@@ -15,11 +14,9 @@ ghost use Rattle.values.specs.Fits.{Convertible, Converting, converted-l
 use super::numbers;
 use super::texts;
 use fixed::Signed;
-use fixed::Word;
 use value_formats::ALPHA;
 use value_formats::BINARY;
 use value_formats::FIXED;
-use value_formats::Kind;
 use value_formats::PACKED;
 
 // Whether s fits, where every value converts.
@@ -61,32 +58,6 @@ pub fn word_fits(v: Signed, to: usize, n: usize, natural: bool) -> bool
     false
 }
 
-// Whether s fits, where a range of words converts.
-fn ranged_fits(s: &[u8], from: usize, to: usize, n: usize, natural: bool) -> bool
-    requires { ⌜ Convertible from to n (now s) × (conversion (format-at from) (format-at to) ≡ range-kind natural) ⌝ }
-    ensures { λ r. ⌜ r ≡ is-done (converted-bytes (format-at from) (format-at to) n (now (s .entry))) ⌝ }
-{
-    let word = numbers::to_word(s, from);
-    match word {
-        Word::Number(v) => word_fits(v, to, n, natural),
-        Word::Outside => false,
-    }
-}
-
-// Whether the value s is converted.
-pub fn converts_value(s: &[u8], from: usize, to: usize, n: usize) -> bool
-    requires { ⌜ Convertible from to n (now s) ⌝ }
-    ensures { λ r. ⌜ r ≡ is-done (converted-bytes (format-at from) (format-at to) n (now (s .entry))) ⌝ }
-{
-    let kind = value_formats::conversion(from, to);
-    match kind {
-        Kind::Never => false,
-        Kind::Every => every_fits(s, from, to, n),
-        Kind::Word => ranged_fits(s, from, to, n, false),
-        Kind::Natural => ranged_fits(s, from, to, n, true),
-    }
-}
-
 // The length of the bytes of a value that is converted: n, or that of the text and its length byte.
 pub fn converted_size(s: &[u8], n: usize) -> usize
     requires { ⌜ length (now s) ≤ longest-alpha ⌝ }
@@ -123,19 +94,5 @@ fn convert_number(s: &[u8], from: usize, to: usize, n: usize, out: &mut [u8], at
         } else {
             decimals::convert(s, from == PACKED, to == PACKED, n, out, at);
         }
-    }
-}
-
-// The value s, where a range of words converts.
-pub fn convert_word(s: &[u8], from: usize, to: usize, n: usize, out: &mut [u8], at: usize)
-    requires { ⌜ Converting from to n (now s) at (length (now out)) × ((conversion (format-at from) (format-at to) ≡ word) ⊎ (conversion (format-at from) (format-at to) ≡ natural)) ⌝ }
-    ensures { λ _. ⌜ now (out .exit) ≡ splice at (bytes-of (converted-bytes (format-at from) (format-at to) n (now (s .entry)))) (now (out .entry)) ⌝ }
-{
-    let word = numbers::to_word(s, from);
-    match word {
-        Word::Number(v) => {
-            numbers::write_word(v, to, n, out, at);
-        }
-        Word::Outside => {}
     }
 }

@@ -6,14 +6,13 @@ ghost use mathlib.Core.Logic.{_⊎_};
 ghost use Prim.Native.Nat.{_+_, _<_, _≤_};
 ghost use lib.ListN.{length, drop, replicate};
 ghost use Rattle.rules.specs.Limits.{formats, longest-alpha};
-ghost use Rattle.rules.specs.Lists.{bytes-of, join};
-ghost use Rattle.rules.specs.Values.{packed, first-value, null, in-normal-form, converted-bytes};
+ghost use Rattle.rules.specs.Lists.{join};
+ghost use Rattle.rules.specs.Values.{packed, first-value, null, in-normal-form};
 ghost use Rattle.buffer.specs.Splice.{splice};
 ghost use Rattle.rules.specs.Values as Rules;
 ghost use Rattle.values.specs.Formats.{format-at};
 ghost use Rattle.values.specs.Places.{Located};
 ghost use Rattle.values.specs.Normals.{any-normal};
-ghost use Rattle.values.specs.Fits.{Converting, fitted, bytes-size};
 
 pub mod conversion;
 pub mod numbers;
@@ -21,7 +20,6 @@ pub mod texts;
 
 use rules::Refusal;
 use value_formats::ALPHA;
-use value_formats::Kind;
 use value_formats::PACKED;
 use value_formats::UNPACKED;
 
@@ -169,44 +167,4 @@ pub fn any_bytes(format: usize, size: usize) -> bool
         return false;
     }
     format < PACKED
-}
-
-// Whether a value fits: the length of its bytes, or a refusal.
-pub enum Fit {
-    Length(usize),
-    Refused(Refusal),
-}
-
-// What the content s of a value gives at another format and length n.
-pub fn fits(s: &[u8], from: usize, to: usize, n: usize) -> Fit
-    requires { ⌜ (from < formats) × (to < formats) × (Rules.allowed (format-at from) (length (now s)) ≡ true) × (Rules.allowed (format-at to) n ≡ true) ⌝ }
-    ensures { λ r. ⌜ fitted r ≡ bytes-size (converted-bytes (format-at from) (format-at to) n (now (s .entry))) ⌝ }
-{
-    if numbers::is_value(s, from) {
-        if conversion::converts_value(s, from, to, n) {
-            return Fit::Length(conversion::converted_size(s, n));
-        }
-        return Fit::Refused(Refusal::OutOfRange);
-    }
-    Fit::Refused(Refusal::BadValue)
-}
-
-// Writes the content s of a value, which is converted to another format and length n, at a place.
-pub fn convert(s: &[u8], from: usize, to: usize, n: usize, out: &mut [u8], at: usize)
-    requires { ⌜ Converting from to n (now s) at (length (now out)) ⌝ }
-    ensures { λ _. ⌜ now (out .exit) ≡ splice at (bytes-of (converted-bytes (format-at from) (format-at to) n (now (s .entry)))) (now (out .entry)) ⌝ }
-{
-    let kind = value_formats::conversion(from, to);
-    match kind {
-        Kind::Never => {}
-        Kind::Every => {
-            conversion::convert_every(s, from, to, n, out, at);
-        }
-        Kind::Word => {
-            conversion::convert_word(s, from, to, n, out, at);
-        }
-        Kind::Natural => {
-            conversion::convert_word(s, from, to, n, out, at);
-        }
-    }
 }
