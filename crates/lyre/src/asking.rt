@@ -29,7 +29,7 @@ pub struct Reply {
 // What the longest format takes: ten numbers for each element, of three bytes at least.
 pub const KEPT: usize = 6830;
 
-pub fn read(t: &[u8], record: &[u8], f: &[u8], room: &mut [u8]) -> Reply
+pub(crate) fn read(t: &[u8], record: &[u8], f: &[u8], room: &mut [u8]) -> Reply
     ensures { λ r. ⌜ Counts (r .used) (now (room .exit)) ⌝ }
 {
     let answer = lyrecanyon::read(t, record, f, room);
@@ -103,7 +103,7 @@ fn explain(t: &[u8], f: &[u8]) -> u8 {
     rules::refusal_number(Refusal::BadTable)
 }
 
-pub fn ask(
+pub(crate) fn ask(
     service: Service,
     t: &[u8],
     record: &[u8],

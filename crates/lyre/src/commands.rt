@@ -161,7 +161,7 @@ fn show() {
     start(Service::Record, n == 4);
 }
 
-pub fn command(word: &[u8]) {
+pub(crate) fn command(word: &[u8]) {
     if same(word, b"read") {
         start(Service::Read, os::arg_count() == 5);
         return;

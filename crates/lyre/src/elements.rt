@@ -17,7 +17,7 @@ fn digit(n: usize) -> u8 {
 }
 
 // The name alone.
-pub fn named(name: u16) -> [u8; SIZE] {
+pub(crate) fn named(name: u16) -> [u8; SIZE] {
     let mut f = [SPACE; SIZE];
     f[0] = (name / 256) as u8;
     f[1] = (name % 256) as u8;
@@ -26,7 +26,7 @@ pub fn named(name: u16) -> [u8; SIZE] {
 }
 
 // Its occurrence, or the value of an MU field outside periodic groups.
-pub fn indexed(mut f: [u8; SIZE], i: usize) -> [u8; SIZE] {
+pub(crate) fn indexed(mut f: [u8; SIZE], i: usize) -> [u8; SIZE] {
     f[2] = digit(i / 100);
     f[3] = digit(i / 10);
     f[4] = digit(i);
@@ -34,7 +34,7 @@ pub fn indexed(mut f: [u8; SIZE], i: usize) -> [u8; SIZE] {
 }
 
 // The value of an MU field in an occurrence.
-pub fn bracketed(mut f: [u8; SIZE], k: usize) -> [u8; SIZE] {
+pub(crate) fn bracketed(mut f: [u8; SIZE], k: usize) -> [u8; SIZE] {
     f[5] = OPEN;
     f[6] = digit(k / 100);
     f[7] = digit(k / 10);
@@ -44,26 +44,26 @@ pub fn bracketed(mut f: [u8; SIZE], k: usize) -> [u8; SIZE] {
 }
 
 // The count of what has no index.
-pub fn counted(mut f: [u8; SIZE]) -> [u8; SIZE] {
+pub(crate) fn counted(mut f: [u8; SIZE]) -> [u8; SIZE] {
     f[2] = LETTER_C;
     f
 }
 
 // The count of what has an index.
-pub fn counted_in(mut f: [u8; SIZE]) -> [u8; SIZE] {
+pub(crate) fn counted_in(mut f: [u8; SIZE]) -> [u8; SIZE] {
     f[5] = LETTER_C;
     f
 }
 
 // At variable length.
-pub fn variable(mut f: [u8; SIZE]) -> [u8; SIZE] {
+pub(crate) fn variable(mut f: [u8; SIZE]) -> [u8; SIZE] {
     f[10] = COMMA;
     f[11] = DIGIT_0;
     f
 }
 
 // As 29 unpacked digits, which hold every packed and unpacked value.
-pub fn unpacked(mut f: [u8; SIZE]) -> [u8; SIZE] {
+pub(crate) fn unpacked(mut f: [u8; SIZE]) -> [u8; SIZE] {
     f[10] = COMMA;
     f[11] = digit(2);
     f[12] = digit(9);

@@ -120,7 +120,7 @@ fn say_decoded(t: &[u8], record: &[u8], f: &[u8], valued: bool)
 }
 
 // What a format names by a table: with the values in a record, or with the bytes that each takes.
-pub fn say_format(t: &[u8], record: &[u8], f: &[u8], valued: bool) {
+pub(crate) fn say_format(t: &[u8], record: &[u8], f: &[u8], valued: bool) {
     if tables::valid(t) {
         if f.len() <= rules::LONGEST_FORMAT {
             say_decoded(t, record, f, valued);

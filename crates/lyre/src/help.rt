@@ -4,7 +4,7 @@ use crate::plain;
 use crate::words::same;
 
 // What the words of a command would be.
-pub fn tell_use(service: Service) {
+pub(crate) fn tell_use(service: Service) {
     match service {
         Service::Read => {
             plain::complain(
@@ -48,7 +48,7 @@ Exit status: 0 done, 1 refused, 2 wrong use or a file that cannot be read or wri
 }
 
 // The word `help` or none; any other is no command.
-pub fn help(word: &[u8]) {
+pub(crate) fn help(word: &[u8]) {
     if os::arg_count() < 2 {
         say_help();
         return;

@@ -14,17 +14,17 @@ fn glyph(d: u8) -> u8
     if d < 10 { b'0' + d } else { b'A' - 10 + d }
 }
 
-pub fn write_byte(to: i32, b: u8) {
+pub(crate) fn write_byte(to: i32, b: u8) {
     plain::write(to, &[glyph(b / 16), glyph(b % 16)]);
 }
 
-pub fn say_bytes(bytes: &[u8]) {
+pub(crate) fn say_bytes(bytes: &[u8]) {
     for i in 0..bytes.len() {
         write_byte(libc::STDOUT_FILENO, bytes[i]);
     }
 }
 
-pub fn say_line(bytes: &[u8]) {
+pub(crate) fn say_line(bytes: &[u8]) {
     say_bytes(bytes);
     plain::say(b"\n");
 }
@@ -93,7 +93,7 @@ fn take(text: &[u8], at: usize, end: usize) -> Pair
 }
 
 // The bytes that the first `used` characters of an area spell, to its front: digits in pairs, with blanks and line ends between them.
-pub fn decode(area: &mut [u8], used: usize) -> Input
+pub(crate) fn decode(area: &mut [u8], used: usize) -> Input
     requires { ⌜ used ≤ length (now area) ⌝ }
     ensures { λ r. ⌜ Counts (r .used) (now (area .exit)) ⌝ }
 {

@@ -18,7 +18,7 @@ const CODES: [u8; CHARACTERS] = *b"\
     \x97\x98\x99\xA2\xA3\xA4\xA5\xA6\xA7\xA8\xA9\xC0\x4F\xD0\xA1";
 
 // The EBCDIC code of a printable character; 0 for any other byte.
-pub fn ebcdic_of(c: u8) -> u8 {
+pub(crate) fn ebcdic_of(c: u8) -> u8 {
     if c < FIRST {
         return 0;
     }
@@ -29,7 +29,7 @@ pub fn ebcdic_of(c: u8) -> u8 {
 }
 
 // The printable character of an EBCDIC code; 0 for a code that has none.
-pub fn ascii_of(code: u8) -> u8 {
+pub(crate) fn ascii_of(code: u8) -> u8 {
     let codes = CODES;
     let i = buffer::find(&codes, 0, code);
     if i < CHARACTERS { FIRST + i as u8 } else { 0 }
@@ -46,7 +46,7 @@ fn write_letter(to: i32, code: u8) {
     plain::write(to, &[c]);
 }
 
-pub fn write_text(to: i32, text: &[u8]) {
+pub(crate) fn write_text(to: i32, text: &[u8]) {
     for i in 0..text.len() {
         write_letter(to, text[i]);
     }
@@ -70,14 +70,14 @@ fn say_letters(text: &[u8]) {
     }
 }
 
-pub fn say_quoted(text: &[u8]) {
+pub(crate) fn say_quoted(text: &[u8]) {
     plain::say(b"\"");
     say_letters(text);
     plain::say(b"\"");
 }
 
 // A name, which is two letters.
-pub fn say_name(name: u16) {
+pub(crate) fn say_name(name: u16) {
     write_text(
         libc::STDOUT_FILENO,
         &[(name / 256) as u8, (name % 256) as u8],

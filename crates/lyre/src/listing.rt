@@ -47,7 +47,7 @@ fn say_value_name(t: &[u8], i: usize, o: usize, k: usize)
 }
 
 // Where lines say bytes they stand below their element.
-pub fn say_lead(m: Manner) {
+pub(crate) fn say_lead(m: Manner) {
     if !m.valued {
         plain::say(b"  ");
     }
@@ -122,7 +122,7 @@ fn say_number(t: &[u8], i: usize, n: usize)
 }
 
 // The line of a count, of entry i in occurrence o.
-pub fn say_count(t: &[u8], record: &[u8], i: usize, o: usize, m: Manner)
+pub(crate) fn say_count(t: &[u8], record: &[u8], i: usize, o: usize, m: Manner)
     requires { ⌜ Valid (now t) × (i < length (entries-of (now t))) ⌝ }
 {
     say_margin(t, i, m);
@@ -199,7 +199,7 @@ fn say_field(t: &[u8], record: &[u8], i: usize, s: Span, m: Manner)
 }
 
 // What a span names, in its order.
-pub fn say_span(t: &[u8], record: &[u8], s: Span, m: Manner)
+pub(crate) fn say_span(t: &[u8], record: &[u8], s: Span, m: Manner)
     requires { ⌜ Valid (now t) ⌝ }
 {
     let n = tables::count(t);
@@ -254,7 +254,7 @@ fn say_record(t: &[u8], record: &[u8])
     }
 }
 
-pub fn show(t: &[u8], record: &[u8]) {
+pub(crate) fn show(t: &[u8], record: &[u8]) {
     if tables::valid(t) {
         say_record(t, record);
     }

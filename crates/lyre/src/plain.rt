@@ -16,32 +16,32 @@ const STATUS: i32 = 9;
 
 const BLANKS: [u8; 16] = [b' '; 16];
 
-pub fn end(digit: u8) {
+pub(crate) fn end(digit: u8) {
     io::write_all(STATUS, &[digit]);
 }
 
-pub fn write(to: i32, text: &[u8]) {
+pub(crate) fn write(to: i32, text: &[u8]) {
     if !io::write_all(to, text) {
         end(LOST);
     }
 }
 
-pub fn write_number(to: i32, n: usize) {
+pub(crate) fn write_number(to: i32, n: usize) {
     if !io::print_decimal(to, n as u64) {
         end(LOST);
     }
 }
 
-pub fn say(text: &[u8]) {
+pub(crate) fn say(text: &[u8]) {
     write(libc::STDOUT_FILENO, text);
 }
 
-pub fn say_number(n: usize) {
+pub(crate) fn say_number(n: usize) {
     write_number(libc::STDOUT_FILENO, n);
 }
 
 // A number and what it counts: `1 byte`, `2 bytes`.
-pub fn say_counted(n: usize, one: &[u8]) {
+pub(crate) fn say_counted(n: usize, one: &[u8]) {
     say_number(n);
     say(b" ");
     say(one);
@@ -50,14 +50,14 @@ pub fn say_counted(n: usize, one: &[u8]) {
     }
 }
 
-pub fn wide(b: u8) -> usize
+pub(crate) fn wide(b: u8) -> usize
     ensures { λ r. ⌜ r < 256 ⌝ }
 {
     b as usize
 }
 
 // The blanks before a line of a level: two for each level after the first.
-pub fn indent(level: u8) {
+pub(crate) fn indent(level: u8) {
     let blanks = BLANKS;
     let n = 2 * wide(level);
     if 2 <= n {
@@ -74,13 +74,13 @@ fn complain_after(text: &[u8]) {
 }
 
 // What is wrong with the words of a command.
-pub fn complain(text: &[u8]) {
+pub(crate) fn complain(text: &[u8]) {
     write(libc::STDERR_FILENO, b"lyre: ");
     complain_after(text);
 }
 
 // What is wrong with a file.
-pub fn complain_of(path: &[u8], text: &[u8]) {
+pub(crate) fn complain_of(path: &[u8], text: &[u8]) {
     write(libc::STDERR_FILENO, b"lyre: ");
     write(libc::STDERR_FILENO, path);
     complain_after(text);

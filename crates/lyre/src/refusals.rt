@@ -54,7 +54,7 @@ fn tell_meaning(number: u8) {
 }
 
 // Where the element at a place stops: its comma or its period; the end of the format where its syntax is bad.
-pub fn element_end(f: &[u8], at: usize) -> usize
+pub(crate) fn element_end(f: &[u8], at: usize) -> usize
     requires { ⌜ at ≤ length (now f) ⌝ }
     ensures { λ r. ⌜ (at ≤ r) × (r ≤ length (now (f .entry))) ⌝ }
 {
@@ -65,7 +65,7 @@ pub fn element_end(f: &[u8], at: usize) -> usize
 }
 
 // Element n, which stands in the format from one place up to another, as it is written.
-pub fn write_element(to: i32, f: &[u8], at: usize, stop: usize, n: usize)
+pub(crate) fn write_element(to: i32, f: &[u8], at: usize, stop: usize, n: usize)
     requires { ⌜ (at ≤ stop) × (stop ≤ length (now f)) ⌝ }
 {
     let b = format_buffer::texts::bounds_at(f, at);
@@ -196,7 +196,14 @@ fn tell_element(service: Service, t: &[u8], record: &[u8], f: &[u8], values: &[u
 }
 
 // Refusals 3 to 9 are about an element. A format that is too long is refused with 3.
-pub fn refuse(service: Service, t: &[u8], record: &[u8], f: &[u8], values: &[u8], number: u8) {
+pub(crate) fn refuse(
+    service: Service,
+    t: &[u8],
+    record: &[u8],
+    f: &[u8],
+    values: &[u8],
+    number: u8,
+) {
     tell(b"refused with ");
     plain::write_number(STDERR_FILENO, number as usize);
     tell(b": ");

@@ -82,7 +82,7 @@ fn save(path: &[u8], record: &[u8]) {
 }
 
 // Hexadecimal to standard output; or, where word i is `-o`, to the file that the next word names.
-pub fn give(record: &[u8], i: usize) {
+pub(crate) fn give(record: &[u8], i: usize) {
     if os::arg_count() <= i {
         hexadecimal::say_line(record);
         return;

@@ -26,7 +26,7 @@ fn say_letter(format: usize) {
     }
 }
 
-pub fn say_format(format: usize, size: usize) {
+pub(crate) fn say_format(format: usize, size: usize) {
     say_letter(format);
     if size == 0 {
         plain::say(b"variable length");
@@ -76,7 +76,7 @@ fn say_table(t: &[u8])
     }
 }
 
-pub fn show(t: &[u8]) {
+pub(crate) fn show(t: &[u8]) {
     if tables::valid(t) {
         say_table(t);
     }

@@ -16,7 +16,7 @@ const ROOM: usize = 256;
 const MINUS: u8 = 0xD;
 
 // Whether entry i is named with an occurrence: it lies in a periodic group, and is not that group.
-pub fn has_occurrences(t: &[u8], i: usize) -> bool
+pub(crate) fn has_occurrences(t: &[u8], i: usize) -> bool
     requires { ⌜ Valid (now t) × (i < length (entries-of (now t))) ⌝ }
 {
     if tables::periodic_at(t, i) {
@@ -54,7 +54,7 @@ fn count_of(t: &[u8], record: &[u8], f: [u8; SIZE]) -> usize
 }
 
 // The count of entry i, a periodic group or an MU field, which may stand in occurrence o of one.
-pub fn count(t: &[u8], record: &[u8], i: usize, o: usize) -> usize
+pub(crate) fn count(t: &[u8], record: &[u8], i: usize, o: usize) -> usize
     requires { ⌜ Valid (now t) × (i < length (entries-of (now t))) ⌝ }
     ensures { λ r. ⌜ r < 256 ⌝ }
 {
@@ -137,7 +137,7 @@ fn say_number(t: &[u8], record: &[u8], f: [u8; SIZE]) {
 }
 
 // Value k of entry i in occurrence o.
-pub fn say_value(t: &[u8], record: &[u8], i: usize, o: usize, k: usize)
+pub(crate) fn say_value(t: &[u8], record: &[u8], i: usize, o: usize, k: usize)
     requires { ⌜ Valid (now t) × (i < length (entries-of (now t))) ⌝ }
 {
     let e = tables::entry_at(t, i);

@@ -16,7 +16,7 @@ pub struct Input {
 }
 
 // Whether a word is this one.
-pub fn same(word: &[u8], text: &[u8]) -> bool {
+pub(crate) fn same(word: &[u8], text: &[u8]) -> bool {
     if word.len() == text.len() {
         return buffer::stands_at(word, 0, text);
     }
@@ -24,21 +24,21 @@ pub fn same(word: &[u8], text: &[u8]) -> bool {
 }
 
 // Whether word i is this one.
-pub fn is(i: usize, text: &[u8]) -> bool {
+pub(crate) fn is(i: usize, text: &[u8]) -> bool {
     let mut area = [0u8; 8];
     let used = os::arg(i, &mut area);
     same(&area[..used], text)
 }
 
 // No bytes: none were asked for, or a message has said what is wrong.
-pub fn nothing(area: &[u8], good: bool) -> Input
+pub(crate) fn nothing(area: &[u8], good: bool) -> Input
     ensures { λ r. ⌜ Counts (r .used) (now (area .entry)) ⌝ }
 {
     Input { good, used: 0 }
 }
 
 // Word i, as it is.
-pub fn word(i: usize, area: &mut [u8]) -> Input
+pub(crate) fn word(i: usize, area: &mut [u8]) -> Input
     ensures { λ r. ⌜ Counts (r .used) (now (area .exit)) ⌝ }
 {
     let used = os::arg(i, area);
@@ -67,7 +67,7 @@ fn translate(area: &mut [u8], used: usize) -> bool
 }
 
 // Word i, a format.
-pub fn format(i: usize, area: &mut [u8]) -> Input
+pub(crate) fn format(i: usize, area: &mut [u8]) -> Input
     ensures { λ r. ⌜ Counts (r .used) (now (area .exit)) ⌝ }
 {
     let given = word(i, area);
@@ -85,7 +85,7 @@ pub fn format(i: usize, area: &mut [u8]) -> Input
 }
 
 // Word i, bytes in hexadecimal.
-pub fn bytes(i: usize, area: &mut [u8]) -> Input
+pub(crate) fn bytes(i: usize, area: &mut [u8]) -> Input
     ensures { λ r. ⌜ Counts (r .used) (now (area .exit)) ⌝ }
 {
     let given = word(i, area);
@@ -144,7 +144,7 @@ fn is_binary(bytes: &[u8]) -> bool {
 }
 
 // Word i, a file with a table or a record, in binary or in hexadecimal.
-pub fn file(i: usize, area: &mut [u8]) -> Input
+pub(crate) fn file(i: usize, area: &mut [u8]) -> Input
     ensures { λ r. ⌜ Counts (r .used) (now (area .exit)) ⌝ }
 {
     let mut name = io::buffer();
