@@ -15,7 +15,7 @@ use Rattle.histories.specs.History.{Call, History, record-after}
 unfoldable pub length-at : Bytes → ℕ → ℕ
 length-at j at = getD j at 0 * 256 + getD j (at + 1) 0
 
--- The two lengths.
+-- How many bytes the two lengths take.
 abbrev pub head-length : ℕ
 head-length = 4
 
