@@ -259,8 +259,8 @@ fn length_for(random: &mut Random, format: u8, wide: bool) -> u8 {
 
 fn make_name(random: &mut Random, used: &[Entry]) -> String {
     loop {
-        let first = random.pick(b"AAABBCDEEFGMPUXZ") as char;
-        let second = random.pick(b"ABCDEXUPGSZ0123456789") as char;
+        let first = random.pick(b"AAABBCDEEFGMNPUXZ") as char;
+        let second = random.pick(b"ABCDENXUPGSZ0123456789") as char;
         let name: String = [first, second].iter().collect();
         let no_name = first == 'E' && second.is_ascii_digit();
         if !no_name && used.iter().all(|entry| entry.name != name) {
@@ -592,12 +592,42 @@ impl Named {
     }
 }
 
-/// The elements of one format as they are made; so many percent of the MU fields outside get an index.
+/// Indexes of an element.
+#[derive(Clone, Copy, PartialEq, Eq)]
+enum Indexes {
+    Numbers(usize, usize),
+    /// N.
+    Last,
+    /// 1-N.
+    All,
+}
+
+impl Indexes {
+    /// The numbers that an update is made for, which is refused where N stands.
+    fn numbers(self) -> (usize, usize) {
+        match self {
+            Indexes::Numbers(low, high) => (low, high),
+            Indexes::Last | Indexes::All => (1, 1),
+        }
+    }
+
+    fn spell(self, random: &mut Random) -> String {
+        match self {
+            Indexes::Numbers(low, high) => spell_range(random, (low, high)),
+            Indexes::Last => "N".to_string(),
+            Indexes::All => spell(random, 1) + "-N",
+        }
+    }
+}
+
+/// The elements of one format as they are made; so many percent of the MU fields outside get an index, and so many
+/// percent of the indexes are N.
 struct Maker<'a> {
     table: &'a [Entry],
     plan: Plan,
     update: bool,
     indexed: usize,
+    with_n: usize,
     last: Vec<usize>,
     elements: Vec<Element>,
 }
@@ -610,11 +640,17 @@ impl Maker<'_> {
             2..=9 => random.between(5, 12),
             _ => random.between(1, 4),
         };
+        let with_n = match plan {
+            _ if !update => 40,
+            Plan::Syntax | Plan::Name | Plan::Use | Plan::Twice => 4,
+            _ => 0,
+        };
         let last = vec![0; table.len()];
-        let mut maker = Maker { table, plan, update, indexed: 40, last, elements: Vec::new() };
+        let mut maker = Maker { table, plan, update, indexed: 40, with_n, last, elements: Vec::new() };
         let odd = random.below(count.min(4));
         for i in 0..count {
             match plan {
+                Plan::Use if i == odd && update && random.chance(25) => maker.add_n(random),
                 Plan::Use if i == odd => maker.misuse(random),
                 Plan::Name if i == odd => maker.unknown(random),
                 Plan::Syntax if i == odd && random.chance(70) => maker.misspell(random),
@@ -660,6 +696,7 @@ impl Maker<'_> {
     fn add_count(&mut self, random: &mut Random, i: usize) {
         let entry = &self.table[i];
         let written = match (entry.is_multiple(), entry.periodic) {
+            (true, Some(_)) if random.chance(self.with_n) => format!("{}NC", entry.name),
             (true, Some(_)) => {
                 let index = range(random, self.plan).0;
                 format!("{}{}C", entry.name, spell(random, index))
@@ -693,17 +730,20 @@ impl Maker<'_> {
         }
         let (mut occurrences, mut values, mut written) = ((1, 1), (1, 1), entry.name.clone());
         if entry.periodic.is_some() {
-            occurrences = range(random, self.plan);
-            written += &spell_range(random, occurrences);
-            if entry.is_multiple() && random.chance(60) {
-                values = range(random, self.plan);
-                written += &format!("({})", spell_range(random, values));
+            let indexes = self.indexes(random);
+            occurrences = indexes.numbers();
+            written += &indexes.spell(random);
+            if entry.is_multiple() && indexes != Indexes::All && random.chance(60) {
+                let indexes = self.indexes(random);
+                values = indexes.numbers();
+                written += &format!("({})", indexes.spell(random));
             }
         } else if entry.is_multiple() {
             values = (self.last[i] + 1, self.last[i] + 1);
             if values.0 > HIGHEST_INDEX || random.chance(self.indexed) {
-                values = range(random, self.plan);
-                written += &spell_range(random, values);
+                let indexes = self.indexes(random);
+                values = indexes.numbers();
+                written += &indexes.spell(random);
             }
         }
         let form = if entry.is_group() { None } else { self.choose_form(random, entry.form()) };
@@ -716,7 +756,37 @@ impl Maker<'_> {
         }
     }
 
-    /// Names an MU field outside periodic groups by its bare name, up to five times, if there is one.
+    fn indexes(&self, random: &mut Random) -> Indexes {
+        if random.chance(self.with_n) {
+            return random.pick(&[Indexes::Last, Indexes::All]);
+        }
+        let (low, high) = range(random, self.plan);
+        Indexes::Numbers(low, high)
+    }
+
+    /// Names something in an update with N, if anything takes an index.
+    fn add_n(&mut self, random: &mut Random) {
+        let takes_index = |&i: &usize| self.table[i].is_multiple() || self.table[i].periodic.is_some();
+        let entries: Vec<usize> = (0..self.table.len()).filter(takes_index).collect();
+        if entries.is_empty() {
+            return self.misuse(random);
+        }
+        let i = random.pick(&entries);
+        let (with_n, counted) = (self.with_n, self.table[i].is_multiple() && self.table[i].periodic.is_some());
+        self.indexed = 100;
+        self.with_n = 100;
+        self.update = false;
+        if counted && random.chance(30) {
+            self.add_count(random, i);
+        } else {
+            self.add_values(random, i);
+        }
+        self.indexed = 40;
+        self.with_n = with_n;
+        self.update = true;
+    }
+
+    /// Names an MU field outside periodic groups up to five times, if there is one; in an update by its bare name.
     fn add_bare(&mut self, random: &mut Random) {
         let outside = |&i: &usize| self.table[i].is_multiple() && self.table[i].periodic.is_none();
         let fields: Vec<usize> = (0..self.table.len()).filter(outside).collect();
@@ -724,7 +794,9 @@ impl Maker<'_> {
             return self.add(random);
         }
         let i = random.pick(&fields);
-        self.indexed = 0;
+        if self.update {
+            self.indexed = 0;
+        }
         for _ in 0..random.between(1, 5) {
             self.add_values(random, i);
         }
@@ -755,22 +827,25 @@ impl Maker<'_> {
     }
 
     fn unknown(&mut self, random: &mut Random) {
+        const SUFFIXES: [&str; 14] =
+            ["", "", "1", "0", "C", "1C", "1-2(3)", "N", "1-N", "NC", "1(N)", ",5", ",5,U", ",U"];
         let name = make_name(random, self.table);
         let known = self.table[random.below(self.table.len())].name.clone();
         let written = match random.below(5) {
             0 => format!("{}-{}", name, known),
             1 => format!("{}-{}", known, name),
-            _ => name + random.pick(&["", "", "1", "0", "C", "1C", "1-2(3)", ",5", ",5,U", ",U"]),
+            _ => name + random.pick(&SUFFIXES),
         };
         self.put(&written, 1);
     }
 
     /// Puts something after a name that few entries take.
     fn misuse(&mut self, random: &mut Random) {
-        const SUFFIXES: [&str; 40] = [
+        const SUFFIXES: [&str; 56] = [
             "", "1", "0", "000", "192", "999", "2-1", "0-1", "1-192", "2-2", "C", "1C", "0C", "192C", "1(1)", "1(0)",
             "1(2-1)", "1(192)", "1-2(3)", "0(1)", ",0", ",1", ",3", ",16", ",30", ",127", ",254", ",255", ",G", ",W",
-            ",A", ",B", ",F", ",P", ",U", ",4,F", ",5,G", ",0,B", "1,2", "1,P",
+            ",A", ",B", ",F", ",P", ",U", ",4,F", ",5,G", ",0,B", "1,2", "1,P", "N", "1-N", "NC", "N(1)", "N(N)",
+            "N(1-N)", "1(N)", "1(1-N)", "0(N)", "192(1-N)", "2-1(N)", "N(0)", "N(2-1)", "N(192)", "N,3", "1-N,U",
         ];
         let name = |random: &mut Random| self.table[random.below(self.table.len())].name.clone();
         let written = match random.chance(20) {
@@ -782,10 +857,12 @@ impl Maker<'_> {
 
     /// Puts an element that is none of the forms. The sign # stands for a name.
     fn misspell(&mut self, random: &mut Random) {
-        const FORMS: [&str; 38] = [
+        const FORMS: [&str; 59] = [
             "", "#0X", "0X", "256X", "1234X", "5 X", "''", "'A''B'", "'A", "#(1)", "#1-2C", "#1(1)C", "#1C(1)", "#1-",
             "#-1", "# 1", "#1 (1)", "#1(1", "#1()", "#1(1-)", "#1234", "#,256", "#,1000", "#,U,5", "#,5,5", "#,X",
-            "#,5,N", "#,AU,", "E5", "#-E1", "#,E1", "#N", "#S", "#1-N", "C", "#,5,", "#C,1", "#-#,5",
+            "#,5,N", "#,AU,", "E5", "#-E1", "#,E1", "#S", "C", "#,5,", "#C,1", "#-#,5", "#2-N", "#0-N", "#N-N", "#N-2",
+            "#0001-N", "#1-NC", "#1-N(1)", "#01-N(N)", "#N(N)C", "#NC(1)", "#NC,1", "#(N)", "#1(2-N)", "#1(N-N)",
+            "#N(1-N", "#N()", "# N", "#N (1)", "#NN", "#N1", "#1N", "#-N", "#N,N",
         ];
         let name = &self.table[random.below(self.table.len())].name;
         let written = random.pick(&FORMS).replace('#', name);
@@ -886,7 +963,7 @@ fn write_format(random: &mut Random, elements: &[Element]) -> Vec<u8> {
 fn bad_format(random: &mut Random, mut format: Vec<u8>) -> Vec<u8> {
     let character = |random: &mut Random| match random.below(30) {
         0 => random.byte(),
-        _ => ebcdic(random.pick(b"AABCDEFGUX0123456789.,,-()' ")),
+        _ => ebcdic(random.pick(b"AABCDEFGNUX0123456789.,,-()' ")),
     };
     match random.below(4) {
         0 => format = (0..random.between(0, 30)).map(|_| character(random)).collect(),
@@ -947,7 +1024,7 @@ impl Story {
     }
 
     fn write_read(&self, random: &mut Random, out: &mut impl Write) -> io::Result<()> {
-        const PLANS: [(usize, Plan); 8] = [
+        const PLANS: [(usize, Plan); 9] = [
             (5, Plan::Table),
             (6, Plan::Record),
             (8, Plan::Syntax),
@@ -956,6 +1033,7 @@ impl Story {
             (6, Plan::Short),
             (9, Plan::Misfit),
             (1, Plan::Room),
+            (8, Plan::Bare),
         ];
         let plan = plan(random, &PLANS);
         let elements = Maker::make(random, &self.table, plan, false);

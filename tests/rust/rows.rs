@@ -19,6 +19,7 @@ pub fn rows() -> Vec<Call> {
     reads.extend(hundred_occurrences());
     reads.extend(hundred_conversions());
     let stored: Vec<Call> = reads.iter().map(updates::stored_again).collect();
+    reads.extend(last_of_a_hundred());
     reads.push(most_elements());
     reads.push(most_items());
     reads.into_iter().chain(stored).chain(updates::rows()).collect()
@@ -79,6 +80,22 @@ fn hundred_occurrences() -> Vec<Call> {
         read(&row("MU field"), MIXED, mixed_record(), "PM1-100(1-2)."),
         read(&row("variable length"), MIXED, mixed_record(), "PV1-100."),
         read(&row("after both"), MIXED, mixed_record(), "PC1-100."),
+    ]
+}
+
+/// The last of a hundred values or occurrences, and all of them, by N. No update takes it.
+fn last_of_a_hundred() -> Vec<Call> {
+    let row = |name: &str| format!("a hundred by N, {}", name);
+    let values = |value: &[u8]| record(vec![vec![100], value.repeat(100)].into_iter());
+    vec![
+        read(&row("last value"), "1MF U2 M", values(b"\xF1\xF5"), "MFN."),
+        read(&row("last value of variable length"), "1MV A0 M", values(b"\x03\xC1\xC2"), "MVN."),
+        read(&row("all values"), "1MF U2 M", values(b"\xF1\xF5"), "MF1-N."),
+        read(&row("last occurrence"), PLAIN, plain_record(), "PGN."),
+        read(&row("group"), PLAIN, plain_record(), "PG1-N."),
+        read(&row("last field"), PLAIN, plain_record(), "PC1-N."),
+        read(&row("last value in each occurrence"), MIXED, mixed_record(), "PM1-100(N)."),
+        read(&row("all values in each occurrence"), MIXED, mixed_record(), "PM1-100(1-N)."),
     ]
 }
 

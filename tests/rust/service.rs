@@ -1,4 +1,4 @@
-//! Read, update and make the empty record, by the rules of document 01.
+//! Read, update and make the empty record, by the rules of document 01 and, for N, of document 02.
 //!
 //! Nothing is allocated. A call decodes what it was lent once: the table into entries, the record into the places of
 //! its entries and occurrences, the format into elements. A read then goes over its elements twice, to test and to
@@ -83,7 +83,7 @@ fn read_within<const ELEMENTS: usize, const STARTS: usize>(
     let mut starts = [0; STARTS];
     let record = Record::load(&entries, record, &mut starts)?;
     let mut elements = [Element::NONE; ELEMENTS];
-    let count = decode(&entries, format, &mut elements)?;
+    let count = decode(&entries, Some(&record), format, &mut elements)?;
     let limit = min(buffer.len(), MOST_ITEMS);
     let mut length = 0;
     for element in &elements[..count] {
@@ -108,7 +108,7 @@ fn update_within<const ELEMENTS: usize>(
     entries.load(table)?;
     let record = Record::load(&entries, record, &mut [])?;
     let mut elements = [Element::NONE; ELEMENTS];
-    let count = decode(&entries, format, &mut elements)?;
+    let count = decode(&entries, None, format, &mut elements)?;
     let elements = &mut elements[..count];
     let tested = test_items(&entries, elements, buffer);
     let named = sort_named(&entries, elements);
@@ -176,6 +176,7 @@ const APOSTROPHE: u8 = 0x7D;
 const LETTER_C: u8 = 0xC3;
 const LETTER_E: u8 = 0xC5;
 const LETTER_G: u8 = 0xC7;
+const LETTER_N: u8 = 0xD5;
 const LETTER_W: u8 = 0xE6;
 const LETTER_X: u8 = 0xE7;
 
@@ -849,11 +850,12 @@ impl<'a> Record<'a> {
             None => (0, 0),
             Some(at) if entry.kind == Kind::Plain => (at, 1),
             Some(at) => {
-                let (before, count) = (usize::from(element.values.0) - 1, self.count(at));
-                if count <= before {
+                let count = self.bytes[at];
+                let (low, high) = settle(element.values, count);
+                if count < low {
                     return (0, 0);
                 }
-                (self.skip(entry.form, before, at + 1), min(count - before, element.values_named()))
+                (self.skip(entry.form, usize::from(low) - 1, at + 1), usize::from(min(count, high) + 1 - low))
             }
         }
     }
@@ -881,12 +883,12 @@ impl Record<'_> {
     /// The length of all items of an element at standard length and format, which always fit.
     fn standard_length(&self, element: &Element) -> usize {
         let entry = &self.table.entries[element.first()];
-        if entry.size > 0 {
+        if entry.size > 0 && element.values != ALL {
             return element.occurrences().count() * element.values_named() * usize::from(entry.size);
         }
         let length = |occurrence| {
             let (at, exist) = self.stored(element, occurrence);
-            self.skip(entry.form, exist, at) - at + element.values_named() - exist
+            self.skip(entry.form, exist, at) - at + element.absent(exist)
         };
         element.occurrences().map(length).sum()
     }
@@ -903,7 +905,7 @@ impl Record<'_> {
                 end = within(end + converted_length(value, from, to), limit)?;
                 at += value.len();
             }
-            end = within(end + (element.values_named() - exist) * to.null_length(), limit)?;
+            end = within(end + element.absent(exist) * to.null_length(), limit)?;
         }
         Ok(end)
     }
@@ -941,7 +943,7 @@ impl Record<'_> {
                     at += value.len();
                 }
             }
-            out.nulls(to, element.values_named() - exist);
+            out.nulls(to, element.absent(exist));
         }
     }
 
@@ -986,6 +988,9 @@ enum Written {
     Count { name: usize, index: Option<u16> },
     Values(Reference),
 }
+
+/// N among the indexes that are written, which have three digits at most.
+const N: u16 = 1000;
 
 /// A name with its index or range, its parentheses, and the length and format that follow.
 struct Reference {
@@ -1095,15 +1100,16 @@ impl Scanner<'_> {
             return Ok(Written::Series(name, self.name()?));
         }
         let mut reference = Reference { name, index: None, values: None, length: None, format: None };
-        if is_digit(self.peek(0)) {
-            let index = self.number()?;
+        if matches!(self.peek(0), 0xF0..=0xF9 | LETTER_N) {
+            let low = self.index()?;
             if self.take(LETTER_C) {
-                return Ok(Written::Count { name, index: Some(index) });
+                return Ok(Written::Count { name, index: Some(low) });
             }
-            reference.index = Some((index, self.range_end(index)?));
-            if self.take(OPEN) {
-                let value = self.number()?;
-                reference.values = Some((value, self.range_end(value)?));
+            let index = (low, self.range_end(low)?);
+            reference.index = Some(index);
+            if index != (1, N) && self.take(OPEN) {
+                let low = self.index()?;
+                reference.values = Some((low, self.range_end(low)?));
                 self.expect(CLOSE)?;
             }
         }
@@ -1113,11 +1119,24 @@ impl Scanner<'_> {
         Ok(Written::Values(reference))
     }
 
-    fn range_end(&mut self, start: u16) -> Outcome<u16> {
-        if self.take(HYPHEN) {
+    /// A number or N.
+    fn index(&mut self) -> Outcome<u16> {
+        if is_digit(self.peek(0)) {
             self.number()
         } else {
-            Ok(start)
+            self.expect(LETTER_N).map(|_| N)
+        }
+    }
+
+    /// The end of a range that starts there. Only 1 starts one that ends with N, and N starts none.
+    fn range_end(&mut self, low: u16) -> Outcome<u16> {
+        if !self.take(HYPHEN) {
+            return Ok(low);
+        }
+        match low {
+            1 if self.take(LETTER_N) => Ok(N),
+            N => Err(Refusal::Syntax),
+            _ => self.number(),
         }
     }
 
@@ -1165,7 +1184,9 @@ struct Element {
     /// The entries named: a field, a group with what it contains, or a series.
     first: u8,
     end: u8,
+    /// The occurrences, by their numbers.
     occurrences: (u8, u8),
+    /// The values, by their numbers or with N, which may be another number in each occurrence.
     values: (u8, u8),
     /// The length and format in effect for a field; the length of blanks and text.
     form: Form,
@@ -1212,23 +1233,49 @@ impl Element {
         usize::from(self.occurrences.0)..=usize::from(self.occurrences.1)
     }
 
+    /// How many of the values named in an occurrence don't exist, where so many do.
+    fn absent(&self, exist: usize) -> usize {
+        if self.values == ALL {
+            0
+        } else {
+            self.values_named() - exist
+        }
+    }
+
+    /// How many values it names in each occurrence, if it doesn't name all.
     fn values_named(&self) -> usize {
         usize::from(self.values.1) + 1 - usize::from(self.values.0)
     }
 }
 
+/// N among the indexes of an element, whose numbers are lower.
+const LAST: u8 = 255;
+
+const ONE: (u8, u8) = (1, 1);
+/// 1-N.
+const ALL: (u8, u8) = (1, LAST);
+
+/// Indexes by their numbers where so many are stored. Where none is, N is 1, and 1-N names nothing.
+fn settle(indexes: (u8, u8), count: u8) -> (u8, u8) {
+    match indexes {
+        (LAST, _) => (max(count, 1), max(count, 1)),
+        (low, LAST) => (low, count),
+        numbers => numbers,
+    }
+}
+
 /// Decodes the format and gives the number of its elements. A refusal by 4 or 5 waits until the syntax is known.
-fn decode(table: &Table, format: &[u8], elements: &mut [Element]) -> Outcome<usize> {
+fn decode(table: &Table, stored: Option<&Record>, format: &[u8], elements: &mut [Element]) -> Outcome<usize> {
     if format.len() > MOST_FORMAT {
         return Err(Refusal::Syntax);
     }
     let mut scanner = Scanner { bytes: format, at: 0 };
-    let mut last = [0; MOST_ENTRIES];
+    let mut decoder = Decoder { table, stored, last: [0; MOST_ENTRIES] };
     let mut count = Ok(0);
     loop {
         let written = scanner.element()?;
         if let Ok(place) = count {
-            count = element(table, &mut last, written).map(|element| {
+            count = decoder.element(written).map(|element| {
                 elements[place] = element;
                 place + 1
             });
@@ -1241,83 +1288,111 @@ fn decode(table: &Table, format: &[u8], elements: &mut [Element]) -> Outcome<usi
     }
 }
 
-/// The element that is meant. The last index of each MU field so far is kept for bare names.
-fn element(table: &Table, last: &mut [u8; MOST_ENTRIES], written: Written) -> Outcome<Element> {
-    match written {
-        Written::Blanks(length) => Ok(Element::of_length(Items::Blanks, length, 0)),
-        Written::Text { at, length } => Ok(Element::of_length(Items::Text, length as u8, at)),
-        Written::Count { name, index } => count_element(table, name, index),
-        Written::Series(first, last) => series_element(table, first, last),
-        Written::Values(reference) => values_element(table, last, &reference),
+/// Finds what the elements of a format mean, one after the other.
+struct Decoder<'a> {
+    table: &'a Table,
+    /// The record in which N is looked up. An update lends none, as N is for reading.
+    stored: Option<&'a Record<'a>>,
+    /// The last index of each MU field so far, for bare names.
+    last: [u8; MOST_ENTRIES],
+}
+
+impl Decoder<'_> {
+    fn element(&mut self, written: Written) -> Outcome<Element> {
+        match written {
+            Written::Blanks(length) => Ok(Element::of_length(Items::Blanks, length, 0)),
+            Written::Text { at, length } => Ok(Element::of_length(Items::Text, length as u8, at)),
+            Written::Count { name, index } => self.count_element(name, index),
+            Written::Series(first, last) => self.series_element(first, last),
+            Written::Values(reference) => self.values_element(&reference),
+        }
     }
-}
 
-const ONE: (u8, u8) = (1, 1);
-
-fn count_element(table: &Table, name: usize, index: Option<u16>) -> Outcome<Element> {
-    let first = table.find(name)?;
-    let entry = &table.entries[first];
-    let occurrences = match (entry.kind, entry.periodic, index) {
-        (Kind::Periodic, _, None) | (Kind::Multiple, None, None) => ONE,
-        (Kind::Multiple, Some(_), Some(index)) => range((index, index))?,
-        _ => return Err(Refusal::Use),
-    };
-    Ok(Element { kind: Items::Count, first: first as u8, occurrences, ..Element::NONE })
-}
-
-fn series_element(table: &Table, first: usize, last: usize) -> Outcome<Element> {
-    let (first, last) = (table.find(first)?, table.find(last)?);
-    let ends_at = |i: usize| table.entries[i].kind == Kind::Plain && table.entries[i].periodic.is_none();
-    let is_shut_out = |entry: &Entry| matches!(entry.kind, Kind::Multiple | Kind::Periodic);
-    if first > last || !ends_at(first) || !ends_at(last) || table.entries[first..last].iter().any(is_shut_out) {
-        return Err(Refusal::Use);
+    fn count_element(&self, name: usize, index: Option<u16>) -> Outcome<Element> {
+        let first = self.table.find(name)?;
+        let entry = &self.table.entries[first];
+        let occurrences = match (entry.kind, entry.periodic, index) {
+            (Kind::Periodic, _, None) | (Kind::Multiple, None, None) => ONE,
+            (Kind::Multiple, Some(group), Some(index)) => self.occurrences(group, (index, index))?,
+            _ => return Err(Refusal::Use),
+        };
+        Ok(Element { kind: Items::Count, first: first as u8, occurrences, ..Element::NONE })
     }
-    Ok(Element {
-        kind: Items::Values,
-        first: first as u8,
-        end: last as u8 + 1,
-        occurrences: ONE,
-        values: ONE,
-        form: table.entries[first].form,
-        standard: true,
-        in_one_piece: true,
-        ..Element::NONE
-    })
-}
 
-fn values_element(table: &Table, last: &mut [u8; MOST_ENTRIES], reference: &Reference) -> Outcome<Element> {
-    let first = table.find(reference.name)?;
-    let entry = &table.entries[first];
-    let (occurrences, values) = match (entry.periodic, entry.kind, reference.index, reference.values) {
-        (None, Kind::Multiple, None, None) => (ONE, range((u16::from(last[first]) + 1, u16::from(last[first]) + 1))?),
-        (None, Kind::Multiple, Some(index), None) => (ONE, range(index)?),
-        (None, _, None, None) => (ONE, ONE),
-        (Some(_), _, Some(index), None) => (range(index)?, ONE),
-        (Some(_), Kind::Multiple, Some(index), Some(values)) => (range(index)?, range(values)?),
-        _ => return Err(Refusal::Use),
-    };
-    let form = form_in_effect(entry, reference)?;
-    let standard = form == entry.form;
-    last[first] = values.1;
-    Ok(Element {
-        kind: Items::Values,
-        first: first as u8,
-        end: entry.end,
-        occurrences,
-        values,
-        form,
-        standard,
-        in_one_piece: standard && entry.periodic.is_none() && entry.kind != Kind::Multiple,
-        bare: reference.index.is_none(),
-        ..Element::NONE
-    })
-}
+    fn series_element(&self, first: usize, last: usize) -> Outcome<Element> {
+        let table = self.table;
+        let (first, last) = (table.find(first)?, table.find(last)?);
+        let ends_at = |i: usize| table.entries[i].kind == Kind::Plain && table.entries[i].periodic.is_none();
+        let is_shut_out = |entry: &Entry| matches!(entry.kind, Kind::Multiple | Kind::Periodic);
+        if first > last || !ends_at(first) || !ends_at(last) || table.entries[first..last].iter().any(is_shut_out) {
+            return Err(Refusal::Use);
+        }
+        Ok(Element {
+            kind: Items::Values,
+            first: first as u8,
+            end: last as u8 + 1,
+            occurrences: ONE,
+            values: ONE,
+            form: table.entries[first].form,
+            standard: true,
+            in_one_piece: true,
+            ..Element::NONE
+        })
+    }
 
-fn range((low, high): (u16, u16)) -> Outcome<(u8, u8)> {
-    if 1 <= low && low <= high && high <= u16::from(HIGHEST_INDEX) {
-        Ok((low as u8, high as u8))
-    } else {
-        Err(Refusal::Use)
+    fn values_element(&mut self, reference: &Reference) -> Outcome<Element> {
+        let first = self.table.find(reference.name)?;
+        let entry = &self.table.entries[first];
+        let (occurrences, values) = match (entry.periodic, entry.kind, reference.index, reference.values) {
+            (None, Kind::Multiple, None, None) => (ONE, self.indexes(self.next_index(first))?),
+            (None, Kind::Multiple, Some(index), None) => (ONE, self.indexes(index)?),
+            (None, _, None, None) => (ONE, ONE),
+            (Some(group), _, Some(index), None) => (self.occurrences(group, index)?, ONE),
+            (Some(group), Kind::Multiple, Some(index), Some(values)) => {
+                (self.occurrences(group, index)?, self.indexes(values)?)
+            }
+            _ => return Err(Refusal::Use),
+        };
+        let form = form_in_effect(entry, reference)?;
+        let standard = form == entry.form;
+        self.last[first] = values.1;
+        Ok(Element {
+            kind: Items::Values,
+            first: first as u8,
+            end: entry.end,
+            occurrences,
+            values,
+            form,
+            standard,
+            in_one_piece: standard && entry.periodic.is_none() && entry.kind != Kind::Multiple,
+            bare: reference.index.is_none(),
+            ..Element::NONE
+        })
+    }
+
+    /// What the bare name of an MU field means: N after N, else one above the last index.
+    fn next_index(&self, field: usize) -> (u16, u16) {
+        match self.last[field] {
+            LAST => (N, N),
+            last => (u16::from(last) + 1, u16::from(last) + 1),
+        }
+    }
+
+    /// The indexes of an element, N among them.
+    fn indexes(&self, written: (u16, u16)) -> Outcome<(u8, u8)> {
+        match written {
+            (low, high) if 1 <= low && low <= high && high <= u16::from(HIGHEST_INDEX) => Ok((low as u8, high as u8)),
+            (N, N) if self.stored.is_some() => Ok((LAST, LAST)),
+            (1, N) if self.stored.is_some() => Ok(ALL),
+            _ => Err(Refusal::Use),
+        }
+    }
+
+    /// The occurrences of a periodic group, by their numbers.
+    fn occurrences(&self, group: u8, written: (u16, u16)) -> Outcome<(u8, u8)> {
+        let indexes = self.indexes(written)?;
+        let count = self.stored.map_or(0, |record| record.bytes[record.place(usize::from(group))]);
+        Ok(settle(indexes, count))
     }
 }
 

@@ -24,6 +24,8 @@ pub const LETTER_C: u8 = 0xC3;
 
 const LETTER_E: u8 = 0xC5;
 
+pub const LETTER_N: u8 = 0xD5;
+
 pub const LETTER_X: u8 = 0xE7;
 
 pub const DIGIT_0: u8 = 0xF0;

@@ -7,18 +7,16 @@ use native.Mathlib.Nat.{add-zero, zero-add, lt-of-lt-of-le, pow-le-pow-right}
 use native.Mathlib.Omega.{arith}
 use lib.Dec.{eqb, leb, lit<}
 use lib.ListN.{length, getD}
-use borrow.Author.Tests.{le-leb, lt-leb, leb-true, ne-eqb}
+use borrow.Author.Tests.{le-leb, lt-leb, leb-true}
 use Rattle.rules.specs.Outcome.{Outcome, done, refused, _>>=_, need}
 use Rattle.rules.specs.Limits.{most-digits}
-use Rattle.rules.specs.Characters.{digit, digit-0, hyphen}
+use Rattle.rules.specs.Characters.{digit, digit-0}
 use Rattle.rules.specs.Lists.{Bytes, spelled, nothing}
 use Rattle.rules.specs.Format.{leading-digits, number-first}
 use Rattle.rules.proofs.Bools.{and-both}
 use Rattle.format_buffer.specs.Part.{part}
 use Rattle.format_buffer.specs.Elements.{number-bound}
-use Rattle.format_buffer.specs.Numbers.{range-end, byte-alone, number-place, Numbered}
-use Rattle.format_buffer.specs.declared.numbers.Number.{Number}
-use Rattle.format_buffer.specs.declared.numbers.Number.the-variants.{Value, Bad}
+use Rattle.format_buffer.specs.Numbers.{byte-alone}
 use Rattle.format_buffer.proofs.Parts.{part-nil, part-cons}
 use Rattle.buffer.proofs.Cases.{by-order}
 
@@ -116,20 +114,6 @@ pub read-none : (f : Bytes) (at upto : ℕ) → at < upto → upto ≤ length f 
 unfolding number-first leading-digits
 read-none f at upto h k e = rw (part-cons f at upto h k, e, leading-digits) refl
 
--- The end of a range.
-pub range-end-nothing : (f : Bytes) (k at upto : ℕ) → at ≡ upto → range-end k (part f at upto) ≡ done (k, part f at upto)
-unfolding range-end
-range-end-nothing f k at upto e = rw (part-nil f at upto (omega arith)) refl
-
-module _ (f : Bytes) (k at upto : ℕ) (h : at < upto) (r : upto ≤ length f) where
-  pub range-end-none : (getD f at 0 ≡ hyphen → ⊥) → range-end k (part f at upto) ≡ done (k, part f at upto)
-  unfolding range-end
-  range-end-none e = rw (part-cons f at upto h r, ne-eqb _ _ e, range-end) refl
-
-  pub range-end-hyphen : getD f at 0 ≡ hyphen → range-end k (part f at upto) ≡ number-first (part f (at + 1) upto)
-  unfolding range-end
-  range-end-hyphen e = rw (part-cons f at upto h r, e) refl
-
 alone-nil : (c : ℕ) → false ≡ byte-alone c []
 unfolding byte-alone
 alone-nil c = refl
@@ -152,12 +136,3 @@ module _ (f : Bytes) (c at upto : ℕ) (k : upto ≤ length f) where
 
       more : at < upto → (upto - at ≡ 1 → ⊥) → false ≡ byte-alone c (part f at upto)
       more h e = rw (part-cons f at upto h k, part-cons f (at + 1) upto (omega arith) k) (alone-more _ _ _ _)
-
--- What was read from a later place on.
-within-later : (at at′ upto : ℕ) (r : Number) → at ≤ at′ → number-place at′ upto r → number-place at upto r
-within-later at at′ upto (Value n p) h (a, b, c) = (omega arith, b, c)
-within-later at at′ upto Bad h w = tt
-
-pub numbered-later : {f : Bytes} {at at′ upto : ℕ} {o o′ : Outcome (ℕ × Bytes)} {r : Number} → o ≡ o′ → at ≤ at′ → Numbered f at′ upto o′ r
-    → Numbered f at upto o r
-numbered-later {at = at} {at′ = at′} {upto = upto} {r = r} e h w = record { answer = e ∙ w .answer; place = within-later at at′ upto r h (w .place) }

@@ -1,5 +1,6 @@
 pub mod Parts
 pub mod Digits
+pub mod Indexes
 pub mod Names
 pub mod Answers
 pub mod PieceLaws

@@ -13,11 +13,11 @@ use Rattle.rules.specs.Outcome.{Outcome, done, refused, _>>=_, need}
 use Rattle.rules.specs.Characters.{hyphen, open-parenthesis, close-parenthesis, letter-C}
 use Rattle.rules.specs.Lists.{Bytes, nothing}
 use Rattle.rules.specs.Table.{is-name, name-of}
-use Rattle.rules.specs.Format.{Range, named, count, series, number-first, closing, parenthesis, after-range, after-index, series-to, after-name}
-use Rattle.rules.proofs.Steps.{by-test}
+use Rattle.rules.specs.Format.{Indexing, named, series, index-first, range-end, closing, parenthesis, takes-parenthesis, after-range, indexed-count, after-index, series-to, after-name}
 use Rattle.format_buffer.specs.Part.{part}
-use Rattle.format_buffer.specs.Elements.{range, number-bound}
-use Rattle.format_buffer.specs.Numbers.{range-end, byte-alone, number-and-rest, Numbered}
+use Rattle.format_buffer.specs.Elements.{number-bound, written-scope, count-of}
+use Rattle.format_buffer.specs.Numbers.{byte-alone, number-and-rest, Numbered}
+use Rattle.format_buffer.specs.declared.Count.{Count}
 use Rattle.format_buffer.specs.declared.numbers.Number.{Number}
 use Rattle.format_buffer.specs.declared.numbers.Number.the-variants.{Value, Bad}
 use Rattle.format_buffer.proofs.Parts.{part-nil, part-cons}
@@ -31,71 +31,67 @@ pub numbered-bad : {f : Bytes} {at upto : ℕ} {o : Outcome (ℕ × Bytes)} {r :
 numbered-bad {f} {at} {upto} w q = w .answer ∙ ap (number-and-rest f upto) q
 
 -- `)` and nothing more.
-closing-shut : (r : Range) (bs : Bytes) → byte-alone close-parenthesis bs ≡ true → closing r bs ≡ done r
+closing-shut : (x : Indexing) (bs : Bytes) → byte-alone close-parenthesis bs ≡ true → closing x bs ≡ done x
 unfolding closing byte-alone
-closing-shut r [] e = absurd (false≢true e)
-closing-shut r (b ∷ bs) e = rw e refl
+closing-shut x [] e = absurd (false≢true e)
+closing-shut x (b ∷ bs) e = rw e refl
 
-closing-open : (r : Range) (bs : Bytes) → byte-alone close-parenthesis bs ≡ false → closing r bs ≡ refused 3
+closing-open : (x : Indexing) (bs : Bytes) → byte-alone close-parenthesis bs ≡ false → closing x bs ≡ refused 3
 unfolding closing byte-alone
-closing-open r [] e = refl
-closing-open r (b ∷ bs) e = rw e refl
+closing-open x [] e = refl
+closing-open x (b ∷ bs) e = rw e refl
 
--- A parenthesis is a range and its end.
-range-then : (k c : ℕ) (cs : Bytes)
-    → elim (eqb c hyphen) [ true ↦ number-first cs >>= (λ l. closing (range k (l .0)) (l .1)) | false ↦ closing (range k k) (c ∷ cs) ]
-    ≡ (range-end k (c ∷ cs) >>= λ l. closing (range k (l .0)) (l .1))
-unfolding range-end
-range-then k c cs = by-test (eqb c hyphen) (λ h. rw (h, range-end) refl) (λ h. rw (h, range-end) refl)
-
-parenthesis-behind : (k : ℕ) (cs bs : Bytes) → number-first bs ≡ done (k, cs)
-    → parenthesis bs ≡ (range-end k cs >>= λ l. closing (range k (l .0)) (l .1))
-unfolding parenthesis range-end closing
-parenthesis-behind k [] bs e = rw e refl
-parenthesis-behind k (c ∷ cs) bs e = rw e (range-then k c cs)
-
-pub parenthesis-none : (bs : Bytes) → number-first bs ≡ refused 3 → parenthesis bs ≡ refused 3
+-- A parenthesis is an index, the end of a range and what closes it.
+pub parenthesis-none : (bs : Bytes) → index-first bs ≡ refused 3 → parenthesis bs ≡ refused 3
 unfolding parenthesis
 parenthesis-none bs e = rw e refl
 
-module _ (bs : Bytes) {k : ℕ} {cs : Bytes} (e : number-first bs ≡ done (k, cs)) where
+module _ (bs : Bytes) {k : Indexing} {cs : Bytes} (e : index-first bs ≡ done (k, cs)) where
   pub parenthesis-bad : range-end k cs ≡ refused 3 → parenthesis bs ≡ refused 3
-  parenthesis-bad h = parenthesis-behind k cs bs e ∙ rw h refl
+  unfolding parenthesis
+  parenthesis-bad h = rw (e, h) refl
 
-  pub parenthesis-shut : {l : ℕ} {ds : Bytes} → range-end k cs ≡ done (l, ds) → byte-alone close-parenthesis ds ≡ true → parenthesis bs ≡ done (range k l)
-  parenthesis-shut {l} {ds} h t = parenthesis-behind k cs bs e ∙ rw h (closing-shut (range k l) ds t)
+  module _ {x : Indexing} {ds : Bytes} (h : range-end k cs ≡ done (x, ds)) where
+    pub parenthesis-shut : byte-alone close-parenthesis ds ≡ true → parenthesis bs ≡ done x
+    unfolding parenthesis
+    parenthesis-shut t = rw (e, h) (closing-shut x ds t)
 
-  pub parenthesis-open : {l : ℕ} {ds : Bytes} → range-end k cs ≡ done (l, ds) → byte-alone close-parenthesis ds ≡ false → parenthesis bs ≡ refused 3
-  parenthesis-open {l} {ds} h t = parenthesis-behind k cs bs e ∙ rw h (closing-open (range k l) ds t)
+    pub parenthesis-open : byte-alone close-parenthesis ds ≡ false → parenthesis bs ≡ refused 3
+    unfolding parenthesis
+    parenthesis-open t = rw (e, h) (closing-open x ds t)
 
--- After a name and a range.
-module _ (n : ℕ) (r : Range) (f : Bytes) (at upto : ℕ) where
-  pub after-range-nothing : at ≡ upto → after-range n r (part f at upto) ≡ done (named n (some r) none none none)
+-- After a name and its indexes.
+module _ (n : ℕ) (x : Indexing) (f : Bytes) (at upto : ℕ) where
+  pub after-range-nothing : at ≡ upto → after-range n x (part f at upto) ≡ done (named n (some x) none none none)
   unfolding after-range
   after-range-nothing e = rw (part-nil f at upto (omega arith)) refl
 
-  pub after-range-none : at < upto → upto ≤ length f → (getD f at 0 ≡ open-parenthesis → ⊥) → after-range n r (part f at upto) ≡ refused 3
-  unfolding after-range
-  after-range-none h k e = rw (part-cons f at upto h k, ne-eqb _ _ e) refl
+  module _ (h : at < upto) (k : upto ≤ length f) where
+    pub after-range-all : takes-parenthesis x ≡ false → after-range n x (part f at upto) ≡ refused 3
+    unfolding after-range
+    after-range-all e = rw (part-cons f at upto h k, e) refl
 
-  pub after-range-open : at < upto → upto ≤ length f → getD f at 0 ≡ open-parenthesis → {o : Outcome Range} → parenthesis (part f (at + 1) upto) ≡ o
-      → after-range n r (part f at upto) ≡ (o >>= λ v. done (named n (some r) (some v) none none))
-  unfolding after-range
-  after-range-open h k e q = rw (part-cons f at upto h k, e, q) refl
+    pub after-range-none : (getD f at 0 ≡ open-parenthesis → ⊥) → after-range n x (part f at upto) ≡ refused 3
+    unfolding after-range
+    after-range-none e = rw (part-cons f at upto h k, ne-eqb _ _ e, and-false) refl
+
+    pub after-range-open : takes-parenthesis x ≡ true → getD f at 0 ≡ open-parenthesis → {o : Outcome Indexing} → parenthesis (part f (at + 1) upto) ≡ o
+        → after-range n x (part f at upto) ≡ (o >>= λ v. done (named n (some x) (some v) none none))
+    unfolding after-range
+    after-range-open t e q = rw (part-cons f at upto h k, t, e, q) refl
 
 -- After a name and an index.
-module _ (n i : ℕ) where
-  pub after-index-count : (bs : Bytes) → byte-alone letter-C bs ≡ true → after-index n i bs ≡ done (count n (some i))
+module _ (n : ℕ) (x : Indexing) where
+  pub after-index-count : (bs : Bytes) → byte-alone letter-C bs ≡ true → after-index n x bs ≡ done (indexed-count n x)
   unfolding after-index byte-alone
   after-index-count [] e = absurd (false≢true e)
   after-index-count (b ∷ bs) e = rw (e, after-index) refl
 
-  pub after-index-range : (bs : Bytes) → byte-alone letter-C bs ≡ false → {o : Outcome (ℕ × Bytes)} → range-end i bs ≡ o
-      → after-index n i bs ≡ (o >>= λ j. after-range n (range i (j .0)) (j .1))
+  pub after-index-range : (bs : Bytes) → byte-alone letter-C bs ≡ false → {o : Outcome (Indexing × Bytes)} → range-end x bs ≡ o
+      → after-index n x bs ≡ (o >>= λ y. after-range n (y .0) (y .1))
   unfolding after-index after-range range-end byte-alone
   after-index-range [] e q = rw (← q) refl
-  after-index-range (b ∷ bs) e q =
-      rw (← q, e, after-index) (by-test (eqb b hyphen) (λ h. rw (h, range-end) refl) (λ h. rw (h, range-end) refl))
+  after-index-range (b ∷ bs) e q = rw (← q, e, after-index) refl
 
 -- After a name and a hyphen.
 module _ (n : ℕ) (f : Bytes) (at upto : ℕ) (k : upto ≤ length f) where
@@ -113,13 +109,17 @@ module _ (n : ℕ) (f : Bytes) (at upto : ℕ) (k : upto ≤ length f) where
       (λ l. rw (part-cons f at upto h k, part-nil f (at + 1) upto l) refl))
       (λ h. rw (part-nil f at upto h) refl)
 
-after-name-C : (n : ℕ) (bs : Bytes) → byte-alone letter-C bs ≡ true → after-name n bs ≡ done (count n none)
-unfolding after-name byte-alone
+-- The count of a name, in no occurrence.
+abbrev pub plain-count : ℕ → Count
+plain-count n = record { name = n; indexed = false; index = 0; scope = written-scope }
+
+after-name-C : (n : ℕ) (bs : Bytes) → byte-alone letter-C bs ≡ true → after-name n bs ≡ done (count-of (plain-count n))
+unfolding after-name byte-alone count-of
 after-name-C n [] e = absurd (false≢true e)
 after-name-C n (b ∷ bs) e = rw (e, after-name) refl
 
 after-name-other : (n b : ℕ) (bs : Bytes) → byte-alone letter-C (b ∷ bs) ≡ false
-    → after-name n (b ∷ bs) ≡ elim (eqb b hyphen) [ true ↦ series-to n bs | false ↦ number-first (b ∷ bs) >>= (λ i. after-index n (i .0) (i .1)) ]
+    → after-name n (b ∷ bs) ≡ elim (eqb b hyphen) [ true ↦ series-to n bs | false ↦ index-first (b ∷ bs) >>= (λ i. after-index n (i .0) (i .1)) ]
 unfolding after-name byte-alone
 after-name-other n b bs e = rw (e, after-name) refl
 
@@ -129,14 +129,14 @@ module _ (n : ℕ) (f : Bytes) (at upto : ℕ) where
   unfolding after-name
   after-name-nothing e = rw (part-nil f at upto (omega arith)) refl
 
-  pub after-name-count : byte-alone letter-C (part f at upto) ≡ true → after-name n (part f at upto) ≡ done (count n none)
+  pub after-name-count : byte-alone letter-C (part f at upto) ≡ true → after-name n (part f at upto) ≡ done (count-of (plain-count n))
   after-name-count e = after-name-C n (part f at upto) e
 
   module _ (h : at < upto) (k : upto ≤ length f) (c : byte-alone letter-C (part f at upto) ≡ false) where
     pub after-name-series : getD f at 0 ≡ hyphen → after-name n (part f at upto) ≡ series-to n (part f (at + 1) upto)
     after-name-series e = let q = rw (part-cons f at upto h k) at c in rw (part-cons f at upto h k, after-name-other n _ _ q, e) refl
 
-    pub after-name-index : (getD f at 0 ≡ hyphen → ⊥) → {o : Outcome (ℕ × Bytes)} → number-first (part f at upto) ≡ o
+    pub after-name-index : (getD f at 0 ≡ hyphen → ⊥) → {o : Outcome (Indexing × Bytes)} → index-first (part f at upto) ≡ o
         → after-name n (part f at upto) ≡ (o >>= λ i. after-index n (i .0) (i .1))
     after-name-index e g =
         let q = rw (part-cons f at upto h k) at c in

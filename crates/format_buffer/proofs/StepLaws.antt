@@ -16,11 +16,12 @@ use Rattle.rules.specs.Format.{texts, Pending, settled, completed, put-before}
 use Rattle.rules.proofs.Steps.{by-test, done-inj}
 use Rattle.rules.proofs.Only.{Only, Is, only-bind, only-pick}
 use Rattle.rules.proofs.Refusals.{texts-only, assembled-only}
-use Rattle.format_buffer.specs.Elements.{optional, element-of, named-of, sound, shortest-element, with-length, with-format}
+use Rattle.format_buffer.specs.Elements.{optional, written-scope, element-of, named-of, count-of, sound, shortest-element, with-length, with-format}
 use Rattle.format_buffer.specs.Pieces.{piece-of}
 use Rattle.format_buffer.specs.Texts.{pending, elements-first, rest, Looked}
 use Rattle.format_buffer.specs.Syntax.{parsed, element-before, by-step, elements-behind, Stepped, then-format, then-completed}
 use Rattle.format_buffer.specs.declared.Named.{Named}
+use Rattle.format_buffer.specs.declared.Count.{Count}
 use Rattle.format_buffer.specs.declared.Element.{Element}
 use Rattle.format_buffer.specs.declared.Element.the-variants as code
 use Rattle.format_buffer.specs.declared.pieces.Piece.{Piece}
@@ -163,6 +164,10 @@ nameless (code.Named n) = ⊥
 nameless (code.Count c) = Unit {0}
 nameless (code.Series first last) = Unit {0}
 
+completed-count : (c : Count) (p : Pending) → completed (count-of c) p ≡ (need (settled p) 3 >>= λ _. done (count-of c))
+unfolding count-of completed
+completed-count c p = by-test (eqb (c .scope) written-scope) (λ e. rw e refl) (λ e. rw e refl)
+
 pub only-settled : (f : Bytes) (end : ℕ) (e : Element) → nameless e → then-completed f end (element-of f e) ≡ element-before (element-of f e) (elements-behind f end)
 unfolding then-completed completed
 only-settled f end (code.Blanks n) h = completed-settled (rules.blanks n) (λ p. refl) (rest f end) ∙ at-settled f end (rules.blanks n)
@@ -170,9 +175,7 @@ only-settled f end (code.Text from upto) h =
     let x = element-of f (code.Text from upto) in
     completed-settled x (λ p. refl) (rest f end) ∙ at-settled f end x
 only-settled f end (code.Named n) h = absurd h
-only-settled f end (code.Count c) h =
-    let x = element-of f (code.Count c) in
-    completed-settled x (λ p. refl) (rest f end) ∙ at-settled f end x
+only-settled f end (code.Count c) h = completed-settled (count-of c) (completed-count c) (rest f end) ∙ at-settled f end (count-of c)
 only-settled f end (code.Series first last) h = completed-settled (rules.series first last) (λ p. refl) (rest f end) ∙ at-settled f end (rules.series first last)
 
 -- The first piece.

@@ -1,15 +1,16 @@
 -- Numbers in a format: what the code answers of them.
 use mathlib.Core.Path.{_≡_}
-use mathlib.Core.Bool.{Bool, true, false, _&&_}
+use mathlib.Core.Bool.{Bool, false, _&&_}
 use mathlib.Core.List.{[], _∷_}
 use Prim.Native.Nat.{ℕ, _≤_, _<_}
 use lib.Dec.{eqb}
 use Rattle.rules.specs.Outcome.{Outcome, done, refused}
-use Rattle.rules.specs.Characters.{hyphen}
 use Rattle.rules.specs.Lists.{Bytes, nothing}
-use Rattle.rules.specs.Format.{number-first}
+use Rattle.rules.specs.Format as rules
 use Rattle.format_buffer.specs.Part.{part}
-use Rattle.format_buffer.specs.Elements.{number-bound}
+use Rattle.format_buffer.specs.Elements.{number-bound, indexing-of, Small-indexing}
+use Rattle.format_buffer.specs.declared.numbers.IndexesRead.{IndexesRead}
+use Rattle.format_buffer.specs.declared.numbers.IndexesRead.the-variants as read
 use Rattle.format_buffer.specs.declared.numbers.Number.{Number}
 use Rattle.format_buffer.specs.declared.numbers.Number.the-variants.{Value, Bad}
 
@@ -28,10 +29,19 @@ pub record Numbered (f : Bytes) (at upto : ℕ) (o : Outcome (ℕ × Bytes)) (r 
   pub answer : o ≡ number-and-rest f upto r
   pub place : number-place at upto r
 
--- The end of a range that begins at k: `-l`, or k itself where no hyphen follows.
-unfoldable pub range-end : ℕ → Bytes → Outcome (ℕ × Bytes)
-range-end k [] = done (k, [])
-range-end k (b ∷ bs) = elim (eqb b hyphen) [ true ↦ number-first bs | false ↦ done (k, b ∷ bs) ]
+-- Indexes and the bytes after them, up to a place; where those begin, and how large the numbers are.
+abbrev pub indexes-and-rest : Bytes → ℕ → IndexesRead → Outcome (rules.Indexing × Bytes)
+indexes-and-rest f upto (read.At x p) = done (indexing-of x, part f p upto)
+indexes-and-rest f upto read.Bad = refused 3
+
+abbrev pub indexes-place : ℕ → ℕ → IndexesRead → Type 0
+indexes-place at upto (read.At x p) = (at ≤ p) × (p ≤ upto) × Small-indexing x
+indexes-place at upto read.Bad = Unit {0}
+
+-- Indexes were read between two places, as o says.
+pub record Indexes-read (f : Bytes) (at upto : ℕ) (o : Outcome (rules.Indexing × Bytes)) (r : IndexesRead) : Type 0 where
+  pub answer : o ≡ indexes-and-rest f upto r
+  pub place : indexes-place at upto r
 
 -- One byte and nothing more.
 unfoldable pub byte-alone : ℕ → Bytes → Bool

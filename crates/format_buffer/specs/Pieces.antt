@@ -1,14 +1,14 @@
 -- Pieces of a format: what the code answers of them.
 use mathlib.Core.Path.{_≡_}
 use mathlib.Core.Bool.{Bool, false, not}
-use Prim.Native.Nat.{_≤_, _<_}
+use Prim.Native.Nat.{_≤_}
 use lib.Dec.{eqb}
 use Rattle.rules.specs.Outcome.{Outcome, done, refused, _>>=_}
 use Rattle.rules.specs.Limits.{greatest-length}
 use Rattle.rules.specs.Characters.{apostrophe}
 use Rattle.rules.specs.Lists.{Bytes, all}
 use Rattle.rules.specs.Format as rules
-use Rattle.format_buffer.specs.Elements.{element-of, sound, range, number-bound}
+use Rattle.format_buffer.specs.Elements.{element-of, sound, indexing-of, Small-indexing}
 use Rattle.format_buffer.specs.declared.Element.{Element}
 use Rattle.format_buffer.specs.declared.Element.the-variants as code
 use Rattle.format_buffer.specs.declared.following.Trailer.{Trailer}
@@ -19,16 +19,16 @@ use Rattle.format_buffer.specs.declared.pieces.Piece.{Piece}
 use Rattle.format_buffer.specs.declared.pieces.Piece.the-variants as piece
 
 -- Values in parentheses.
-abbrev pub bracket-of : Bracket → Outcome rules.Range
-bracket-of (bracket.Values first last) = done (range first last)
+abbrev pub bracket-of : Bracket → Outcome rules.Indexing
+bracket-of (bracket.Values x) = done (indexing-of x)
 bracket-of bracket.Bad = refused 3
 
 -- How large their numbers are.
 abbrev pub bracket-small : Bracket → Type 0
-bracket-small (bracket.Values first last) = (first < number-bound) × (last < number-bound)
+bracket-small (bracket.Values x) = Small-indexing x
 bracket-small bracket.Bad = Unit {0}
 
-pub record Bracketed (o : Outcome rules.Range) (r : Bracket) : Type 0 where
+pub record Bracketed (o : Outcome rules.Indexing) (r : Bracket) : Type 0 where
   pub answer : o ≡ bracket-of r
   pub small : bracket-small r
 

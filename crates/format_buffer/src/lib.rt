@@ -8,16 +8,32 @@ pub mod texts;
 ghost use mathlib.Core.Path.{_≡_};
 ghost use Rattle.format_buffer.specs.Elements.{bare-name, with-occurrences, with-values, with-length, with-format};
 
-// A name with what may follow it: occurrences from-upto, values (first-last), a length and a format letter.
-// A number that is not given is 0.
+// How far indexes reach: as they are written, to the last one alone (`N`), or from 1 up to the last (`1-N`).
+pub const AS_WRITTEN: u8 = 0;
+
+pub const LAST_ALONE: u8 = 1;
+
+pub const UP_TO_LAST: u8 = 2;
+
+// The indexes of a name: from-upto, and how far they reach. The use rules take N as they take 1, so it is 1 here.
+pub struct Indexing {
+    pub from: u16,
+    pub upto: u16,
+    pub scope: u8,
+}
+
+// A name with what may follow it: occurrences from-upto, values (first-last), how far each of the two reaches, a length and a format
+// letter. A number that is not given is 0.
 pub struct Named {
     pub name: u16,
     pub indexed: bool,
     pub from: u16,
     pub upto: u16,
+    pub scope: u8,
     pub bracketed: bool,
     pub first: u16,
     pub last: u16,
+    pub value_scope: u8,
     pub sized: bool,
     pub length: u16,
     pub lettered: bool,
@@ -33,9 +49,11 @@ impl Named {
             indexed: false,
             from: 0,
             upto: 0,
+            scope: AS_WRITTEN,
             bracketed: false,
             first: 0,
             last: 0,
+            value_scope: AS_WRITTEN,
             sized: false,
             length: 0,
             lettered: false,
@@ -43,21 +61,23 @@ impl Named {
         }
     }
 
-    pub fn with_occurrences(mut self, from: u16, upto: u16) -> Self
-        ensures { λ r. ⌜ r ≡ with-occurrences self from upto ⌝ }
+    pub fn with_occurrences(mut self, x: Indexing) -> Self
+        ensures { λ r. ⌜ r ≡ with-occurrences self x ⌝ }
     {
         self.indexed = true;
-        self.from = from;
-        self.upto = upto;
+        self.from = x.from;
+        self.upto = x.upto;
+        self.scope = x.scope;
         self
     }
 
-    pub fn with_values(mut self, first: u16, last: u16) -> Self
-        ensures { λ r. ⌜ r ≡ with-values self first last ⌝ }
+    pub fn with_values(mut self, x: Indexing) -> Self
+        ensures { λ r. ⌜ r ≡ with-values self x ⌝ }
     {
         self.bracketed = true;
-        self.first = first;
-        self.last = last;
+        self.first = x.from;
+        self.last = x.upto;
+        self.value_scope = x.scope;
         self
     }
 
@@ -78,11 +98,12 @@ impl Named {
     }
 }
 
-// A count; if it is indexed, that of one occurrence.
+// A count; if it is indexed, that of one occurrence, or of the last.
 pub struct Count {
     pub name: u16,
     pub indexed: bool,
     pub index: u16,
+    pub scope: u8,
 }
 
 // An element. The bytes of a text stand in the format from one place up to another.

@@ -1,11 +1,16 @@
 // A piece is what stands between two commas, without the spaces around it: an element, or a length or a format of the
 // name before it. Each function reads the bytes from one place up to another, by the rule of its name.
+use super::AS_WRITTEN;
 use super::Count;
 use super::Element;
+use super::Indexing;
 use super::Named;
+use super::UP_TO_LAST;
+use super::numbers::IndexesRead;
 use super::numbers::Number;
 use super::numbers::alone;
 use super::numbers::digit_of;
+use super::numbers::index_first;
 use super::numbers::number_first;
 use super::numbers::range_end;
 use characters::APOSTROPHE;
@@ -25,12 +30,12 @@ ghost use Rattle.rules.specs.Lists.{Bytes};
 ghost use Rattle.rules.specs.Table.{name-of};
 ghost use Rattle.rules.specs.Format.{parenthesis, after-range, after-index, series-to, after-name, after-number, text-piece, piece};
 ghost use Rattle.format_buffer.specs.Part.{part};
-ghost use Rattle.format_buffer.specs.Elements.{range, number-bound};
+ghost use Rattle.format_buffer.specs.Elements.{last-scope, indexing-of, Small-indexing};
 ghost use Rattle.format_buffer.specs.Pieces.{Bracketed, Pieced, as-piece, no-apostrophe, number-piece};
 
 // The values in parentheses after a name.
 pub enum Bracket {
-    Values(u16, u16),
+    Values(Indexing),
     Bad,
 }
 
@@ -45,51 +50,55 @@ fn parenthesis(f: &[u8], at: usize, upto: usize) -> Bracket
     requires { ⌜ (at ≤ upto) × (upto ≤ length (now f)) ⌝ }
     ensures { λ r. ⌜ Bracketed (parenthesis (part (now (f .entry)) at upto)) r ⌝ }
 {
-    let Number::Value(k, p) = number_first(f, at, upto) else {
+    let IndexesRead::At(k, p) = index_first(f, at, upto) else {
         return Bracket::Bad;
     };
-    let Number::Value(l, q) = range_end(f, p, upto, k) else {
+    let IndexesRead::At(x, q) = range_end(f, p, upto, k) else {
         return Bracket::Bad;
     };
     if alone(f, q, upto, CLOSE) {
-        Bracket::Values(k, l)
+        Bracket::Values(x)
     } else {
         Bracket::Bad
     }
 }
 
-fn after_range(f: &[u8], at: usize, upto: usize, name: u16, i: u16, j: u16) -> Piece
-    requires { ⌜ (at ≤ upto) × (upto ≤ length (now f)) × (i < number-bound) × (j < number-bound) ⌝ }
-    ensures { λ r. ⌜ Pieced (now (f .entry)) (as-piece (after-range name (range i j) (part (now (f .entry)) at upto))) r ⌝ }
+fn after_range(f: &[u8], at: usize, upto: usize, name: u16, x: Indexing) -> Piece
+    requires { ⌜ (at ≤ upto) × (upto ≤ length (now f)) × Small-indexing x ⌝ }
+    ensures { λ r. ⌜ Pieced (now (f .entry)) (as-piece (after-range name (indexing-of x) (part (now (f .entry)) at upto))) r ⌝ }
 {
-    let n = Named::bare(name).with_occurrences(i, j);
+    let n = Named::bare(name).with_occurrences(x);
     if at == upto {
         return Piece::Element(Element::Named(n));
+    }
+    if x.scope == UP_TO_LAST {
+        return Piece::Bad;
     }
     if f[at] != OPEN {
         return Piece::Bad;
     }
-    let Bracket::Values(k, l) = parenthesis(f, at + 1, upto) else {
+    let Bracket::Values(v) = parenthesis(f, at + 1, upto) else {
         return Piece::Bad;
     };
-    Piece::Element(Element::Named(n.with_values(k, l)))
+    Piece::Element(Element::Named(n.with_values(v)))
 }
 
-fn after_index(f: &[u8], at: usize, upto: usize, name: u16, i: u16) -> Piece
-    requires { ⌜ (at ≤ upto) × (upto ≤ length (now f)) × (i < number-bound) ⌝ }
-    ensures { λ r. ⌜ Pieced (now (f .entry)) (as-piece (after-index name i (part (now (f .entry)) at upto))) r ⌝ }
+fn after_index(f: &[u8], at: usize, upto: usize, name: u16, x: Indexing) -> Piece
+    requires { ⌜ (at ≤ upto) × (upto ≤ length (now f)) × Small-indexing x × (x .scope ≤ last-scope) ⌝ }
+    ensures { λ r. ⌜ Pieced (now (f .entry)) (as-piece (after-index name (indexing-of x) (part (now (f .entry)) at upto))) r ⌝ }
 {
     if alone(f, at, upto, LETTER_C) {
         return Piece::Element(Element::Count(Count {
             name,
             indexed: true,
-            index: i,
+            index: x.from,
+            scope: x.scope,
         }));
     }
-    let Number::Value(j, p) = range_end(f, at, upto, i) else {
+    let IndexesRead::At(y, p) = range_end(f, at, upto, x) else {
         return Piece::Bad;
     };
-    after_range(f, p, upto, name, i, j)
+    after_range(f, p, upto, name, y)
 }
 
 fn name_of(a: u8, b: u8) -> u16
@@ -126,15 +135,16 @@ fn after_name(f: &[u8], at: usize, upto: usize, name: u16) -> Piece
             name,
             indexed: false,
             index: 0,
+            scope: AS_WRITTEN,
         }));
     }
     if f[at] == HYPHEN {
         return series_to(f, at + 1, upto, name);
     }
-    let Number::Value(i, p) = number_first(f, at, upto) else {
+    let IndexesRead::At(x, p) = index_first(f, at, upto) else {
         return Piece::Bad;
     };
-    after_index(f, p, upto, name, i)
+    after_index(f, p, upto, name, x)
 }
 
 fn after_number(f: &[u8], at: usize, upto: usize, n: u16) -> Piece

@@ -14,7 +14,8 @@ use Rattle.rules.specs.Values.{null, converted-bytes, content}
 use Rattle.rules.specs.Table.{Field, Part, Entry, table, parts, part-named}
 use Rattle.rules.specs.Record.{Record, stored, record-bytes, value-at, value-count-at, group-count-at, empty-record}
 use Rattle.rules.specs.Format.{Element, elements}
-use Rattle.rules.specs.Use.{Place, Item, blanks-item, text-item, value-item, value-count, group-count, items, uses}
+use Rattle.rules.specs.Use.{Place, Item, blanks-item, text-item, value-item, value-count, group-count, uses}
+use Rattle.rules.specs.Last.{counts-in, meanings, items-read}
 use Rattle.rules.specs.Update.{assigned, to-field, bare-only, new-value-count, new-group-count, after-update}
 use Rattle.rules.specs.Services.{item-bytes, filled, read, assignments-of, fitting, update, empty}
 use Rattle.rules.proofs.Steps.{from-bind, from-need, done-inj, by-outcome}
@@ -26,8 +27,9 @@ use Rattle.rules.proofs.Entries.{Sound, Among, parts-among, table-sound, field-
 use Rattle.rules.proofs.Names.{parts-found, home-all}
 use Rattle.rules.proofs.Alls.{all-both}
 use Rattle.rules.proofs.Stands.{Stands, uses-stand}
+use Rattle.rules.proofs.Lasts.{Agree, meanings-stand, counts-agree}
 use Rattle.histories.specs.History.{Call, History, Byte-buffers, answer, left-by, record-after, Writes, writes-of, writes, accepted, last-written-value, value-count-of, occurrences-of, group-count-of, items-by, Over-a-history}
-use Rattle.histories.specs.Told.{told-item, told-items, told}
+use Rattle.histories.specs.Told.{told-item, told-items, counts-told, told}
 use Rattle.histories.proofs.OneUpdate.{update-moves}
 use Rattle.histories.proofs.Counts.{group-moves, count-moves}
 use Rattle.histories.proofs.Written.{null-stored}
@@ -54,16 +56,20 @@ from-fitting : {C : Type 0} (room : ℕ) (b new : Bytes) → fitting room b ≡ 
 unfolding fitting
 from-fitting room b new p k = from-need (leb (length b) (min room longest-new-record)) 10 _ p λ t q. k (let h = leb→le (length b) (min room longest-new-record) t in omega arith) (done-inj q)
 
--- An item of such a record is as the history tells it.
+-- The counts and the items of such a record are as the history tells them.
 group-told : (es : List Entry) (us : List Writes) (n : ℕ) (q : Part) → part-named n (parts es) ≡ some q → group-count-of es us n ≡ occurrences-of us q
 unfolding group-count-of
 group-told es us n q e = rw (e, group-count-of)
 
+counts-held : (es : List Entry) (b : Bytes) (us : List Writes) (r : Record) → Holds es b us r → Agree es (counts-in (parts es) r) (counts-told es us)
+unfolding counts-in counts-told
+counts-held es b us r h = record { group = λ n p at m. h .group-counts n p at m ∙ sym (group-told es us n p at); values = λ p f i at o m. h .value-counts p f i at o m }
+
 item-told : (es : List Entry) (b : Bytes) (us : List Writes) (r : Record) → Holds es b us r → (x : Item) → Stands es x → item-bytes (parts es) r x ≡ told-item es us x
-unfolding item-bytes told-item
+unfolding item-bytes told-item counts-in counts-told
 item-told es b us r h (blanks-item n) s = refl
 item-told es b us r h (text-item t) s = refl
-item-told es b us r h (group-count n) s = let (q, at, m) = s in ap (λ k. done (k ∷ [])) (h .group-counts n q at m ∙ sym (group-told es us n q at))
+item-told es b us r h (group-count n) s = let (q, at, m) = s in ap (λ k. done (k ∷ [])) (counts-held es b us r h .group n q at m)
 item-told es b us r h (value-count n i) s = let (q, g, z, at, o, m) = s in
     ap (λ k. done (k ∷ [])) (subst (λ k. value-count-at (parts es) r k i ≡ value-count-of us k i) z (h .value-counts q g i (subst (λ k. home k (parts es) ≡ some (q, g)) (sym z) at) o m))
 item-told es b us r h (value-item p g n bare) s = let (q, at, o) = s in
@@ -149,9 +155,13 @@ module _ (t : Bytes) (es : List Entry) (is-table : table t ≡ done es) where
       stored-itself (p .field) _ (subst (Stored (p .field)) (h .values q (p .field) (p .occurrence) (p .value) at g)
       (value-ok (parts es) r q (p .field) (p .occurrence) (p .value) ok at (null-known q (p .field) at)))
 
-  same-uses : (xs : List Element) {b : Bytes} {us : List Writes} (r : Record) → Holds es b us r → (room : ℕ)
-      → (uses es [] xs >>= (λ vs. filled (parts es) r room (items vs))) ≡ (uses es [] xs >>= (λ vs. told-items es us room (items vs)))
-  same-uses xs {b} {us} r h room = same-steps (uses es [] xs) λ vs e. items-told es b us r h (items vs) (uses-stand es sound (table-differ t es is-table) [] xs vs e) room
+  same-meanings : (xs : List Element) (b : Bytes) (us : List Writes) (r : Record) → Holds es b us r → (room : ℕ)
+      → (meanings es [] [] xs >>= (λ ms. filled (parts es) r room (items-read (parts es) (counts-in (parts es) r) ms)))
+      ≡ (meanings es [] [] xs >>= (λ ms. told-items es us room (items-read (parts es) (counts-told es us) ms)))
+  same-meanings xs b us r h room = same-steps (meanings es [] [] xs) λ ms e.
+      let differs = table-differ t es is-table in
+      items-told es b us r h _ (meanings-stand es sound differs [] [] xs ms e (counts-in (parts es) r)) room
+      ∙ ap (told-items es us room) (counts-agree es sound differs _ _ (counts-held es b us r h) [] [] xs ms e)
 
   module _ (start : Bytes) (is-start : empty t longest-new-record ≡ done start) where
     -- The record after a history is what its accepted writes leave.
@@ -190,4 +200,4 @@ module _ (t : Bytes) (es : List Entry) (is-table : table t ≡ done es) where
     pub every-read : (h : History) → Byte-buffers h → (f : Bytes) (room : ℕ) → read t (record-after t start h) f room ≡ told t (accepted t start h) f room
     unfolding read told
     every-read h s f room = history-holds h s λ r x.
-        rw (is-table, x .held) (same-steps (elements f) λ xs e. same-uses xs r x (min room longest-items))
+        rw (is-table, x .held) (same-steps (elements f) λ xs e. same-meanings xs _ _ r x (min room longest-items))

@@ -13,8 +13,8 @@ use Rattle.rules.specs.Characters.{letter-C}
 use Rattle.rules.specs.Lists.{Bytes, absent, join}
 use Rattle.rules.specs.Values.{Format, alpha, binary, fixed, packed, unpacked, allowed, conversion, converts}
 use Rattle.rules.specs.Table.{Field, field, group, Entry, is-name, name-of}
-use Rattle.rules.specs.Format.{Range, Element, named, count, settled, completed, elements}
-use Rattle.rules.specs.Use.{Place, Item, group-count, value-count, value-item, Use, one, values, items-of, items, Found, find, format-in-effect, length-in-effect, asked, as-stored, in-order, just, spread, last-index, use-of-field, use-of-count, use-of, uses}
+use Rattle.rules.specs.Format.{Indexing, these, Element, named, count, settled, completed, elements}
+use Rattle.rules.specs.Use.{Place, Item, group-count, value-count, value-item, Use, one, values, items-of, items, Found, find, format-in-effect, length-in-effect, asked, as-stored, in-order, just, spread, last-index, use-of-field, use-of-count, use-of, ranges-of, has-N, uses}
 use Rattle.rules.proofs.Steps.{need-true, and-intro}
 use Rattle.rules.proofs.Ranges.{one-field, over-just, item-at}
 use Rattle.rules.proofs.FieldHomes.{named-field}
@@ -23,9 +23,10 @@ use Rattle.histories.specs.History.{items-by}
 use Rattle.histories.specs.Spelled.{indexed, valued, count-spelled, element-alone}
 use Rattle.histories.proofs.Spelled.{Spells, nothing-after, C-after, index-after, counted-after, valued-after, one-element, indexed-solid, counted-solid, valued-solid, indexed-short, counted-short, valued-short, high-solid}
 
-items-one : (es : List Entry) (f : Bytes) (e : Element) (u : Use) (x : Item) → elements f ≡ done (e ∷ []) → use-of es [] e ≡ done u → items-of u ≡ x ∷ [] → items-by es f ≡ done (x ∷ [])
+items-one : (es : List Entry) (f : Bytes) (e : Element) (u : Use) (x : Item) → elements f ≡ done (e ∷ []) → use-of es [] e ≡ done u → has-N e ≡ false → items-of u ≡ x ∷ []
+    → items-by es f ≡ done (x ∷ [])
 unfolding items-by uses items join
-items-one es f e u x h q i = rw (h, q, i) refl
+items-one es f e u x h q z i = rw (h, q, z, i) refl
 
 converts-itself : (f : Format) → converts f f ≡ true
 unfolding converts conversion
@@ -53,7 +54,7 @@ module _ (es : List Entry) (a b : ℕ) (name : is-name a b ≡ true) (x : Found)
   count-item : (cs : Bytes) (i : Option ℕ) (y : Item) → elements (element-alone a b cs) ≡ done (count (name-of a b) i ∷ []) → use-of-count (name-of a b) (x .entry .what) (x .inside) i ≡ done (one y)
       → items-by es (element-alone a b cs) ≡ done (y ∷ [])
   unfolding use-of items-of
-  count-item cs i y h q = items-one es (element-alone a b cs) (count (name-of a b) i) (one y) y h (rw (found, use-of) q) refl
+  count-item cs i y h q = items-one es (element-alone a b cs) (count (name-of a b) i) (one y) y h (rw (found, use-of) q) refl refl
 
   -- `GBC.`
   pub group-C : x .entry .what ≡ group true → items-by es (element-alone a b (letter-C ∷ [])) ≡ done (group-count (name-of a b) ∷ [])
@@ -76,37 +77,37 @@ module _ (es : List Entry) (a b : ℕ) (name : is-name a b ≡ true) (x : Found)
     abbrev own : Field
     own = named-field (name-of a b) f s m
 
-    value-one : (cs : Bytes) (os vs : Option Range) (i k : ℕ) → elements (element-alone a b cs) ≡ done (named (name-of a b) os vs none none ∷ [])
-        → spread (x .inside) m (last-index (name-of a b) []) os vs ≡ done (record { occurrences = just i; values = just k; bare = false })
+    value-one : (cs : Bytes) (os vs : Option Indexing) → has-N (named (name-of a b) os vs none none) ≡ false → (i k : ℕ) → elements (element-alone a b cs) ≡ done (named (name-of a b) os vs none none ∷ [])
+        → spread (x .inside) m (last-index (name-of a b) []) (ranges-of os) (ranges-of vs) ≡ done (record { occurrences = just i; values = just k; bare = false })
         → items-by es (element-alone a b cs) ≡ done (standard own i k ∷ [])
     unfolding use-of use-of-field items-of as-stored
-    value-one cs os vs i k h q = items-one es (element-alone a b cs) (named (name-of a b) os vs none none) (values (as-stored own ∷ []) (just i) (just k) false) _ h
-        (rw (found, what, use-of, q, asked-standard own known) refl)
+    value-one cs os vs z i k h q = items-one es (element-alone a b cs) (named (name-of a b) os vs none none) (values (as-stored own ∷ []) (just i) (just k) false) _ h
+        (rw (found, what, use-of, q, asked-standard own known) refl) z
         (one-field i (just k) false (as-stored own) ∙ over-just (item-at false (as-stored own) i) k)
 
     -- `AA.`
     pub plain-alone : m ≡ false → x .inside ≡ false → items-by es (element-alone a b []) ≡ done (standard own 1 1 ∷ [])
     unfolding completed spread
-    plain-alone e o = value-one [] none none 1 1 (one-element a b [] _ name tt (omega arith) (nothing-after (name-of a b)) refl) (rw (o, e) refl)
+    plain-alone e o = value-one [] none none refl 1 1 (one-element a b [] _ name tt (omega arith) (nothing-after (name-of a b)) refl) (rw (o, e) refl)
 
     module _ (ds : List ℕ) (i : ℕ) (z : Spells ds i) (r : Index i) where
-      index-element : elements (element-alone a b (indexed ds)) ≡ done (named (name-of a b) (some (just i)) none none none ∷ [])
+      index-element : elements (element-alone a b (indexed ds)) ≡ done (named (name-of a b) (some (these (just i))) none none none ∷ [])
       unfolding completed
       index-element = one-element a b (indexed ds) _ name (indexed-solid ds) (indexed-short ds i z) (index-after (name-of a b) ds i z) refl
 
       -- `MF3.`
       pub value-alone : m ≡ true → x .inside ≡ false → items-by es (element-alone a b (indexed ds)) ≡ done (standard own 1 i ∷ [])
       unfolding spread
-      value-alone e o = value-one (indexed ds) (some (just i)) none 1 i index-element (rw (o, e, need-true (in-order (just i)) 5 (just-in-order i r)) refl)
+      value-alone e o = value-one (indexed ds) (some (these (just i))) none refl 1 i index-element (rw (o, e, need-true (in-order (just i)) 5 (just-in-order i r)) refl)
 
       -- `BA2.`
       pub occurrence-alone : x .inside ≡ true → items-by es (element-alone a b (indexed ds)) ≡ done (standard own i 1 ∷ [])
       unfolding spread
-      occurrence-alone o = value-one (indexed ds) (some (just i)) none i 1 index-element (rw (o, need-true (in-order (just i)) 5 (just-in-order i r)) refl)
+      occurrence-alone o = value-one (indexed ds) (some (these (just i))) none refl i 1 index-element (rw (o, need-true (in-order (just i)) 5 (just-in-order i r)) refl)
 
       -- `CB2(5).`
       pub both-alone : (vs : List ℕ) (k : ℕ) → Spells vs k → Index k → m ≡ true → x .inside ≡ true → items-by es (element-alone a b (valued ds vs)) ≡ done (standard own i k ∷ [])
       unfolding completed spread
-      both-alone vs k v q e o = value-one (valued ds vs) (some (just i)) (some (just k)) i k
+      both-alone vs k v q e o = value-one (valued ds vs) (some (these (just i))) (some (these (just k))) refl i k
           (one-element a b (valued ds vs) _ name (valued-solid ds vs) (valued-short ds i z vs k v) (valued-after (name-of a b) ds i z vs k v) refl)
           (rw (o, e, need-true (true && in-order (just i) && in-order (just k)) 5 (and-intro (in-order (just i)) (in-order (just k)) (just-in-order i r) (just-in-order k q))) refl)

@@ -10,12 +10,12 @@ use Rattle.rules.specs.Outcome.{done}
 use Rattle.rules.specs.Lists.{all, join, absent}
 use Rattle.rules.specs.Values.{allowed, converts}
 use Rattle.rules.specs.Table.{What, field, group, Entry, Field, fields-below}
-use Rattle.rules.specs.Format.{Range, Element, blanks, quoted, named, count, series}
-use Rattle.rules.specs.Use.{Item, blanks-item, text-item, group-count, value-count, value-item, Asked, Use, one, values, value-items, items-of, items, Found, find, format-in-effect, length-in-effect, asked, as-stored, in-order, just, spread, Indexes, indexes-after, last-index, plain, use-of-group, use-of-field, use-of-count, fields-to, use-of-series, use-of, uses}
+use Rattle.rules.specs.Format.{Range, Element, blanks, quoted, named, count, count-in-last, series}
+use Rattle.rules.specs.Use.{Item, blanks-item, text-item, group-count, value-count, value-item, Asked, Use, one, values, value-items, items-of, items, Found, find, format-in-effect, length-in-effect, asked, as-stored, in-order, just, spread, Indexes, indexes-after, last-index, plain, use-of-group, use-of-field, use-of-count, fields-to, use-of-series, use-of, ranges-of, uses}
 use Rattle.rules.proofs.Steps.{from-bind, from-need, done-inj, not-done, and-left, by-option, T-true}
 use Rattle.rules.proofs.Back.{All, all-map}
 use Rattle.rules.proofs.Named.{asked-field}
-use Rattle.rules.proofs.Uses.{by-what, spread-in-order, not-group, Index, range-index}
+use Rattle.rules.proofs.Uses.{by-what, spread-in-order, not-group, from-uses, Index, range-index}
 use Rattle.rules.proofs.Entries.{Sound, Among, below-among, to-among, find-among, field-allowed}
 use Rattle.rules.proofs.Alls.{all-append, all-join, all-run, all-of-map}
 
@@ -91,6 +91,7 @@ module _ (es : List Entry) (sound : All (λ e. Sound (e .level) (e .what)) es) w
   use-ok ls (blanks n) u p = rw (← done-inj p) tt
   use-ok ls (quoted t) u p = rw (← done-inj p) tt
   use-ok ls (count n i) u p = from-bind (find n es) _ p λ x h k. count-ok n (x .entry .what) (x .inside) i u k
+  use-ok ls (count-in-last n) u p = from-bind (find n es) _ p λ x h k. count-ok n (x .entry .what) (x .inside) (some 1) u k
   use-ok ls (series n m) u p =
       from-bind (find n es) _ p λ x h k.
       from-bind (find m es) _ k λ y h₂ k₂.
@@ -99,13 +100,12 @@ module _ (es : List Entry) (sound : All (λ e. Sound (e .level) (e .what)) es) w
       from-bind (find n es) _ p λ x h k.
       let r = find-among false n es x h in
       by-what (x .entry .what)
-      (λ f s mu e. field-ok (record { name = n; format = f; size = s; multiple = mu }) (x .inside) (last-index n ls) os vs l g u (r .1 _ (inl (r .0, e))) (rw e at k))
-      (λ b e. group-ok x os vs l g u (r .1) (rw e at k))
+      (λ f s mu e. field-ok (record { name = n; format = f; size = s; multiple = mu }) (x .inside) (last-index n ls) (ranges-of os) (ranges-of vs) l g u (r .1 _ (inl (r .0, e))) (rw e at k))
+      (λ b e. group-ok x (ranges-of os) (ranges-of vs) l g u (r .1) (rw e at k))
 
   pub uses-ok : (ls : Indexes) (xs : List Element) (us : List Use) → uses es ls xs ≡ done us → All (Item-ok es) (items us)
   unfolding uses items join
   uses-ok ls [] us p = rw (← done-inj p) tt
   uses-ok ls (x ∷ xs) us p =
-      from-bind (use-of es ls x) _ p λ u h k.
-      from-bind (uses es (indexes-after u ls) xs) _ k λ vs h₂ k₂.
-      rw (← done-inj k₂) (all-append _ (items-of u) (items vs) (use-items es u (use-ok ls x u h)) (uses-ok (indexes-after u ls) xs vs h₂))
+      from-uses es ls x xs us p λ u h z vs h₂ e.
+      rw (← e) (all-append _ (items-of u) (items vs) (use-items es u (use-ok ls x u h)) (uses-ok (indexes-after u ls) xs vs h₂))

@@ -12,9 +12,11 @@ use Rattle.rules.specs.Table.{Field, Entry, table, parts}
 use Rattle.rules.specs.Record.{Record, stored, stored-value}
 use Rattle.rules.specs.Format.{elements}
 use Rattle.rules.specs.Use.{Item, uses}
+use Rattle.rules.specs.Last.{counts-in}
 use Rattle.rules.specs.Services.{item-bytes, filled, read}
 use Rattle.rules.proofs.Steps.{from-bind, from-need, from-as, from-done, done-inj, need-true, T-true}
 use Rattle.rules.proofs.Back.{Stored}
+use Rattle.rules.proofs.Lasts.{no-N-yet, plain-meanings, written-items}
 use Rattle.values.proofs.Meant.{converted-itself}
 use Rattle.histories.specs.History.{items-by, Reads}
 
@@ -28,7 +30,7 @@ unfolding items-by read
 reads-item t b es r f x v is-table is-stored is-item e room l =
     from-bind (elements f) _ is-item λ xs h k.
     from-bind (uses es [] xs) _ k λ us h₂ k₂.
-    rw (is-table, is-stored, h, h₂, done-inj k₂) (filled-one es r x v (min room longest-items) e l)
+    rw (is-table, is-stored, h, plain-meanings es [] [] no-N-yet xs us h₂, written-items (parts es) (counts-in (parts es) r) us, done-inj k₂) (filled-one es r x v (min room longest-items) e l)
 
 content-back : (n : ℕ) (c : Bytes) → content n (with-length-byte n c) ≡ c
 unfolding content with-length-byte

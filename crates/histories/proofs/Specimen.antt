@@ -17,7 +17,7 @@ use Rattle.rules.specs.Services.{read, empty}
 use Rattle.rules.proofs.Specimen.{job-table, same-answer, passes}
 use Rattle.rules.proofs.Steps.{done-inj}
 use Rattle.histories.specs.History.{Call, History, Byte-buffers, answer, left-by, record-after, writes-of, writes, accepted, last-written-value, value-count-of, occurrences-of, group-count-of, items-by, Over-a-history}
-use Rattle.histories.specs.Told.{told-item, told-items, told}
+use Rattle.histories.specs.Told.{told-item, told-items, counts-told, told}
 
 unfoldable pub job-start : Bytes
 job-start = bytes-of (empty job-table longest-new-record)
@@ -30,7 +30,7 @@ abbrev pub Answers : Type 0
 Answers = List (Bytes × Bytes)
 
 unfoldable pub agrees : History → Bytes × Bytes → Bool
-unfolding passes job-start answer left-by record-after writes-of writes accepted last-written-value value-count-of occurrences-of part-named group-count-of told-item told-items told
+unfolding passes job-start answer left-by record-after writes-of writes accepted last-written-value value-count-of occurrences-of part-named group-count-of told-item told-items counts-told told
 agrees h x =
     same-answer (read job-table (record-after job-table job-start h) (x .0) longest-items) (done (x .1))
     && same-answer (told job-table (accepted job-table job-start h) (x .0) longest-items) (done (x .1))
@@ -62,6 +62,10 @@ listed-reads =
     ((0xD4 ∷ 0xC6 ∷ 0xC3 ∷ 0x4B ∷ []), (0x02 ∷ [])) ∷
     -- MF1-3,MFC.
     ((0xD4 ∷ 0xC6 ∷ 0xF1 ∷ 0x60 ∷ 0xF3 ∷ 0x6B ∷ 0xD4 ∷ 0xC6 ∷ 0xC3 ∷ 0x4B ∷ []), (0xF6 ∷ 0xF0 ∷ 0xF5 ∷ 0xF2 ∷ 0xF0 ∷ 0xF0 ∷ 0x02 ∷ [])) ∷
+    -- MF1-N.
+    ((0xD4 ∷ 0xC6 ∷ 0xF1 ∷ 0x60 ∷ 0xD5 ∷ 0x4B ∷ []), (0xF6 ∷ 0xF0 ∷ 0xF5 ∷ 0xF2 ∷ [])) ∷
+    -- MFN,MF.
+    ((0xD4 ∷ 0xC6 ∷ 0xD5 ∷ 0x6B ∷ 0xD4 ∷ 0xC6 ∷ 0x4B ∷ []), (0xF5 ∷ 0xF2 ∷ 0xF5 ∷ 0xF2 ∷ [])) ∷
     []
 
 pub listed-agrees : T (all (agrees listed) listed-reads)
@@ -110,6 +114,16 @@ periodic-reads =
     ((0xC2 ∷ 0xC4 ∷ 0xF1 ∷ 0x4B ∷ []), (0x40 ∷ 0x40 ∷ [])) ∷
     -- HB2.
     ((0xC8 ∷ 0xC2 ∷ 0xF2 ∷ 0x4B ∷ []), (0x05 ∷ 0xC1 ∷ 0xC2 ∷ [])) ∷
+    -- HB1-N.
+    ((0xC8 ∷ 0xC2 ∷ 0xF1 ∷ 0x60 ∷ 0xD5 ∷ 0x4B ∷ []), (0x00 ∷ 0x40 ∷ 0x40 ∷ 0x05 ∷ 0xC1 ∷ 0xC2 ∷ [])) ∷
+    -- BAN.
+    ((0xC2 ∷ 0xC1 ∷ 0xD5 ∷ 0x4B ∷ []), (0x09 ∷ [])) ∷
+    -- CBNC.
+    ((0xC3 ∷ 0xC2 ∷ 0xD5 ∷ 0xC3 ∷ 0x4B ∷ []), (0x00 ∷ [])) ∷
+    -- CB2(1-N).
+    ((0xC3 ∷ 0xC2 ∷ 0xF2 ∷ 0x4D ∷ 0xF1 ∷ 0x60 ∷ 0xD5 ∷ 0x5D ∷ 0x4B ∷ []), (0xF0 ∷ 0xF0 ∷ 0xF0 ∷ 0xF0 ∷ 0xF7 ∷ [])) ∷
+    -- CB1-3(N).
+    ((0xC3 ∷ 0xC2 ∷ 0xF1 ∷ 0x60 ∷ 0xF3 ∷ 0x4D ∷ 0xD5 ∷ 0x5D ∷ 0x4B ∷ []), (0xF4 ∷ 0xF7 ∷ 0xF0 ∷ [])) ∷
     []
 
 pub periodic-agrees : T (all (agrees periodic) periodic-reads)
@@ -135,6 +149,10 @@ conversions-reads =
     ((0xD4 ∷ 0xC6 ∷ 0xF5 ∷ 0x4B ∷ []), (0xF0 ∷ 0xF0 ∷ [])) ∷
     -- MFC.
     ((0xD4 ∷ 0xC6 ∷ 0xC3 ∷ 0x4B ∷ []), (0x00 ∷ [])) ∷
+    -- MFN.
+    ((0xD4 ∷ 0xC6 ∷ 0xD5 ∷ 0x4B ∷ []), (0xF0 ∷ 0xF0 ∷ [])) ∷
+    -- MF1-N.
+    ((0xD4 ∷ 0xC6 ∷ 0xF1 ∷ 0x60 ∷ 0xD5 ∷ 0x4B ∷ []), []) ∷
     -- AB,5,U.
     ((0xC1 ∷ 0xC2 ∷ 0x6B ∷ 0xF5 ∷ 0x6B ∷ 0xE4 ∷ 0x4B ∷ []), (0xF6 ∷ 0xF5 ∷ 0xF5 ∷ 0xF3 ∷ 0xF5 ∷ [])) ∷
     []

@@ -11,11 +11,11 @@ use lib.Dec.{eqb, leb, le→leb}
 use lib.ListN.{length, length-append, length-map}
 use Rattle.rules.specs.Outcome.{done}
 use Rattle.rules.specs.Limits.{longest-format, most-digits}
-use Rattle.rules.specs.Characters.{space, period, comma, apostrophe, hyphen, open-parenthesis, close-parenthesis, letter, digit, letter-C, letter-E, digit-0}
+use Rattle.rules.specs.Characters.{space, period, comma, apostrophe, hyphen, open-parenthesis, close-parenthesis, letter, digit, letter-C, letter-E, letter-N, digit-0}
 use Rattle.rules.specs.Lists.{Bytes, nothing, absent, spelled}
 use Rattle.rules.specs.Values.{strip}
 use Rattle.rules.specs.Table.{is-name, name-of}
-use Rattle.rules.specs.Format.{Range, Element, named, count, element, turned, onto, texts, skip-spaces, trim, leading-digits, number-first, closing, parenthesis, after-range, after-index, after-name, piece, Pending, settled, completed, put-before, assembled, elements}
+use Rattle.rules.specs.Format.{Indexing, these, Element, named, count, element, turned, onto, texts, skip-spaces, trim, leading-digits, number-first, index-first, range-end, closing, parenthesis, after-range, after-index, after-name, piece, Pending, settled, completed, put-before, assembled, elements}
 use Rattle.rules.proofs.Steps.{need-true, and-intro, not-both}
 use Rattle.rules.proofs.Back.{All}
 use Rattle.histories.specs.Spelled.{figures, indexed, valued, count-spelled, element-alone}
@@ -129,16 +129,21 @@ figures-solid (d ∷ ds) = (high-solid (digit-0 + d) (omega arith), figures-soli
 
 -- ---- what stands after a name
 
-abbrev only : ℕ → Range
-only i = record { from = i; upto = i }
+abbrev only : ℕ → Indexing
+only i = these (record { from = i; upto = i })
 
-after-figures : (n : ℕ) (ds : List ℕ) (i : ℕ) (cs : Bytes) → Spells ds i → No-digit cs → after-name n (figures ds ++ cs) ≡ after-index n i cs
+index-figures : (ds : List ℕ) (i : ℕ) (cs : Bytes) → Spells ds i → No-digit cs → index-first (figures ds ++ cs) ≡ done (only i, cs)
+unfolding figures index-first
+index-figures [] i cs s q = absurd (let h = s .some-digits in omega arith)
+index-figures (d ∷ ds) i cs s q = rw (ne-eqb (digit-0 + d) letter-N (λ e. omega arith), index-first, number-figures (d ∷ ds) i cs s q)
+
+after-figures : (n : ℕ) (ds : List ℕ) (i : ℕ) (cs : Bytes) → Spells ds i → No-digit cs → after-name n (figures ds ++ cs) ≡ after-index n (only i) cs
 unfolding figures after-name
 after-figures n [] i cs s q = absurd (let h = s .some-digits in omega arith)
 after-figures n (d ∷ ds) i cs s q =
     let c : eqb (digit-0 + d) letter-C ≡ false = ne-eqb (digit-0 + d) letter-C (λ e. omega arith) in
     let h : eqb (digit-0 + d) hyphen ≡ false = ne-eqb (digit-0 + d) hyphen (λ e. omega arith) in
-    rw (c, h, after-name, number-figures (d ∷ ds) i cs s q) refl
+    rw (c, h, after-name, index-figures (d ∷ ds) i cs s q) refl
 
 module _ (n : ℕ) where
   pub nothing-after : after-name n [] ≡ done (named n none none none none)
@@ -159,8 +164,8 @@ module _ (n : ℕ) where
     counted-after = after-figures n ds i (letter-C ∷ []) s refl
 
     pub valued-after : (vs : List ℕ) (k : ℕ) → Spells vs k → after-name n (valued ds vs) ≡ done (named n (some (only i)) (some (only k)) none none)
-    unfolding valued after-index after-range parenthesis closing nothing digit
-    valued-after vs k z = after-figures n ds i (open-parenthesis ∷ figures vs ++ (close-parenthesis ∷ [])) s refl ∙ rw (number-figures vs k (close-parenthesis ∷ []) z refl) refl
+    unfolding valued after-index range-end after-range parenthesis closing nothing digit
+    valued-after vs k z = after-figures n ds i (open-parenthesis ∷ figures vs ++ (close-parenthesis ∷ [])) s refl ∙ rw (index-figures vs k (close-parenthesis ∷ []) z refl) refl
 
 -- ---- one element
 

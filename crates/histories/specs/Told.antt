@@ -9,9 +9,10 @@ use Rattle.rules.specs.Limits.{longest-items}
 use Rattle.rules.specs.Characters.{space}
 use Rattle.rules.specs.Lists.{Bytes}
 use Rattle.rules.specs.Values.{content, converted-bytes}
-use Rattle.rules.specs.Table.{Entry, table}
+use Rattle.rules.specs.Table.{Entry, table, parts}
 use Rattle.rules.specs.Format.{elements}
-use Rattle.rules.specs.Use.{Item, blanks-item, text-item, group-count, value-count, value-item, items, uses}
+use Rattle.rules.specs.Use.{Item, blanks-item, text-item, group-count, value-count, value-item}
+use Rattle.rules.specs.Last.{Counts, meanings, items-read}
 use Rattle.histories.specs.History.{Writes, last-written-value, value-count-of, group-count-of}
 
 unfoldable pub told-item : List Entry → List Writes → Item → Outcome Bytes
@@ -29,9 +30,13 @@ told-items es us room (x ∷ xs) = do
   bs ← told-items es us (room - length b) xs
   done (b ++ bs)
 
+-- What N goes by: the counts that the history alone tells.
+unfoldable pub counts-told : List Entry → List Writes → Counts
+counts-told es us = record { group = group-count-of es us; values = value-count-of us }
+
 unfoldable pub told : Bytes → List Writes → Bytes → ℕ → Outcome Bytes
 told t us f room = do
   es ← table t
   xs ← elements f
-  vs ← uses es [] xs
-  told-items es us (min room longest-items) (items vs)
+  ms ← meanings es [] [] xs
+  told-items es us (min room longest-items) (items-read (parts es) (counts-told es us) ms)

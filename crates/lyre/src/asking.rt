@@ -1,13 +1,11 @@
 // The services, asked by one function.
+use crate::meanings;
+use crate::meanings::Told;
 use rules::Refusal;
+use uses::INDEXES;
 use uses::Index;
-use uses::kept;
-use uses::kept::Decoded;
 ghost use mathlib.Core.Path.{_≡_};
-ghost use Prim.Native.Nat.{_≤_};
-ghost use lib.ListN.{length};
 ghost use Rattle.io.specs.Counts.{Counts};
-ghost use Rattle.rules.specs.Limits.{longest-format};
 ghost use Rattle.tables.specs.Entries.{Valid};
 
 // What is asked for: the services, and whether a format, a table or a record is good by itself.
@@ -25,9 +23,6 @@ pub struct Reply {
     pub number: u8,
     pub used: usize,
 }
-
-// What the longest format takes: ten numbers for each element, of three bytes at least.
-pub const KEPT: usize = 6830;
 
 pub(crate) fn read(t: &[u8], record: &[u8], f: &[u8], room: &mut [u8]) -> Reply
     ensures { λ r. ⌜ Counts (r .used) (now (room .exit)) ⌝ }
@@ -82,21 +77,31 @@ fn check_record(t: &[u8], record: &[u8], room: &mut [u8]) -> u8 {
     0
 }
 
-// The number of a format by a valid table.
-fn explain_format(t: &[u8], f: &[u8]) -> u8
-    requires { ⌜ Valid (now t) × (length (now f) ≤ longest-format) ⌝ }
+// The number of the first element of a format that a use rule refuses in a read.
+fn explain_elements(t: &[u8], f: &[u8]) -> u8
+    requires { ⌜ Valid (now t) ⌝ }
 {
-    let mut uses: [Index; KEPT] = [0; KEPT];
-    match kept::decode(t, f, &mut uses) {
-        Decoded::Uses(_) => 0,
-        Decoded::Refused(x) => rules::refusal_number(x),
+    let mut last: [Index; INDEXES] = [0; INDEXES];
+    let mut at = 0;
+    loop {
+        match meanings::next(t, f, at, &mut last) {
+            Told::Refused(x) => {
+                return rules::refusal_number(x);
+            }
+            Told::As(_, _, stop) => {
+                if format_buffer::syntax::is_last(f, stop) {
+                    return 0;
+                }
+                at = stop + 1;
+            }
+        }
     }
 }
 
 fn explain(t: &[u8], f: &[u8]) -> u8 {
     if tables::valid(t) {
-        if f.len() <= rules::LONGEST_FORMAT {
-            return explain_format(t, f);
+        if format_buffer::syntax::syntax(f) {
+            return explain_elements(t, f);
         }
         return rules::refusal_number(Refusal::BadSyntax);
     }

@@ -1,27 +1,29 @@
 // What the elements of a format name, one after the other.
-use crate::asking::KEPT;
 use crate::letters;
 use crate::listing;
 use crate::listing::Manner;
+use crate::meanings;
+use crate::meanings::Told;
 use crate::plain;
 use crate::refusals;
+use uses::INDEXES;
 use uses::Index;
 use uses::Use;
-use uses::kept;
-use uses::kept::Decoded;
-ghost use Prim.Native.Nat.{_*_, _+_, _≤_, _<_};
+use uses::scopes::Scopes;
+ghost use Prim.Native.Nat.{_≤_};
 ghost use lib.ListN.{length};
 ghost use Rattle.rules.specs.Limits.{longest-format};
 ghost use Rattle.tables.specs.Entries.{Valid};
-ghost use Rattle.uses.specs.Kept.{numbers-kept};
 
-fn manner(u: Use, valued: bool) -> Manner {
+fn manner(u: Use, s: Scopes, valued: bool) -> Manner {
     match u {
-        Use::Values(s) => Manner {
+        Use::Values(x) => Manner {
             valued,
-            standard: s.standard,
-            format: s.format,
-            size: s.size,
+            standard: x.standard,
+            format: x.format,
+            size: x.size,
+            scope: s.occurrences,
+            value_scope: s.values,
             whole: false,
         },
         _ => Manner {
@@ -29,6 +31,8 @@ fn manner(u: Use, valued: bool) -> Manner {
             standard: true,
             format: 0,
             size: 0,
+            scope: s.occurrences,
+            value_scope: s.values,
             whole: false,
         },
     }
@@ -41,14 +45,6 @@ fn say_text(f: &[u8], from: usize, upto: usize) {
             letters::say_quoted(&f[from..upto]);
             plain::say(b"\n");
         }
-    }
-}
-
-fn say_count(t: &[u8], record: &[u8], i: usize, o: usize, m: Manner)
-    requires { ⌜ Valid (now t) ⌝ }
-{
-    if i < tables::count(t) {
-        listing::say_count(t, record, i, o, m);
     }
 }
 
@@ -67,10 +63,10 @@ fn say_use(t: &[u8], record: &[u8], f: &[u8], u: Use, m: Manner)
             say_text(f, from, upto);
         }
         Use::GroupCount(i) => {
-            say_count(t, record, i, 1, m);
+            listing::say_count_meant(t, record, i, 1, m);
         }
         Use::ValueCount(i, o) => {
-            say_count(t, record, i, o, m);
+            listing::say_count_meant(t, record, i, o, m);
         }
         Use::Values(s) => {
             listing::say_span(t, record, s, m);
@@ -78,43 +74,29 @@ fn say_use(t: &[u8], record: &[u8], f: &[u8], u: Use, m: Manner)
     }
 }
 
-// The element at a place as it is written, where its meaning is asked for; the place of the next.
-fn say_element(f: &[u8], at: usize, n: usize, valued: bool) -> usize
-    requires { ⌜ at ≤ length (now f) ⌝ }
-    ensures { λ r. ⌜ r ≤ length (now (f .entry)) ⌝ }
-{
-    let stop = refusals::element_end(f, at);
-    if stop == f.len() {
-        return stop;
-    }
-    if !valued {
-        refusals::write_element(libc::STDOUT_FILENO, f, at, stop, n);
-    }
-    stop + 1
-}
-
-fn say_each(t: &[u8], record: &[u8], f: &[u8], kept: &[Index], n: usize, valued: bool)
-    requires { ⌜ Valid (now t) × (numbers-kept * n ≤ length (now kept)) ⌝ }
-{
-    let mut at = 0;
-    for i in 0..n {
-        at = say_element(f, at, i + 1, valued);
-        let u = kept::get(kept, i);
-        say_use(t, record, f, u, manner(u, valued));
-    }
-}
-
-// What a format that is not refused names by a valid table.
-fn say_decoded(t: &[u8], record: &[u8], f: &[u8], valued: bool)
+// What the elements of a format that is not refused name by a valid table; where values are not asked for, each after the element itself.
+fn say_elements(t: &[u8], record: &[u8], f: &[u8], valued: bool)
     requires { ⌜ Valid (now t) × (length (now f) ≤ longest-format) ⌝ }
 {
-    let mut uses: [Index; KEPT] = [0; KEPT];
-    match kept::decode(t, f, &mut uses) {
-        Decoded::Refused(_) => {
-            return;
-        }
-        Decoded::Uses(n) => {
-            say_each(t, record, f, &uses, n, valued);
+    let mut last: [Index; INDEXES] = [0; INDEXES];
+    let mut at = 0;
+    let mut n = 1;
+    loop {
+        match meanings::next(t, f, at, &mut last) {
+            Told::Refused(_) => {
+                return;
+            }
+            Told::As(u, s, stop) => {
+                if !valued {
+                    refusals::write_element(libc::STDOUT_FILENO, f, at, stop, n);
+                }
+                say_use(t, record, f, u, manner(u, s, valued));
+                if format_buffer::syntax::is_last(f, stop) {
+                    return;
+                }
+                at = stop + 1;
+                n += 1;
+            }
         }
     }
 }
@@ -123,7 +105,7 @@ fn say_decoded(t: &[u8], record: &[u8], f: &[u8], valued: bool)
 pub(crate) fn say_format(t: &[u8], record: &[u8], f: &[u8], valued: bool) {
     if tables::valid(t) {
         if f.len() <= rules::LONGEST_FORMAT {
-            say_decoded(t, record, f, valued);
+            say_elements(t, record, f, valued);
         }
     }
 }

@@ -39,8 +39,8 @@ fn say_help() {
   lyre explain TABLE FORMAT                      what each element of a format names
 
 TABLE and RECORD are files, - is standard input. A file is binary where its first byte is E5; any other has hexadecimal digits in
-pairs, with blanks and line ends between them. FORMAT is text, as 'AA,MF1-3,AB,5,U.'; HEX is digits in pairs. A record is written
-in hexadecimal, or in binary to the file OUT, which a refusal leaves as it was.
+pairs, with blanks and line ends between them. FORMAT is text, as 'AA,MF1-3,AB,5,U.', where a read may have N for the last, as in
+'MFN,HB1-N.'; HEX is digits in pairs. A record is written in hexadecimal, or in binary to the file OUT, which a refusal leaves as it was.
 
 Exit status: 0 done, 1 refused, 2 wrong use or a file that cannot be read or written.
 ",

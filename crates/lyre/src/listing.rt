@@ -3,47 +3,71 @@ use crate::letters;
 use crate::plain;
 use crate::tables_shown;
 use crate::values_shown;
+use format_buffer::AS_WRITTEN;
+use format_buffer::LAST_ALONE;
+use format_buffer::UP_TO_LAST;
+use tables::Found;
 use uses::Span;
+use uses::scopes::resolved_from;
+use uses::scopes::resolved_upto;
+ghost use mathlib.Core.Path.{_≡_};
 ghost use Prim.Native.Nat.{_≤_, _<_};
 ghost use lib.ListN.{length};
 ghost use Rattle.tables.specs.Entries.{Valid, entries-of};
 
-// How lines are made: by values or by bytes, these at the standard of each field or at a format and a length in effect; and whether the
-// whole record is listed, by levels.
+// How lines are made: by values or by bytes, these at the standard of each field or at a format and a length in effect; how far occurrences
+// and values reach; and whether the whole record is listed, by levels.
 pub struct Manner {
     pub valued: bool,
     pub standard: bool,
     pub format: usize,
     pub size: usize,
+    pub scope: u8,
+    pub value_scope: u8,
     pub whole: bool,
 }
 
+// An index as a format spells it. Where there is no record, N stays what it is.
+fn say_index(n: usize, scope: u8, m: Manner) {
+    if !m.valued {
+        if scope == LAST_ALONE {
+            plain::say(b"N");
+            return;
+        }
+        if scope == UP_TO_LAST {
+            plain::say(b"1-N");
+            return;
+        }
+    }
+    plain::say_number(n);
+}
+
 // The name of entry i, with the occurrence where it lies in a periodic group.
-fn say_entry_name(t: &[u8], i: usize, o: usize)
+fn say_entry_name(t: &[u8], i: usize, o: usize, m: Manner)
     requires { ⌜ Valid (now t) × (i < length (entries-of (now t))) ⌝ }
 {
     let e = tables::entry_at(t, i);
     letters::say_name(e.name);
     if values_shown::has_occurrences(t, i) {
-        plain::say_number(o);
+        say_index(o, m.scope, m);
     }
 }
 
 // The name of value k of entry i in occurrence o, as a format spells it.
-fn say_value_name(t: &[u8], i: usize, o: usize, k: usize)
+fn say_value_name(t: &[u8], i: usize, o: usize, k: usize, m: Manner)
     requires { ⌜ Valid (now t) × (i < length (entries-of (now t))) ⌝ }
 {
-    say_entry_name(t, i, o);
+    say_entry_name(t, i, o, m);
     if !tables::multiple_at(t, i) {
         return;
     }
     if values_shown::has_occurrences(t, i) {
         plain::say(b"(");
-        plain::say_number(k);
+        say_index(k, m.value_scope, m);
         plain::say(b")");
         return;
     }
-    plain::say_number(k);
+    say_index(k, m.value_scope, m);
 }
 
 // Where lines say bytes they stand below their element.
@@ -80,15 +104,27 @@ fn say_value_line(t: &[u8], record: &[u8], i: usize, o: usize, k: usize, m: Mann
     if m.whole {
         say_deeper(t, i);
     }
-    say_value_name(t, i, o, k);
+    say_value_name(t, i, o, k, m);
     if m.valued {
         plain::say(b" = ");
         values_shown::say_value(t, record, i, o, k);
     } else {
         plain::say(b"  ");
         say_bytes_taken(t, i, m);
+        say_each(m);
     }
     plain::say(b"\n");
+}
+
+// Where a line is of all that are stored, each of them takes as many bytes.
+fn say_each(m: Manner) {
+    if m.scope == UP_TO_LAST {
+        plain::say(b" each");
+        return;
+    }
+    if m.value_scope == UP_TO_LAST {
+        plain::say(b" each");
+    }
 }
 
 // The format and the length that a value of entry i takes.
@@ -122,11 +158,11 @@ fn say_number(t: &[u8], i: usize, n: usize)
 }
 
 // The line of a count, of entry i in occurrence o.
-pub(crate) fn say_count(t: &[u8], record: &[u8], i: usize, o: usize, m: Manner)
+fn say_count(t: &[u8], record: &[u8], i: usize, o: usize, m: Manner)
     requires { ⌜ Valid (now t) × (i < length (entries-of (now t))) ⌝ }
 {
     say_margin(t, i, m);
-    say_entry_name(t, i, o);
+    say_entry_name(t, i, o, m);
     if m.valued {
         plain::say(b": ");
         say_number(t, i, values_shown::count(t, record, i, o));
@@ -158,7 +194,7 @@ fn say_entry(t: &[u8], record: &[u8], i: usize, o: usize, m: Manner)
     }
     if m.whole {
         say_margin(t, i, m);
-        say_entry_name(t, i, o);
+        say_entry_name(t, i, o, m);
         plain::say(b":\n");
     }
 }
@@ -187,6 +223,22 @@ fn say_occurrences(
     }
 }
 
+// The values of entry i that are meant in occurrence o; without a record, as they are written.
+fn say_values_meant(t: &[u8], record: &[u8], i: usize, o: usize, s: Span, m: Manner)
+    requires { ⌜ Valid (now t) × (i < length (entries-of (now t))) ⌝ }
+{
+    if m.valued {
+        if m.value_scope != AS_WRITTEN {
+            let n = values_shown::count(t, record, i, o);
+            let from = resolved_from(m.value_scope, s.value_from, s.value_upto, n);
+            let upto = resolved_upto(m.value_scope, s.value_from, s.value_upto, n);
+            say_values(t, record, i, o, from, upto, m);
+            return;
+        }
+    }
+    say_values(t, record, i, o, s.value_from, s.value_upto, m);
+}
+
 // The values of one field in several occurrences.
 fn say_field(t: &[u8], record: &[u8], i: usize, s: Span, m: Manner)
     requires { ⌜ Valid (now t) × (i < length (entries-of (now t))) ⌝ }
@@ -194,23 +246,74 @@ fn say_field(t: &[u8], record: &[u8], i: usize, s: Span, m: Manner)
     let from = s.from;
     let upto = s.upto;
     for o in from..=upto {
-        say_values(t, record, i, o, s.value_from, s.value_upto, m);
+        say_values_meant(t, record, i, o, s, m);
     }
 }
 
-// What a span names, in its order.
-pub(crate) fn say_span(t: &[u8], record: &[u8], s: Span, m: Manner)
-    requires { ⌜ Valid (now t) ⌝ }
+// How many occurrences a record has of the periodic group in which entry i lies.
+fn occurrences_stored(t: &[u8], record: &[u8], i: usize) -> usize
+    requires { ⌜ Valid (now t) × (i < length (entries-of (now t))) ⌝ }
+    ensures { λ r. ⌜ r < 256 ⌝ }
 {
-    let n = tables::count(t);
+    let home = tables::periodic_group(t, i);
+    match home {
+        Found::At(g) => values_shown::count(t, record, g, 1),
+        Found::Nothing => 0,
+    }
+}
+
+// The last of the occurrences of entry i that are meant, of those from one up to another; without a record, as it is written.
+fn upto_meant(t: &[u8], record: &[u8], i: usize, from: usize, upto: usize, m: Manner) -> usize
+    requires { ⌜ Valid (now t) × (i < length (entries-of (now t))) ⌝ }
+{
+    if m.valued {
+        if m.scope != AS_WRITTEN {
+            return resolved_upto(m.scope, from, upto, occurrences_stored(t, record, i));
+        }
+    }
+    upto
+}
+
+// A span with the occurrences that are meant.
+fn span_meant(t: &[u8], record: &[u8], s: Span, m: Manner) -> Span
+    requires { ⌜ Valid (now t) × (s .first < length (entries-of (now t))) ⌝ }
+    ensures { λ r. ⌜ (r .first ≡ s .first) × (r .end ≡ s .end) ⌝ }
+{
+    let mut meant = s;
+    meant.upto = upto_meant(t, record, s.first, s.from, s.upto, m);
+    if m.scope == LAST_ALONE {
+        meant.from = meant.upto;
+    }
+    meant
+}
+
+// What a span names, in its order.
+fn say_span_meant(t: &[u8], record: &[u8], s: Span, m: Manner)
+    requires { ⌜ Valid (now t) × (s .first < length (entries-of (now t))) ⌝ }
+{
     if s.standard {
-        if s.end <= n {
+        if s.end <= tables::count(t) {
             say_occurrences(t, record, s.first, s.end, s.from, s.upto, m);
         }
         return;
     }
-    if s.first < n {
-        say_field(t, record, s.first, s, m);
+    say_field(t, record, s.first, s, m);
+}
+
+pub(crate) fn say_span(t: &[u8], record: &[u8], s: Span, m: Manner)
+    requires { ⌜ Valid (now t) ⌝ }
+{
+    if s.first < tables::count(t) {
+        say_span_meant(t, record, span_meant(t, record, s, m), m);
+    }
+}
+
+// The count of entry i in the occurrence that is meant.
+pub(crate) fn say_count_meant(t: &[u8], record: &[u8], i: usize, o: usize, m: Manner)
+    requires { ⌜ Valid (now t) ⌝ }
+{
+    if i < tables::count(t) {
+        say_count(t, record, i, upto_meant(t, record, i, o, o, m), m);
     }
 }
 
@@ -246,6 +349,8 @@ fn say_record(t: &[u8], record: &[u8])
         standard: true,
         format: 0,
         size: 0,
+        scope: AS_WRITTEN,
+        value_scope: AS_WRITTEN,
         whole: true,
     };
     let n = tables::count(t);

@@ -7,6 +7,7 @@ mod help;
 mod hexadecimal;
 mod letters;
 mod listing;
+mod meanings;
 mod plain;
 mod refusals;
 mod saving;

@@ -14,7 +14,7 @@ use Rattle.rules.specs.Lists.{Bytes, bytes-of}
 use Rattle.rules.specs.Table.{Entry, table, parts}
 use Rattle.rules.specs.Record.{Record, stored}
 use Rattle.rules.specs.Format.{elements}
-use Rattle.rules.specs.Use.{items}
+use Rattle.rules.specs.Last.{counts-in, items-read}
 use Rattle.rules.specs.Services.{filled, read}
 use Rattle.rules.specs.Numbers.{refusal-number}
 use Rattle.rules.specs.declared.Refusal.{Refusal}
@@ -25,7 +25,7 @@ use Rattle.buffer.specs.Splice.{splice}
 use Rattle.buffer.proofs.Laws.{take-splice}
 use Rattle.tables.specs.Entries.{Valid, entries-of}
 use Rattle.records.specs.Places.{Has-record}
-use Rattle.uses.specs.Meant.{uses-of}
+use Rattle.uses.specs.Meanings.{meanings-of}
 use Rattle.filling.specs.Filling.{ended, placed, Filling}
 use Rattle.filling.specs.declared.Next.{Next}
 use Rattle.filling.specs.declared.Next.the-variants as next
@@ -42,11 +42,11 @@ read-no-table t b f room h = rw (no-table t h) refl
 
 -- The items of a format in so much room, of a record.
 abbrev made : List Entry → Bytes → ℕ → Record → Outcome Bytes
-made es f room r = uses-of es f >>= λ us. filled (parts es) r room (items us)
+made es f room r = meanings-of es f >>= λ ms. filled (parts es) r room (items-read (parts es) (counts-in (parts es) r) ms)
 
 -- What follows the tests of the table and of the record.
 read-stored : (t b f : Bytes) (room : ℕ) → Valid t → read t b f room ≡ (stored (parts (entries-of t)) b >>= made (entries-of t) f (min room longest-items))
-unfolding read entries-of uses-of
+unfolding read entries-of meanings-of
 read-stored t b f room v = by-outcome (table t)
     (λ es e. rw e (by-outcome (stored (parts es) b)
     (λ r h. rw h (by-outcome (elements f) (λ xs k. rw k refl) (λ n k. rw k refl)))
@@ -58,18 +58,18 @@ read-no-record t b f room v h = read-stored t b f room v ∙ rw (no-record (part
 
 module _ (es : List Entry) (f : Bytes) (r : Record) where
   made-length : (room : ℕ) (bs : Bytes) → made es f room r ≡ done bs → length bs ≤ room
-  made-length room bs e = by-outcome (uses-of es f)
-      (λ us u. filled-length (parts es) r room (items us) bs (rw u at e))
+  made-length room bs e = by-outcome (meanings-of es f)
+      (λ ms u. filled-length (parts es) r room (items-read (parts es) (counts-in (parts es) r) ms) bs (rw u at e))
       (λ n u. absurd (not-done (rw u at e)))
 
   made-more : (room room′ : ℕ) (bs : Bytes) → room ≤ room′ → made es f room r ≡ done bs → made es f room′ r ≡ done bs
-  made-more room room′ bs l e = by-outcome (uses-of es f)
-      (λ us u. rw u (more-room (parts es) r room room′ (items us) bs l (rw u at e)))
+  made-more room room′ bs l e = by-outcome (meanings-of es f)
+      (λ ms u. rw u (more-room (parts es) r room room′ (items-read (parts es) (counts-in (parts es) r) ms) bs l (rw u at e)))
       (λ n u. rw u (rw u at e))
 
   made-refused : (room room′ n : ℕ) → room ≤ room′ → (n ≡ 7 → ⊥) → made es f room r ≡ refused n → made es f room′ r ≡ refused n
-  made-refused room room′ n l z e = by-outcome (uses-of es f)
-      (λ us u. rw u (more-room-refused (parts es) r room room′ (items us) n l z (rw u at e)))
+  made-refused room room′ n l z e = by-outcome (meanings-of es f)
+      (λ ms u. rw u (more-room-refused (parts es) r room room′ (items-read (parts es) (counts-in (parts es) r) ms) n l z (rw u at e)))
       (λ k u. rw u (rw u at e))
 
 -- An outcome by where it ends.

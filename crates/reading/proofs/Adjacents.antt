@@ -121,23 +121,23 @@ module _ {es : List Entry} (b : Bytes) (places : List ℕ) {s : Span} (held : Go
 
 -- Items of which the first are filled, and then the rest.
 pub fills-rest : {es : List Entry} {b : Bytes} {places : List ℕ} {end : ℕ} {whole rest : List Item} {start at : ℕ} {write : Bool} {out₀ out out′ : Bytes} {m : Next}
-    → Running es b places end whole rest start at write out₀ out → Fills es b places rest at end write out out′ m → Fills es b places whole start end write out₀ out′ m
-fills-rest {rest = rest} {m = At p} g f = run-end (run-on g rest [] (sym (append-nil rest)) f p refl) refl
-fills-rest {rest = rest} {m = Refused k} g f = run-off g rest [] (sym (append-nil rest)) f k refl
+    → Running es b places end (λ r. whole) (λ r. rest) start at write out₀ out → Fills es b places rest at end write out out′ m → Fills es b places whole start end write out₀ out′ m
+fills-rest {rest = rest} {m = At p} g f = run-end (run-on g (λ r. rest) (λ r. []) (λ r. sym (append-nil rest)) f p refl) (λ r. refl)
+fills-rest {rest = rest} {m = Refused k} g f = run-off g (λ r. rest) (λ r. []) (λ r. sym (append-nil rest)) f k refl
 
 -- A span whose first n occurrences are put.
 module _ {es : List Entry} {b : Bytes} {places : List ℕ} {s : Span} (held : Good-span es s) (n : ℕ) (fit : s .from + n ≤ s .upto + 1)
     {at end : ℕ} {write : Bool} {out out′ : Bytes} {m : Next} (holds : Has-record es b places) (h : at ≤ end) (l : end ≤ length out)
     (f : Fills es b places (occurrences-items es s (s .from) (s .from + n - 1)) at end write out out′ m) where
-  start : Running es b places end (span-items es s (s .from)) (span-items es s (s .from)) at at write out out
-  start = run-start es b places end (span-items es s (s .from)) at write out holds h l
+  start : Running es b places end (λ r. span-items es s (s .from)) (λ r. span-items es s (s .from)) at at write out out
+  start = run-start es b places end (λ r. span-items es s (s .from)) at write out holds h l
 
   split : span-items es s (s .from) ≡ occurrences-items es s (s .from) (s .from + n - 1) ++ span-items es s (s .from + n)
   split = rows-split es s n (s .from) (bounds (s .from) (s .upto) (held .occurrences) .0) fit
 
-  pub rows-begun : (p : ℕ) → m ≡ At p → Running es b places end (span-items es s (s .from)) (span-items es s (s .from + n)) at p write out out′
-  rows-begun p q = run-on start (occurrences-items es s (s .from) (s .from + n - 1)) (span-items es s (s .from + n)) split f p q
+  pub rows-begun : (p : ℕ) → m ≡ At p → Running es b places end (λ r. span-items es s (s .from)) (λ r. span-items es s (s .from + n)) at p write out out′
+  rows-begun p q = run-on start (λ r. occurrences-items es s (s .from) (s .from + n - 1)) (λ r. span-items es s (s .from + n)) (λ r. split) f p q
 
   pub rows-refused : (k : Refusal) → m ≡ Refused k → Fills es b places (span-items es s (s .from)) at end write out out′ m
   rows-refused k q = subst (λ (o : Next). Fills es b places (span-items es s (s .from)) at end write out out′ o) (sym q)
-      (run-off start (occurrences-items es s (s .from) (s .from + n - 1)) (span-items es s (s .from + n)) split f k q)
+      (run-off start (λ r. occurrences-items es s (s .from) (s .from + n - 1)) (λ r. span-items es s (s .from + n)) (λ r. split) f k q)

@@ -6,12 +6,15 @@ use mathlib.Core.List.{List, [], _∷_, _++_, map, map-id}
 use Prim.Native.Nat.{ℕ, zero, suc, pred, _+_, _-_, _≤_}
 use native.Mathlib.Nat.{sub-zero, suc-sub-suc}
 use native.Mathlib.Omega.{arith}
-use lib.ListN.{length, take, drop, getD, replicate, length-append, length-take, length-drop, drop-of-length-le, List·getD-eq-default}
+use lib.ListN.{length, take, drop, getD, replicate, length-append, length-drop, drop-of-length-le, List·getD-eq-default}
 use lib.Seq.{drop-cons, take-nil, take-at}
 use Rattle.rules.specs.Outcome.{Outcome, done}
+use Rattle.rules.specs.Limits.{greatest-count, highest-index}
 use Rattle.rules.specs.Lists.{Bytes, run, join}
 use Rattle.rules.specs.Values.{Format, content, converted-bytes, null}
 use Rattle.rules.specs.Record.{times, stored-value}
+use Rattle.rules.specs.Format.{Range}
+use Rattle.rules.specs.Use.{over}
 use Rattle.rules.specs.declared.Refusal.{Refusal}
 use Rattle.rules.proofs.Readers.{times-sound, value-sound}
 use Rattle.values.proofs.Meant.{null-converted, converted-itself}
@@ -19,13 +22,14 @@ use Rattle.value_formats.specs.Formats.{format-at}
 use Rattle.buffer.proofs.Cases.{by-order}
 use Rattle.records.proofs.Cells.{times-first, times-none, times-length, value-first}
 use Rattle.filling.specs.Filling.{in-room, Filling, Continues, together}
-use Rattle.reading.specs.Cells.{Wants, converted-to, wanted, existing, Stand, Exist}
+use Rattle.reading.specs.Cells.{Wants, values-meant, converted-to, wanted, existing, Stand, Exist}
 use Rattle.filling.specs.declared.Next.{Next}
 use Rattle.filling.specs.declared.Next.the-variants.{At, Refused}
 use Rattle.reading.specs.declared.cells.ValueRun.{ValueRun}
 use Rattle.reading.specs.declared.cells.Wanted.{Wanted}
 use Rattle.filling.proofs.Continues.{continues-start, continues-last, turn, turn-within, stop}
 use Rattle.filling.proofs.Together.{together-done, together-copies}
+use Rattle.reading.proofs.Existing.{meant-lies}
 
 -- Values by their numbers from one on: those that the list has, and then one value for the others.
 module _ (f : Bytes → Outcome Bytes) (d : Bytes) (vs : List Bytes) where
@@ -39,18 +43,14 @@ module _ (f : Bytes → Outcome Bytes) (d : Bytes) (vs : List Bytes) where
       let t : take n (drop (suc i) vs) ≡ [] = ap (take n) e ∙ take-nil n in
       rw (drop-of-length-le vs h, List·getD-eq-default vs d h, sub-zero) (ap (λ (os : List (Outcome Bytes)). f d ∷ os) (by-number n (suc i) ∙ rw (t, sub-zero) refl)))
 
--- What is wanted of a cell's values.
-module _ (w : Wanted) (h : Wants w) (vs : List Bytes) where
-  pub wanted-runs : wanted w vs ≡ map (converted-to w) (existing w vs) ++ replicate (w .last + 1 - w .first - length (existing w vs)) (done (null (format-at (w .format)) (w .size)))
-  wanted-runs =
-      let d = null (format-at (w .own)) (w .standard) in
-      let e : suc (w .first - 1) ≡ w .first = omega (arith, h .first) in
-      let m : suc (w .last) - w .first ≡ w .last + 1 - w .first = omega arith in
-      ap (λ (n : ℕ). run (λ k. converted-to w (getD vs (pred k) d)) (w .first) n) m
-      ∙ ap (λ (i : ℕ). run (λ k. converted-to w (getD vs (pred k) d)) i (w .last + 1 - w .first)) (sym e)
-      ∙ by-number (converted-to w) d vs (w .last + 1 - w .first) (w .first - 1)
-      ∙ ap (λ (o : Outcome Bytes). map (converted-to w) (existing w vs) ++ replicate (w .last + 1 - w .first - length (existing w vs)) o)
-      (null-converted (format-at (w .own)) (format-at (w .format)) (w .standard) (w .size) (h .converts) (h .standard) (h .size))
+  by-range : (r : Range) → 1 ≤ r .from → over r (λ k. f (getD vs (pred k) d))
+      ≡ map f (take (r .upto + 1 - r .from) (drop (r .from - 1) vs)) ++ replicate (r .upto + 1 - r .from - length (take (r .upto + 1 - r .from) (drop (r .from - 1) vs))) (f d)
+  by-range r low =
+      let e : r .from ≡ suc (r .from - 1) = omega arith in
+      let m : suc (r .upto) - r .from ≡ r .upto + 1 - r .from = omega arith in
+      ap (run (λ k. f (getD vs (pred k) d)) (r .from)) m
+      ∙ ap (λ (i : ℕ). run (λ k. f (getD vs (pred k) d)) i (r .upto + 1 - r .from)) e
+      ∙ by-number (r .upto + 1 - r .from) (r .from - 1)
 
 -- Values that stand in the bytes, converted to their own format and length.
 own-converted : (f : Format) (m n : ℕ) (bs rest : Bytes) (us : List Bytes) → times n (stored-value f m) bs ≡ done (us, rest)
@@ -86,18 +86,24 @@ module _ (w : Wanted) (b : Bytes) (at n : ℕ) (us : List Bytes) (s : Stand w b 
         (ap (λ (bs : Bytes). in-room room (done bs)) (stored-bytes upto h h₂ e .1) ∙ sym (ap (together room) (as-stored own size) ∙ together-done us room))
 
 -- What is wanted of a cell is put: the run of those that exist, and then nulls.
-module _ (w : Wanted) (h : Wants w) (b : Bytes) (vs : List Bytes) (r : ValueRun) (x : Exist w b vs r) where
-  count-is : length (existing w vs) ≡ r .count
-  count-is = times-length (stored-value (format-at (w .own)) (w .standard)) (r .count) (drop (r .at) b) (x .stand .1)
-
-  pub count-most : r .count ≤ w .last + 1 - w .first
-  count-most = omega (arith, count-is, length-take (w .last + 1 - w .first) (drop (w .first - 1) vs))
+module _ (w : Wanted) (h : Wants w) (b : Bytes) (vs : List Bytes) (few : length vs ≤ greatest-count) (r : ValueRun) (x : Exist w b vs r) where
+  pub missing-few : r .missing ≤ highest-index
+  missing-few = omega (arith, x .missing, meant-lies w (length vs) h few)
 
   abbrev nulls : List (Outcome Bytes)
-  nulls = replicate (w .last + 1 - w .first - r .count) (done (null (format-at (w .format)) (w .size)))
+  nulls = replicate (r .missing) (done (null (format-at (w .format)) (w .size)))
+
+  missing-is : values-meant w (length vs) .upto + 1 - values-meant w (length vs) .from - length (existing w vs) ≡ r .missing
+  missing-is =
+      ap (λ (n : ℕ). values-meant w (length vs) .upto + 1 - values-meant w (length vs) .from - n)
+      (times-length (stored-value (format-at (w .own)) (w .standard)) (r .count) (drop (r .at) b) (x .stand .1)) ∙ sym (x .missing)
 
   in-runs : wanted w vs ≡ map (converted-to w) (existing w vs) ++ nulls
-  in-runs = wanted-runs w h vs ∙ ap (λ (n : ℕ). map (converted-to w) (existing w vs) ++ replicate (w .last + 1 - w .first - n) (done (null (format-at (w .format)) (w .size)))) count-is
+  in-runs =
+      by-range (converted-to w) (null (format-at (w .own)) (w .standard)) vs (values-meant w (length vs)) (meant-lies w (length vs) h few .first)
+      ∙ ap (λ (n : ℕ). map (converted-to w) (existing w vs) ++ replicate n (converted-to w (null (format-at (w .own)) (w .standard)))) missing-is
+      ∙ ap (λ (o : Outcome Bytes). map (converted-to w) (existing w vs) ++ replicate (r .missing) o)
+      (null-converted (format-at (w .own)) (format-at (w .format)) (w .standard) (w .size) (h .converts) (h .standard) (h .size))
 
   module _ (at end : ℕ) (write : Bool) {out out′ : Bytes} {m : Next} (fits : at ≤ end) (room : end ≤ length out) (f : Filling (together (end - at) (map (converted-to w) (existing w vs))) at write out out′ m) where
     begun : Continues (together (end - at) (wanted w vs)) (together (end - at) (map (converted-to w) (existing w vs) ++ nulls)) at at write out out
@@ -110,7 +116,7 @@ module _ (w : Wanted) (h : Wants w) (b : Bytes) (vs : List Bytes) (r : ValueRun)
     cell-within p e = turn-within end (map (converted-to w) (existing w vs)) nulls begun f fits room p e .1
 
     pub cell-on : (p : ℕ) → m ≡ At p → {out″ : Bytes} {m₂ : Next}
-        → Filling (in-room (end - p) (done (join (replicate (w .last + 1 - w .first - r .count) (null (format-at (w .format)) (w .size)))))) p write out′ out″ m₂
+        → Filling (in-room (end - p) (done (join (replicate (r .missing) (null (format-at (w .format)) (w .size)))))) p write out′ out″ m₂
         → Filling (together (end - at) (wanted w vs)) at write out out″ m₂
     cell-on p e {out″} {m₂} f₂ = continues-last (turn end (map (converted-to w) (existing w vs)) nulls begun f fits room p e)
-        (subst (λ (o : Outcome Bytes). Filling o p write out′ out″ m₂) (sym (together-copies (w .last + 1 - w .first - r .count) (null (format-at (w .format)) (w .size)) (end - p))) f₂)
+        (subst (λ (o : Outcome Bytes). Filling o p write out′ out″ m₂) (sym (together-copies (r .missing) (null (format-at (w .format)) (w .size)) (end - p))) f₂)

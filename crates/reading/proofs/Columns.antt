@@ -1,24 +1,27 @@
--- What is wanted of a span's one field is what its items ask for.
+-- What is wanted of a span's one field is what its items ask for: in each occurrence as many values are meant as the field's cell tells.
 use mathlib.Core.Path.{_≡_, refl, sym, _∙_, ap, subst}
 use mathlib.Core.Bool.{Bool, true, false}
-use mathlib.Core.List.{List, _∷_, map}
-use Prim.Native.Nat.{ℕ, zero, suc, pred, _-_, _<_}
+use mathlib.Core.List.{List, [], _∷_, _++_, map, append-nil}
+use Prim.Native.Nat.{ℕ, zero, suc, pred, _+_, _-_, _≤_, _<_}
 use native.Mathlib.Omega.{arith}
 use lib.ListN.{length, getD, drop}
 use Rattle.rules.specs.Outcome.{Outcome}
-use Rattle.rules.specs.Lists.{Bytes, run}
+use Rattle.rules.specs.Lists.{Bytes, join, run}
 use Rattle.rules.specs.Values.{Format, converts, null}
-use Rattle.rules.specs.Table.{Entry, parts}
-use Rattle.rules.specs.Record.{Record, values-at, value-at}
-use Rattle.rules.specs.Use.{Asked, value-items, just}
+use Rattle.rules.specs.Table.{Entry, Field, parts}
+use Rattle.rules.specs.Format.{Range}
+use Rattle.rules.specs.Last.{resolved}
+use Rattle.rules.specs.Record.{Record, values-at, value-at, value-count-at}
+use Rattle.rules.specs.Use.{Asked, Item, over}
 use Rattle.rules.specs.Services.{item-bytes}
-use Rattle.rules.proofs.Ranges.{item-at, one-field}
+use Rattle.rules.proofs.Ranges.{item-at, field-items}
 use Rattle.value_formats.specs.Formats.{format-at}
 use Rattle.tables.specs.Entries.{Valid, entries-of, blank, decoded}
 use Rattle.tables.specs.Groups.{field-at}
 use Rattle.tables.specs.declared.Entry.{Entry as Row}
 use Rattle.format_buffer.specs.Elements.{range}
-use Rattle.uses.specs.Meant.{Good-span, One-field}
+use Rattle.uses.specs.Meant.{asked-of, Good-span, One-field}
+use Rattle.uses.specs.Scopes.{scope-at}
 use Rattle.uses.specs.declared.Span.{Span}
 use Rattle.uses.proofs.SpanFields.{asked-one}
 use Rattle.records.specs.Places.{Is-record, Cell-of}
@@ -26,12 +29,12 @@ use Rattle.records.proofs.Placed.{cell-numbers}
 use Rattle.records.specs.declared.places.Cell.{Cell}
 use Rattle.records.specs.declared.places.Cell.the-variants.{At as Stands, Nothing as None}
 use Rattle.filling.specs.Filling.{Filling, together}
-use Rattle.reading.specs.Cells.{Wants, converted-to, wanted, wanted-at, Cell-holds}
-use Rattle.reading.specs.Spans.{Fills, occurrence-items}
+use Rattle.reading.specs.Cells.{Wants, converted-to, values-meant, wanted, wanted-at, Cell-holds}
+use Rattle.reading.specs.Spans.{Fills-by, scoped-items, Scoped-values}
 use Rattle.filling.specs.declared.Next.{Next}
 use Rattle.reading.specs.declared.cells.Wanted.{Wanted}
 use Rattle.reading.proofs.Items.{filled-together}
-use Rattle.reading.proofs.SpanItems.{bounds}
+use Rattle.reading.proofs.SpanItems.{row-items, no-row, first-row, bounds}
 use Rattle.tables.proofs.EntryFields.{name-at}
 use Rattle.reading.proofs.Values.{own-small, own-allowed, own-format, own-size}
 
@@ -40,7 +43,21 @@ unfolding run
 map-run h f g e i zero = refl
 map-run {Y = Y} h f g e i (suc n) = ap (λ (y : Y). y ∷ map h (run f (suc i) n)) (e i) ∙ ap (λ (ys : List Y). g i ∷ ys) (map-run h f g e (suc i) n)
 
-module _ (t b : Bytes) (places : List ℕ) (v : Valid t) (s : Span) (h : Good-span (entries-of t) s) (alone : s .standard ≡ false) (o : ℕ) where
+-- The values of a field that are meant in an occurrence of a span, and the items of a row.
+abbrev values-there : List Entry → Record → Span → ℕ → Field → ℕ → Range
+values-there es r s scope f i = resolved (scope-at scope) (range (s .«value_from») (s .«value_upto»)) (value-count-at (parts es) r (f .name) i)
+
+abbrev pub scoped-row : List Entry → Span → ℕ → ℕ → Record → List Item
+scoped-row es s scope o r = row-items (asked-of es s) (values-there es r s scope) false o
+
+module _ (es : List Entry) (s : Span) (scope o : ℕ) where
+  pub no-scoped : s .upto < o → (r : Record) → scoped-items es r s scope o ≡ []
+  no-scoped h r = no-row (asked-of es s) (values-there es r s scope) false o (s .upto) h
+
+  pub first-scoped : o ≤ s .upto → (r : Record) → scoped-items es r s scope o ≡ scoped-row es s scope o r ++ scoped-items es r s scope (o + 1)
+  first-scoped h r = first-row (asked-of es s) (values-there es r s scope) false o (s .upto) h
+
+module _ (t b : Bytes) (places : List ℕ) (v : Valid t) (s : Span) (h : Good-span (entries-of t) s) (alone : s .standard ≡ false) (scope : ℕ) (scoped : Scoped-values (entries-of t) s scope) (o : ℕ) where
   abbrev es : List Entry
   es = entries-of t
 
@@ -57,7 +74,7 @@ module _ (t b : Bytes) (places : List ℕ) (v : Valid t) (s : Span) (h : Good-sp
   asks = record { field = field-at es (s .first); format = format-at (s .format); size = s .size }
 
   abbrev wants : Wanted
-  wants = wanted-at es (s .first) (s .«value_from») (s .«value_upto») (s .format) (s .size)
+  wants = wanted-at es (s .first) (s .«value_from») (s .«value_upto») scope (s .format) (s .size)
 
   abbrev values-of : Record → List Bytes
   values-of r = values-at (parts es) r (getD es (s .first) blank .name) o
@@ -66,12 +83,19 @@ module _ (t b : Bytes) (places : List ℕ) (v : Valid t) (s : Span) (h : Good-sp
   unfolding item-bytes value-at
   item-found r k = rw (own-format t v known (one .field) row refl, own-size t v known (one .field) row refl, name-at es (s .first))
 
-  items-found : (r : Record) → map (item-bytes (parts es) r) (occurrence-items es s o) ≡ wanted wants (values-of r)
+  -- As many are meant as the cell tells.
+  meant-found : (r : Record) → values-there es r s scope (field-at es (s .first)) o ≡ values-meant wants (length (values-of r))
+  unfolding value-count-at
+  meant-found r = rw (name-at es (s .first)) refl
+
+  items-found : (r : Record) → map (item-bytes (parts es) r) (scoped-row es s scope o r) ≡ wanted wants (values-of r)
+  unfolding join
   items-found r =
-      let vs = range (s .«value_from») (s .«value_upto») in
-      ap (λ (fs : List Asked). map (item-bytes (parts es) r) (value-items fs (just o) vs false)) (asked-one es s (s .standard) alone)
-      ∙ ap (map (item-bytes (parts es) r)) (one-field o vs false asks)
-      ∙ map-run (item-bytes (parts es) r) _ _ (item-found r) (s .«value_from») (suc (s .«value_upto») - s .«value_from»)
+      let m = values-meant wants (length (values-of r)) in
+      ap (λ (fs : List Asked). map (item-bytes (parts es) r) (row-items fs (values-there es r s scope) false o)) (asked-one es s (s .standard) alone)
+      ∙ ap (map (item-bytes (parts es) r)) (append-nil (field-items false (values-there es r s scope (asks .field) o) o asks))
+      ∙ ap (λ (x : Range). map (item-bytes (parts es) r) (over x (item-at false asks o))) (meant-found r)
+      ∙ map-run (item-bytes (parts es) r) _ _ (item-found r) (m .from) (suc (m .upto) - m .from)
 
   module _ (w : Wanted) (q : w ≡ wants) where
     pub column-wants : Wants w
@@ -86,6 +110,7 @@ module _ (t b : Bytes) (places : List ℕ) (v : Valid t) (s : Span) (h : Good-sp
           first = m .0;
           ordered = m .1;
           last = m .2;
+          scope = λ n. scoped n .1;
         })
 
     -- The cell is found by the number of its entry.
@@ -104,8 +129,8 @@ module _ (t b : Bytes) (places : List ℕ) (v : Valid t) (s : Span) (h : Good-sp
 
       pub column-fills : (at end : ℕ) (write : Bool) {out out′ : Bytes} {m : Next}
           → ((vs : List Bytes) → Cell-holds b (format-at (w .own)) (w .standard) (w .multiple) vs cell → Filling (together (end - at) (wanted w vs)) at write out out′ m)
-          → Fills es b places (occurrence-items es s o) at end write out out′ m
+          → Fills-by es b places (scoped-row es s scope o) at end write out out′ m
       column-fills at end write {out} {out′} {m} f r k = subst (λ (x : Outcome Bytes). Filling x at write out out′ m)
           (ap (λ (x : Wanted). together (end - at) (wanted x (values-of r))) q
-          ∙ sym (filled-together (parts es) r (occurrence-items es s o) (end - at) ∙ ap (together (end - at)) (items-found r)))
+          ∙ sym (filled-together (parts es) r (scoped-row es s scope o r) (end - at) ∙ ap (together (end - at)) (items-found r)))
           (f (values-of r) (holds r k))

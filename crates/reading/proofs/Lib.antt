@@ -15,3 +15,4 @@ pub mod Values
 pub mod Nulls
 pub mod Pieces
 pub mod Adjacents
+pub mod Reaching

@@ -14,7 +14,8 @@ use Rattle.rules.specs.Lists.{Bytes}
 use Rattle.rules.specs.Table.{Entry, parts}
 use Rattle.rules.specs.Record.{Record}
 use Rattle.rules.specs.Format as rules
-use Rattle.rules.specs.Use.{Use as Meaning, Indexes, uses, items}
+use Rattle.rules.specs.Use.{Indexes}
+use Rattle.rules.specs.Last.{Meaning, Lasts, meanings, counts-in, items-read}
 use Rattle.rules.specs.Services.{filled}
 use Rattle.rules.specs.Numbers.{refusal-number}
 use Rattle.rules.specs.declared.Refusal.the-variants.{BadSyntax}
@@ -24,9 +25,8 @@ use Rattle.format_buffer.specs.declared.Element.{Element}
 use Rattle.format_buffer.specs.declared.syntax.Step.the-variants as step
 use Rattle.format_buffer.proofs.StepLaws.{elements-parsed, elements-long, behind-last, behind-more}
 use Rattle.records.specs.Places.{Is-record}
-use Rattle.uses.specs.Meant.{indexes-kept, Remembers, uses-of}
-use Rattle.uses.proofs.Remembering.{no-index, zeros}
-use Rattle.uses.proofs.Decoding.{no-uses}
+use Rattle.uses.specs.Meanings.{indexes-kept, Remembers, meanings-of}
+use Rattle.uses.proofs.Remembering.{none-remembered}
 use Rattle.filling.specs.Filling.{Continues}
 use Rattle.reading.specs.Scan.{filled-upto, answer-of, left-of, Puts-element, Scans}
 use Rattle.filling.specs.declared.Next.{Next}
@@ -35,28 +35,32 @@ use Rattle.reading.specs.declared.Progress.{Progress}
 use Rattle.reading.specs.declared.Progress.the-variants.{At, ItemRefused, ElementRefused}
 use Rattle.filling.proofs.Continues.{continues-start, continues-then, continues-off, continues-end}
 use Rattle.reading.proofs.Items.{filled-together}
-use Rattle.reading.proofs.Turns.{no-items, left-bad}
+use Rattle.reading.proofs.Turns.{no-items, no-meanings, left-bad}
 
 -- All that a format asks for, in limited room.
-abbrev whole : List Entry → Bytes → Record → ℕ → Outcome Bytes
-whole es f r end = uses-of es f >>= λ us. filled (parts es) r end (items us)
+abbrev items-in : List Entry → Record → ℕ → List Meaning → Outcome Bytes
+items-in es r room ms = filled (parts es) r room (items-read (parts es) (counts-in (parts es) r) ms)
 
-whole-left : (es : List Entry) (f : Bytes) (r : Record) (end : ℕ) → length f ≤ longest-format → whole es f r end ≡ left-of es r end [] (parsed (drop 0 f)) (At 0)
-unfolding uses-of left-of
-whole-left es f r end h = ap (λ o. o >>= uses es [] >>= λ us. filled (parts es) r end (items us)) (elements-parsed f h)
-    ∙ ap (λ n. parsed f >>= uses es [] >>= λ us. filled (parts es) r n (items us)) (sym (sub-zero end))
+abbrev whole : List Entry → Bytes → Record → ℕ → Outcome Bytes
+whole es f r end = meanings-of es f >>= items-in es r end
+
+whole-left : (es : List Entry) (f : Bytes) (r : Record) (end : ℕ) → length f ≤ longest-format → whole es f r end ≡ left-of es r end [] [] (parsed (drop 0 f)) (At 0)
+unfolding meanings-of left-of
+whole-left es f r end h = ap (λ o. o >>= meanings es [] [] >>= items-in es r end) (elements-parsed f h)
+    ∙ ap (λ n. parsed f >>= meanings es [] [] >>= items-in es r n) (sym (sub-zero end))
 
 pub scan-long : (es : List Entry) (b : Bytes) (places : List ℕ) (f : Bytes) (end : ℕ) (write : Bool) (out : Bytes) → longest-format < length f → Scans es b places f end write out out (next.Refused BadSyntax)
-unfolding uses-of
-scan-long es b places f end write out h r p = continues-off (continues-start (whole es f r end) 0 write out) refl BadSyntax (ap (λ o. o >>= uses es [] >>= λ us. filled (parts es) r end (items us)) (elements-long f h)) (λ w. refl)
+unfolding meanings-of
+scan-long es b places f end write out h r p = continues-off (continues-start (whole es f r end) 0 write out) refl BadSyntax (ap (λ o. o >>= meanings es [] [] >>= items-in es r end) (elements-long f h)) (λ w. refl)
 
 -- The scan stands somewhere, with some elements left.
 pub record Scanning (es : List Entry) (b : Bytes) (places : List ℕ) (f : Bytes) (end : ℕ) (write : Bool) (out₀ : Bytes) (last : List ℕ) (xs : Outcome (List rules.Element)) (s : Progress) (out : Bytes) : Type 0 where
   pub indexes : Indexes
-  pub remembers : Remembers es last indexes
+  pub lasts : Lasts
+  pub remembers : Remembers es last indexes lasts
   pub fits : filled-upto s ≤ end
   pub same : length out ≡ length out₀
-  pub continues : (r : Record) → Is-record es b places r → Continues (whole es f r end) (left-of es r end indexes xs s) 0 (filled-upto s) write out₀ out
+  pub continues : (r : Record) → Is-record es b places r → Continues (whole es f r end) (left-of es r end indexes lasts xs s) 0 (filled-upto s) write out₀ out
 
 -- An answer that is known by an equation.
 pub scan-as-answer : {es : List Entry} {b : Bytes} {places : List ℕ} (f : Bytes) (end : ℕ) {write : Bool} {out₀ out : Bytes} {n m : Next} → n ≡ m
@@ -67,7 +71,8 @@ module _ {es : List Entry} {b : Bytes} {places : List ℕ} {f : Bytes} {end : �
   pub scan-start : length f ≤ longest-format → Scanning es b places f end write out₀ (replicate indexes-kept 0) (parsed (drop 0 f)) (At 0) out₀
   scan-start s = record {
     indexes = [];
-    remembers = λ i k. zeros indexes-kept i ∙ sym (no-index (getD es i _ .name));
+    lasts = [];
+    remembers = none-remembered es;
     fits = omega arith;
     same = refl;
     continues = λ r p. subst (λ (o : Outcome Bytes). Continues (whole es f r end) o 0 0 write out₀ out₀) (whole-left es f r end s) (continues-start (whole es f r end) 0 write out₀);
@@ -79,16 +84,17 @@ module _ {es : List Entry} {b : Bytes} {places : List ℕ} {f : Bytes} {end : �
     scan-as ys e = subst (λ (o : Outcome (List rules.Element)). Scanning es b places f end write out₀ last o s out) e w
 
     pub scan-bad : xs ≡ refused 3 → Scans es b places f end write out₀ out (next.Refused BadSyntax)
-    scan-bad e r p = continues-off (w .continues r p) refl BadSyntax (ap (λ o. left-of es r end (w .indexes) o s) e ∙ left-bad es r end (w .indexes) s 3) (λ k. refl)
+    scan-bad e r p = continues-off (w .continues r p) refl BadSyntax (ap (λ o. left-of es r end (w .indexes) (w .lasts) o s) e ∙ left-bad es r end (w .indexes) (w .lasts) s 3) (λ k. refl)
 
   scan-on : {last last′ : List ℕ} {s s′ : Progress} {out out′ : Bytes} (e : Element) (xs : Outcome (List rules.Element))
       → Scanning es b places f end write out₀ last (element-before (element-of f e) xs) s out → Puts-element es b places f end write e last last′ s out out′ s′ → Scanning es b places f end write out₀ last′ xs s′ out′
-  scan-on e xs w p = let n = p .continues (w .indexes) (w .remembers) in record {
+  scan-on e xs w p = let n = p .continues (w .indexes) (w .lasts) (w .remembers) in record {
     indexes = n .0;
-    remembers = n .1;
+    lasts = n .1;
+    remembers = n .2;
     fits = p .fits;
     same = p .kept ∙ w .same;
-    continues = λ r h. continues-then (w .continues r h) (n .2 r h xs);
+    continues = λ r h. continues-then (w .continues r h) (n .3 r h xs);
   }
 
   -- Nothing is left.
@@ -96,9 +102,9 @@ module _ {es : List Entry} {b : Bytes} {places : List ℕ} {f : Bytes} {end : �
   unfolding left-of
   scan-end (At p) {out} w r h = continues-end (end - p)
       (subst (λ (o : Outcome Bytes). Continues (whole es f r end) o 0 p write out₀ out)
-      (ap (λ o. o >>= λ us. filled (parts es) r (end - p) (items us)) (no-uses es (w .indexes)) ∙ ap (filled (parts es) r (end - p)) no-items ∙ filled-together (parts es) r [] (end - p))
+      (ap (λ o. o >>= items-in es r (end - p)) (no-meanings es (w .indexes) (w .lasts)) ∙ ap (filled (parts es) r (end - p)) (no-items (parts es) (counts-in (parts es) r)) ∙ filled-together (parts es) r [] (end - p))
       (w .continues r h))
-  scan-end (ItemRefused n) w r h = continues-off (w .continues r h) refl n (ap (λ (o : Outcome (List Meaning)). o >>= λ us. refused (refusal-number n)) (no-uses es (w .indexes))) (λ k. refl)
+  scan-end (ItemRefused n) w r h = continues-off (w .continues r h) refl n (ap (λ (o : Outcome (List Meaning)). o >>= λ ms. refused (refusal-number n)) (no-meanings es (w .indexes) (w .lasts))) (λ k. refl)
   scan-end (ElementRefused n) w r h = continues-off (w .continues r h) refl n refl (λ k. refl)
 
   -- The element at a place is put.

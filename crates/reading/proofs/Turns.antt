@@ -10,12 +10,12 @@ use Rattle.rules.specs.Lists.{Bytes, join}
 use Rattle.rules.specs.Table.{Part, Entry, parts}
 use Rattle.rules.specs.Record.{Record}
 use Rattle.rules.specs.Format as rules
-use Rattle.rules.specs.Use.{Use as Meaning, Indexes, indexes-after, use-of, uses, Item, items-of, items}
+use Rattle.rules.specs.Use.{Indexes, indexes-after, Item}
+use Rattle.rules.specs.Last.{Meaning, Counts, Lasts, lasts-after, meaning-of, meanings, counts-in, use-resolved, items-read}
 use Rattle.rules.specs.Services.{filled}
 use Rattle.rules.specs.declared.Refusal.{Refusal}
 use Rattle.rules.specs.Numbers.{refusal-number}
 use Rattle.format_buffer.specs.Syntax.{element-before}
-use Rattle.uses.proofs.Decoding.{first-refused, before-done}
 use Rattle.filling.specs.Filling.{Filling, Continues}
 use Rattle.reading.specs.Scan.{filled-upto, left-of}
 use Rattle.filling.specs.declared.Next.{Next}
@@ -25,13 +25,21 @@ use Rattle.reading.specs.declared.Progress.the-variants.{At, ItemRefused
 use Rattle.filling.proofs.Continues.{outcome-before, continues-start, continues-on, continues-both-off, put-off, put-unwritten, room-left}
 use Rattle.reading.proofs.Items.{items-on, filled-on, filled-off}
 
-pub no-items : items [] ≡ []
-unfolding items join
-no-items = refl
+-- The items of one meaning, and of none or of some more after it.
+abbrev items-of : List Part → Counts → Meaning → List Item
+items-of ps c m = use-resolved ps c (m .occurrences) (m .values) (m .meant)
 
-first-items : (u : Meaning) (us : List Meaning) → items (u ∷ us) ≡ items-of u ++ items us
-unfolding items join
-first-items u us = refl
+pub no-items : (ps : List Part) (c : Counts) → items-read ps c [] ≡ []
+unfolding items-read join
+no-items ps c = refl
+
+first-items : (ps : List Part) (c : Counts) (m : Meaning) (ms : List Meaning) → items-read ps c (m ∷ ms) ≡ items-of ps c m ++ items-read ps c ms
+unfolding items-read join
+first-items ps c m ms = refl
+
+pub no-meanings : (es : List Entry) (ls : Indexes) (ns : Lasts) → meanings es ls ns [] ≡ done []
+unfolding meanings
+no-meanings es ls ns = refl
 
 -- A refusal n stands, unless there is one before it; what is done to what is not refused does not change that.
 abbrev unless : {A : Type 0} → Outcome A → ℕ → ℕ
@@ -46,31 +54,45 @@ refused-then : {A B : Type 0} (o : Outcome A) (n : ℕ) → _≡_ {A = Outcome B
 refused-then (done a) n = refl
 refused-then (refused k) n = refl
 
--- An element that is refused, before some more.
-module _ (es : List Entry) (ls : Indexes) (x : rules.Element) where
-  before-refused : (o : Outcome (List rules.Element)) (n : ℕ) → refused n ≡ use-of es ls x → (element-before x o >>= uses es ls) ≡ refused (unless o n)
-  before-refused (done xs) n e = first-refused es ls x xs n e
+-- The meaning of an element before some more.
+module _ (es : List Entry) (ls : Indexes) (ns : Lasts) (x : rules.Element) where
+  before-refused : (o : Outcome (List rules.Element)) (n : ℕ) → refused n ≡ meaning-of es ls ns x → (element-before x o >>= meanings es ls ns) ≡ refused (unless o n)
+  unfolding meanings
+  before-refused (done xs) n e = rw (← e) refl
   before-refused (refused k) n e = refl
 
--- The items of a use before those of some more.
-module _ (ps : List Part) (r : Record) (room : ℕ) (u : Meaning) where
-  used-on : (o : Outcome (List Meaning)) (a : Bytes) → filled ps r room (items-of u) ≡ done a
-      → (o >>= (λ us. done (u ∷ us)) >>= λ us. filled ps r room (items us)) ≡ outcome-before a (o >>= λ us. filled ps r (room - length a) (items us))
-  used-on (done us) a h = ap (filled ps r room) (first-items u us) ∙ filled-on ps r room (items-of u) (items us) a h
+  before-done : (o : Outcome (List rules.Element)) (m : Meaning) → done m ≡ meaning-of es ls ns x
+      → (element-before x o >>= meanings es ls ns) ≡ (o >>= meanings es (indexes-after (m .meant) ls) (lasts-after m ns) >>= λ ms. done (m ∷ ms))
+  unfolding meanings
+  before-done (done xs) m e = rw (← e) refl
+  before-done (refused k) m e = refl
+
+-- The items of a meaning before those of some more.
+module _ (ps : List Part) (r : Record) (room : ℕ) (m : Meaning) where
+  abbrev counts : Counts
+  counts = counts-in ps r
+
+  used-on : (o : Outcome (List Meaning)) (a : Bytes) → filled ps r room (items-of ps counts m) ≡ done a
+      → (o >>= (λ ms. done (m ∷ ms)) >>= λ ms. filled ps r room (items-read ps counts ms)) ≡ outcome-before a (o >>= λ ms. filled ps r (room - length a) (items-read ps counts ms))
+  used-on (done ms) a h = ap (filled ps r room) (first-items ps counts m ms) ∙ filled-on ps r room (items-of ps counts m) (items-read ps counts ms) a h
   used-on (refused k) a h = refl
 
-  used-off : (o : Outcome (List Meaning)) (k : ℕ) → filled ps r room (items-of u) ≡ refused k
-      → (o >>= (λ us. done (u ∷ us)) >>= λ us. filled ps r room (items us)) ≡ refused (unless o k)
-  used-off (done us) k h = ap (filled ps r room) (first-items u us) ∙ filled-off ps r room (items-of u) (items us) k h
+  used-off : (o : Outcome (List Meaning)) (k : ℕ) → filled ps r room (items-of ps counts m) ≡ refused k
+      → (o >>= (λ ms. done (m ∷ ms)) >>= λ ms. filled ps r room (items-read ps counts ms)) ≡ refused (unless o k)
+  used-off (done ms) k h = ap (filled ps r room) (first-items ps counts m ms) ∙ filled-off ps r room (items-of ps counts m) (items-read ps counts ms) k h
   used-off (refused j) k h = refl
 
 -- What is left, where something is refused.
-module _ (es : List Entry) (r : Record) (end : ℕ) (ls : Indexes) where
-  left-refused : (xs : Outcome (List rules.Element)) (n : Refusal) → left-of es r end ls xs (ElementRefused n) ≡ refused (unless xs (refusal-number n))
+module _ (es : List Entry) (r : Record) (end : ℕ) (ls : Indexes) (ns : Lasts) where
+  -- What is filled in so much room.
+  abbrev filling : ℕ → List Meaning → Outcome Bytes
+  filling room ms = filled (parts es) r room (items-read (parts es) (counts-in (parts es) r) ms)
+
+  left-refused : (xs : Outcome (List rules.Element)) (n : Refusal) → left-of es r end ls ns xs (ElementRefused n) ≡ refused (unless xs (refusal-number n))
   unfolding left-of
   left-refused xs n = refused-then xs (refusal-number n)
 
-  pub left-bad : (s : Progress) (n : ℕ) → left-of es r end ls (refused n) s ≡ refused n
+  pub left-bad : (s : Progress) (n : ℕ) → left-of es r end ls ns (refused n) s ≡ refused n
   unfolding left-of
   left-bad (At p) n = refl
   left-bad (ItemRefused k) n = refl
@@ -79,52 +101,52 @@ module _ (es : List Entry) (r : Record) (end : ℕ) (ls : Indexes) where
   -- The element x comes first, and the elements xs after it.
   module _ (x : rules.Element) (xs : Outcome (List rules.Element)) where
     -- One that is not looked at, since one before it is refused.
-    pub passed : (n : Refusal) {write : Bool} {out : Bytes} → Continues (left-of es r end ls (element-before x xs) (ElementRefused n)) (left-of es r end ls xs (ElementRefused n)) 0 0 write out out
+    pub passed : (n : Refusal) {write : Bool} {out : Bytes} → Continues (left-of es r end ls ns (element-before x xs) (ElementRefused n)) (left-of es r end ls ns xs (ElementRefused n)) 0 0 write out out
     passed n = continues-both-off (unless xs (refusal-number n)) (left-refused (element-before x xs) n ∙ ap refused (unless-then xs (λ ys. x ∷ ys) (refusal-number n))) (left-refused xs n) refl (λ e. refl)
 
     -- One that is refused.
-    module _ (n : Refusal) (h : refused (refusal-number n) ≡ use-of es ls x) where
-      before-off : (s : Progress) → ((k : Refusal) → s ≡ ElementRefused k → ⊥) → left-of es r end ls (element-before x xs) s ≡ refused (unless xs (refusal-number n))
+    module _ (n : Refusal) (h : refused (refusal-number n) ≡ meaning-of es ls ns x) where
+      before-off : (s : Progress) → ((k : Refusal) → s ≡ ElementRefused k → ⊥) → left-of es r end ls ns (element-before x xs) s ≡ refused (unless xs (refusal-number n))
       unfolding left-of
-      before-off (At p) k = ap (λ o. o >>= λ us. filled (parts es) r (end - p) (items us)) (before-refused es ls x xs (refusal-number n) h)
-      before-off (ItemRefused m) k = ap (λ (o : Outcome (List Meaning)). o >>= λ us. refused (refusal-number m)) (before-refused es ls x xs (refusal-number n) h)
+      before-off (At p) k = ap (λ o. o >>= filling (end - p)) (before-refused es ls ns x xs (refusal-number n) h)
+      before-off (ItemRefused m) k = ap (λ (o : Outcome (List Meaning)). o >>= λ ms. refused (refusal-number m)) (before-refused es ls ns x xs (refusal-number n) h)
       before-off (ElementRefused m) k = absurd (k m refl)
 
-      pub refused-use : (s : Progress) → ((k : Refusal) → s ≡ ElementRefused k → ⊥) → (ls′ : Indexes) {write : Bool} {out : Bytes}
-          → Continues (left-of es r end ls (element-before x xs) s) (left-of es r end ls′ xs (ElementRefused n)) (filled-upto s) 0 write out out
+      pub refused-use : (s : Progress) → ((k : Refusal) → s ≡ ElementRefused k → ⊥) → (ls′ : Indexes) (ns′ : Lasts) {write : Bool} {out : Bytes}
+          → Continues (left-of es r end ls ns (element-before x xs) s) (left-of es r end ls′ ns′ xs (ElementRefused n)) (filled-upto s) 0 write out out
       unfolding left-of
-      refused-use s k ls′ = continues-both-off (unless xs (refusal-number n)) (before-off s k) (refused-then xs (refusal-number n)) refl (λ e. refl)
+      refused-use s k ls′ ns′ = continues-both-off (unless xs (refusal-number n)) (before-off s k) (refused-then xs (refusal-number n)) refl (λ e. refl)
 
-    -- One that means u.
-    module _ (u : Meaning) (h : done u ≡ use-of es ls x) where
+    -- One that means m.
+    module _ (m : Meaning) (h : done m ≡ meaning-of es ls ns x) where
       abbrev more : Outcome (List Meaning)
-      more = xs >>= uses es (indexes-after u ls)
+      more = xs >>= meanings es (indexes-after (m .meant) ls) (lasts-after m ns)
 
       -- After an item that is refused.
-      pub used-behind : (n : Refusal) {write : Bool} {out : Bytes} → Continues (left-of es r end ls (element-before x xs) (ItemRefused n)) (left-of es r end (indexes-after u ls) xs (ItemRefused n)) 0 0 write out out
+      pub used-behind : (n : Refusal) {write : Bool} {out : Bytes} → Continues (left-of es r end ls ns (element-before x xs) (ItemRefused n)) (left-of es r end (indexes-after (m .meant) ls) (lasts-after m ns) xs (ItemRefused n)) 0 0 write out out
       unfolding left-of
       used-behind k =
           let n = refusal-number k in
           continues-both-off (unless more n)
-          (refused-then (element-before x xs >>= uses es ls) n ∙ ap (λ o. refused (unless o n)) (before-done es ls x xs u h) ∙ ap refused (unless-then more (λ us. u ∷ us) n))
+          (refused-then (element-before x xs >>= meanings es ls ns) n ∙ ap (λ o. refused (unless o n)) (before-done es ls ns x xs m h) ∙ ap refused (unless-then more (λ ms. m ∷ ms) n))
           (refused-then more n) refl (λ e. refl)
 
-      before-used : (p : ℕ) → left-of es r end ls (element-before x xs) (At p) ≡ (more >>= (λ us. done (u ∷ us)) >>= λ us. filled (parts es) r (end - p) (items us))
+      before-used : (p : ℕ) → left-of es r end ls ns (element-before x xs) (At p) ≡ (more >>= (λ ms. done (m ∷ ms)) >>= filling (end - p))
       unfolding left-of
-      before-used p = ap (λ o. o >>= λ us. filled (parts es) r (end - p) (items us)) (before-done es ls x xs u h)
+      before-used p = ap (λ o. o >>= filling (end - p)) (before-done es ls ns x xs m h)
 
-      module _ {p : ℕ} {write : Bool} {out out′ : Bytes} {m : Next} (g : Filling (filled (parts es) r (end - p) (items-of u)) p write out out′ m) (fits : p ≤ end) (room : end ≤ length out) where
-        pub used-at : (p′ : ℕ) → m ≡ next.At p′ → Continues (left-of es r end ls (element-before x xs) (At p)) (left-of es r end (indexes-after u ls) xs (At p′)) p p′ write out out′
+      module _ {p : ℕ} {write : Bool} {out out′ : Bytes} {z : Next} (g : Filling (filled (parts es) r (end - p) (items-of (parts es) (counts-in (parts es) r) m)) p write out out′ z) (fits : p ≤ end) (room : end ≤ length out) where
+        pub used-at : (p′ : ℕ) → z ≡ next.At p′ → Continues (left-of es r end ls ns (element-before x xs) (At p)) (left-of es r end (indexes-after (m .meant) ls) (lasts-after m ns) xs (At p′)) p p′ write out out′
         unfolding left-of
-        used-at p′ q = items-on (parts es) r end (items-of u) g fits p′ q λ a k n l c.
-            let o = before-used p ∙ used-on (parts es) r (end - p) u more a k ∙ ap (λ w. outcome-before a (more >>= λ us. filled (parts es) r w (items us))) (room-left end p p′ (length a) n l) in
-            continues-on (continues-start (left-of es r end ls (element-before x xs) (At p)) p write out) (g .same) a (left-of es r end (indexes-after u ls) xs (At p′)) p′ o n (omega arith) c
+        used-at p′ q = items-on (parts es) r end (items-of (parts es) (counts-in (parts es) r) m) g fits p′ q λ a k n l c.
+            let o = before-used p ∙ used-on (parts es) r (end - p) m more a k ∙ ap (λ w. outcome-before a (more >>= filling w)) (room-left end p p′ (length a) n l) in
+            continues-on (continues-start (left-of es r end ls ns (element-before x xs) (At p)) p write out) (g .same) a (left-of es r end (indexes-after (m .meant) ls) (lasts-after m ns) xs (At p′)) p′ o n (omega arith) c
 
-        pub used-refused : (k : Refusal) → m ≡ next.Refused k → Continues (left-of es r end ls (element-before x xs) (At p)) (left-of es r end (indexes-after u ls) xs (ItemRefused k)) p 0 write out out′
+        pub used-refused : (k : Refusal) → z ≡ next.Refused k → Continues (left-of es r end ls ns (element-before x xs) (At p)) (left-of es r end (indexes-after (m .meant) ls) (lasts-after m ns) xs (ItemRefused k)) p 0 write out out′
         unfolding left-of
         used-refused k q =
             let n = refusal-number k in
-            continues-both-off (unless more n) (before-used p ∙ used-off (parts es) r (end - p) u more n (put-off g k q)) (refused-then more n) (g .same) (put-unwritten g)
+            continues-both-off (unless more n) (before-used p ∙ used-off (parts es) r (end - p) m more n (put-off g k q)) (refused-then more n) (g .same) (put-unwritten g)
 
 -- Items end within their room.
 pub used-within : (es : List Entry) (r : Record) (end : ℕ) (xs : List Item) {p : ℕ} {write : Bool} {out out′ : Bytes} {m : Next} → Filling (filled (parts es) r (end - p) xs) p write out out′ m

@@ -4,12 +4,13 @@ use mathlib.Core.Bool.{Bool, false}
 use mathlib.Core.List.{List, [], _∷_, _++_, map}
 use Prim.Native.Nat.{ℕ, zero, suc, _-_}
 use Rattle.rules.specs.Lists.{run, join}
-use Rattle.rules.specs.Table.{Part}
+use Rattle.rules.specs.Table.{Part, Field}
 use Rattle.rules.specs.Record.{Record}
 use Rattle.rules.specs.Format.{Range}
-use Rattle.rules.specs.Use.{Item, blanks-item, text-item, group-count, value-count, value-item, Asked, over, value-items}
+use Rattle.rules.specs.Use.{Item, blanks-item, text-item, group-count, value-count, value-item, Asked, over, items-over}
 use Rattle.rules.specs.Services.{item-bytes, filled}
-use Rattle.rules.proofs.Ranges.{occurrence-items, field-items, item-at}
+use Rattle.rules.proofs.Ranges.{field-items, item-at}
+use Rattle.reading.proofs.SpanItems.{row-items}
 
 unbare : Item → Item
 unbare (blanks-item n) = blanks-item n
@@ -52,18 +53,25 @@ unfolding run
 run-same f g h i zero = refl
 run-same f g h i (suc n) = let q = run-same f g h (suc i) n in rw (h i, q) refl
 
-rows-same : (vs : Range) (bare : Bool) (i : ℕ) (fs : List Asked) → map (map unbare) (map (field-items bare vs i) fs) ≡ map (field-items false vs i) fs
-unfolding unbare
-rows-same vs bare i [] = refl
-rows-same vs bare i (a ∷ fs) = let q = rows-same vs bare i fs in rw (map-run unbare (item-at bare a i) (vs .from) (suc (vs .upto) - vs .from), q) refl
+-- The values of a field may differ by the occurrence.
+module _ (vs : Field → ℕ → Range) (bare : Bool) where
+  fields-same : (i : ℕ) (fs : List Asked) → map (map unbare) (map (λ a. field-items bare (vs (a .field) i) i a) fs) ≡ map (λ a. field-items false (vs (a .field) i) i a) fs
+  unfolding unbare
+  fields-same i [] = refl
+  fields-same i (a ∷ fs) =
+      let r = vs (a .field) i in
+      let q = fields-same i fs in
+      rw (map-run unbare (item-at bare a i) (r .from) (suc (r .upto) - r .from), q) refl
 
-items-same : (fs : List Asked) (os vs : Range) (bare : Bool) → map unbare (value-items fs os vs bare) ≡ value-items fs os vs false
-unfolding value-items
-items-same fs os vs bare =
-    map-join unbare (over os (occurrence-items fs vs bare))
-    ∙ ap join (map-run (map unbare) (occurrence-items fs vs bare) (os .from) (suc (os .upto) - os .from)
-    ∙ run-same (λ i. map unbare (occurrence-items fs vs bare i)) (occurrence-items fs vs false) (λ i. map-join unbare (map (field-items bare vs i) fs) ∙ ap join (rows-same vs bare i fs)) (os .from) (suc (os .upto) - os .from))
+  row-same : (fs : List Asked) (i : ℕ) → map unbare (row-items fs vs bare i) ≡ row-items fs vs false i
+  row-same fs i = map-join unbare (map (λ a. field-items bare (vs (a .field) i) i a) fs) ∙ ap join (fields-same i fs)
 
-pub filled-bare : (ps : List Part) (r : Record) (room : ℕ) (fs : List Asked) (os vs : Range) (bare : Bool)
-    → filled ps r room (value-items fs os vs bare) ≡ filled ps r room (value-items fs os vs false)
-filled-bare ps r room fs os vs bare = sym (filled-same ps r (value-items fs os vs bare) room) ∙ ap (filled ps r room) (items-same fs os vs bare)
+  items-same : (fs : List Asked) (os : Range) → map unbare (items-over fs os vs bare) ≡ items-over fs os vs false
+  items-same fs os =
+      map-join unbare (over os (row-items fs vs bare))
+      ∙ ap join (map-run (map unbare) (row-items fs vs bare) (os .from) (suc (os .upto) - os .from)
+      ∙ run-same (λ i. map unbare (row-items fs vs bare i)) (row-items fs vs false) (row-same fs) (os .from) (suc (os .upto) - os .from))
+
+pub filled-bare : (ps : List Part) (r : Record) (room : ℕ) (fs : List Asked) (os : Range) (vs : Field → ℕ → Range) (bare : Bool)
+    → filled ps r room (items-over fs os vs bare) ≡ filled ps r room (items-over fs os vs false)
+filled-bare ps r room fs os vs bare = sym (filled-same ps r (items-over fs os vs bare) room) ∙ ap (filled ps r room) (items-same vs bare fs os)

@@ -8,13 +8,16 @@ use lib.Seq.{slice}
 use Rattle.rules.specs.Outcome.{Outcome, done}
 use Rattle.rules.specs.Lists.{Bytes}
 use Rattle.rules.specs.Values.{null}
-use Rattle.rules.specs.Table.{Entry, Field, parts}
-use Rattle.rules.specs.Record.{Record, group-count-at}
-use Rattle.rules.specs.Use.{Item, value-items, just}
+use Rattle.rules.specs.Table.{Entry, Field, parts, part-holding}
+use Rattle.rules.specs.Record.{Record, group-count-at, value-count-at}
+use Rattle.rules.specs.Use.{Item, items-over, value-items, just}
+use Rattle.rules.specs.Last.{resolved, counts-in, occurrences-stored}
 use Rattle.rules.specs.Services.{filled}
-use Rattle.tables.specs.Entries.{blank, is-group}
-use Rattle.format_buffer.specs.Elements.{range}
-use Rattle.uses.specs.Meant.{asked-of}
+use Rattle.tables.specs.Entries.{blank, is-group, is-multiple}
+use Rattle.tables.specs.Places.{inside-at}
+use Rattle.format_buffer.specs.Elements.{range, written-scope}
+use Rattle.uses.specs.Meant.{asked-of, Good-span}
+use Rattle.uses.specs.Scopes.{scope-at}
 use Rattle.uses.specs.declared.Span.{Span}
 use Rattle.records.specs.Paths.{Wide, Leads}
 use Rattle.records.specs.Places.{Is-record}
@@ -23,10 +26,29 @@ use Rattle.filling.specs.Filling.{Filling}
 use Rattle.filling.specs.declared.Next.{Next}
 use Rattle.tables.specs.Groups.{group-end, fields-in}
 
--- The items end and write as they are to.
+-- A span with other occurrences.
+abbrev pub with-rows : Span → ℕ → ℕ → Span
+with-rows s from upto = record {
+  first = s .first;
+  end = s .end;
+  from = from;
+  upto = upto;
+  «value_from» = s .«value_from»;
+  «value_upto» = s .«value_upto»;
+  standard = s .standard;
+  format = s .format;
+  size = s .size;
+  bare = s .bare;
+}
+
+-- The items end and write as they are to; items that depend on the record do.
 abbrev pub Fills : List Entry → Bytes → List ℕ → List Item → ℕ → ℕ → Bool → Bytes → Bytes → Next → Type 0
 Fills es b places xs at end write entry exit n =
     (r : Record) → Is-record es b places r → Filling (filled (parts es) r (end - at) xs) at write entry exit n
+
+abbrev pub Fills-by : List Entry → Bytes → List ℕ → (Record → List Item) → ℕ → ℕ → Bool → Bytes → Bytes → Next → Type 0
+Fills-by es b places xs at end write entry exit n =
+    (r : Record) → Is-record es b places r → Filling (filled (parts es) r (end - at) (xs r)) at write entry exit n
 
 -- The first n of some numbers are those of entries that are fields.
 abbrev pub Fields-numbered : List Entry → List ℕ → ℕ → Type 0
@@ -45,6 +67,30 @@ occurrences-items es s o last = value-items (asked-of es s) (range o last) (rang
 
 abbrev pub span-items : List Entry → Span → ℕ → List Item
 span-items es s o = occurrences-items es s o (s .upto)
+
+-- The items of a span from an occurrence on, by how far its values reach: each field has so many values in each occurrence.
+abbrev pub scoped-items : List Entry → Record → Span → ℕ → ℕ → List Item
+scoped-items es r s scope o =
+    items-over (asked-of es s) (range o (s .upto))
+    (λ f i. resolved (scope-at scope) (range (s .«value_from») (s .«value_upto»)) (value-count-at (parts es) r (f .name) i)) false
+
+-- Only of one MU field at a format and a length do values reach to the last.
+abbrev pub Scoped-values : List Entry → Span → ℕ → Type 0
+Scoped-values es s scope = (scope ≡ written-scope → ⊥) → (s .standard ≡ false) × (is-multiple (getD es (s .first) blank .what) ≡ true)
+
+-- The occurrence of entry i that is meant, o or the last.
+pub record Occurrence-meant (es : List Entry) (b : Bytes) (places : List ℕ) (i o scope k : ℕ) : Type 0 where
+  pub first : 1 ≤ k
+  pub only : inside-at es i ≡ false → k ≡ 1
+  pub meant : (r : Record) → Is-record es b places r
+      → k ≡ resolved (scope-at scope) (just o) (group-count-at (parts es) r (part-holding (getD es i blank .name) (parts es))) .upto
+
+-- The occurrences that are meant, by how far they reach: the span has them, and is otherwise the one given.
+pub record Meant-span (es : List Entry) (b : Bytes) (places : List ℕ) (s : Span) (scope : ℕ) (s′ : Span) : Type 0 where
+  pub same : s′ ≡ with-rows s (s′ .from) (s′ .upto)
+  pub good : s′ .from ≤ s′ .upto → Good-span es s′
+  pub meant : (r : Record) → Is-record es b places r
+      → range (s′ .from) (s′ .upto) ≡ resolved (scope-at scope) (range (s .from) (s .upto)) (occurrences-stored (parts es) (counts-in (parts es) r) (asked-of es s))
 
 -- The way to the first entry of a span, and where that lies in a periodic group, the width of the span's fields.
 pub record Way (es : List Entry) (s : Span) (path : Path) (width : ℕ) : Type 0 where

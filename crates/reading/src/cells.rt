@@ -1,6 +1,6 @@
 // The values of one field in one occurrence: those that exist, at the format and length in effect, and nulls for the others.
 ghost use mathlib.Core.Path.{_≡_};
-ghost use mathlib.Core.List.{List, map};
+ghost use mathlib.Core.List.{List, [], map};
 ghost use mathlib.Core.Bool.{true};
 ghost use Prim.Native.Nat.{_-_, _≤_, _<_};
 ghost use lib.ListN.{length};
@@ -12,24 +12,42 @@ ghost use Rattle.reading.specs.Cells.{Cell-holds, Wants, wanted-at, conv
 ghost use Rattle.records.specs.declared.places.Cell.the-variants.{At};
 use filling::Next;
 use records::places::Cell;
+use uses::scopes::resolved_from;
+use uses::scopes::resolved_upto;
 use values::FirstValue;
 
-// What is wanted of a field: its values from first to last, which are stored at its own format and standard length, at a format and a
-// length in effect.
+// What is wanted of a field: its values from first to last, by how far they reach, which are stored at its own format and standard length,
+// at a format and a length in effect.
 pub struct Wanted {
     pub own: usize,
     pub standard: usize,
     pub multiple: bool,
     pub first: usize,
     pub last: usize,
+    pub scope: u8,
     pub format: usize,
     pub size: usize,
 }
 
-// Values that stand one after the other from a place on.
+// Those of the values wanted that exist, which stand one after the other from a place on, and how many do not exist.
 pub struct ValueRun {
     pub at: usize,
     pub count: usize,
+    pub missing: usize,
+}
+
+// Where there is no cell, and so none of the values wanted.
+fn none_of(w: Wanted) -> ValueRun
+    requires { ⌜ Wants w ⌝ }
+    ensures { λ r. ⌜ ((b : Bytes) → Exist w b [] r) ⌝ }
+{
+    let first = resolved_from(w.scope, w.first, w.last, 0);
+    let last = resolved_upto(w.scope, w.first, w.last, 0);
+    ValueRun {
+        at: 0,
+        count: 0,
+        missing: last + 1 - first,
+    }
 }
 
 // What is wanted of entry i, a field.
@@ -38,11 +56,12 @@ pub fn wanted_of(
     i: usize,
     first: usize,
     last: usize,
+    scope: u8,
     format: usize,
     size: usize,
 ) -> Wanted
     requires { ⌜ Valid (now t) × (i < length (entries-of (now t))) ⌝ }
-    ensures { λ w. ⌜ w ≡ wanted-at (entries-of (now (t .entry))) i first last format size ⌝ }
+    ensures { λ w. ⌜ w ≡ wanted-at (entries-of (now (t .entry))) i first last scope format size ⌝ }
 {
     let e = tables::entry_at(t, i);
     Wanted {
@@ -51,6 +70,7 @@ pub fn wanted_of(
         multiple: e.multiple,
         first,
         last,
+        scope,
         format,
         size,
     }
@@ -136,20 +156,28 @@ fn run_among(b: &[u8], cell: usize, w: Wanted) -> ValueRun
     ensures { λ r. ⌜ ((vs : List Bytes) → Cell-holds (now (b .entry)) (format-at (w .own)) (w .standard) true vs (At cell) → Exist w (now (b .entry)) vs r) ⌝ }
 {
     let n = records::counts::count_at(b, cell);
-    if n < w.first {
-        return ValueRun { at: 0, count: 0 };
+    let first = resolved_from(w.scope, w.first, w.last, n);
+    let last = resolved_upto(w.scope, w.first, w.last, n);
+    if n < first {
+        return ValueRun {
+            at: 0,
+            count: 0,
+            missing: last + 1 - first,
+        };
     }
     let from = records::counts::after_count(b, cell);
-    let at = records::skip::values_end(b, from, w.first - 1, w.standard);
-    if n < w.last {
+    let at = records::skip::values_end(b, from, first - 1, w.standard);
+    if n < last {
         return ValueRun {
             at,
-            count: n + 1 - w.first,
+            count: n + 1 - first,
+            missing: last - n,
         };
     }
     ValueRun {
         at,
-        count: w.last + 1 - w.first,
+        count: last + 1 - first,
+        missing: 0,
     }
 }
 
@@ -162,9 +190,17 @@ fn run_at(b: &[u8], cell: usize, w: Wanted) -> ValueRun
         return run_among(b, cell, w);
     }
     if 1 < w.first {
-        return ValueRun { at: 0, count: 0 };
+        return ValueRun {
+            at: 0,
+            count: 0,
+            missing: w.last + 1 - w.first,
+        };
     }
-    ValueRun { at: cell, count: 1 }
+    ValueRun {
+        at: cell,
+        count: 1,
+        missing: w.last - 1,
+    }
 }
 
 // The same in a cell, if there is one.
@@ -174,7 +210,7 @@ fn run_of(b: &[u8], cell: Cell, w: Wanted) -> ValueRun
 {
     match cell {
         Cell::At(p) => run_at(b, p, w),
-        Cell::Nothing => ValueRun { at: 0, count: 0 },
+        Cell::Nothing => none_of(w),
     }
 }
 
@@ -192,10 +228,9 @@ pub fn put_cell(
     ensures { λ r. ⌜ ((vs : List Bytes) → Cell-holds (now (b .entry)) (format-at (w .own)) (w .standard) (w .multiple) vs cell → Filling (together (end - at) (wanted w vs)) at write (now (out .entry)) (now (out .exit)) r) ⌝ }
 {
     let run = run_of(b, cell, w);
-    let missing = w.last + 1 - w.first - run.count;
     let next = put_run(b, run, w, out, at, end, write);
     match next {
         Next::Refused(k) => Next::Refused(k),
-        Next::At(p) => filling::put_nulls(missing, w.format, w.size, out, p, end, write),
+        Next::At(p) => filling::put_nulls(run.missing, w.format, w.size, out, p, end, write),
     }
 }

@@ -2,14 +2,14 @@
 ghost use mathlib.Core.Path.{_≡_};
 ghost use Prim.Native.Nat.{_-_, _≤_};
 ghost use lib.ListN.{length};
-ghost use Rattle.rules.specs.Use.{items-of};
 ghost use Rattle.tables.specs.Entries.{Valid, entries-of};
 ghost use Rattle.format_buffer.specs.Elements.{sound};
-ghost use Rattle.uses.specs.Meant.{Good-use, use-meant, indexes-kept};
+ghost use Rattle.uses.specs.Meant.{Good-use};
+ghost use Rattle.uses.specs.Meanings.{Good-scopes, indexes-kept};
 ghost use Rattle.records.specs.Places.{Has-record};
 ghost use Rattle.filling.specs.Filling.{Roomy};
-ghost use Rattle.reading.specs.Spans.{Fills};
-ghost use Rattle.reading.specs.Scan.{filled-upto, answer-of, element-refused, progress-after, Puts-element, Scans};
+ghost use Rattle.reading.specs.Spans.{Fills-by};
+ghost use Rattle.reading.specs.Scan.{meaning-items, filled-upto, answer-of, element-refused, progress-after, Puts-element, Scans};
 
 mod cells;
 mod spans;
@@ -20,6 +20,7 @@ use format_buffer::syntax::Step;
 use rules::Refusal;
 use uses::Meant;
 use uses::Use;
+use uses::scopes::Scopes;
 
 // Where a scan of a format stands: the items so far end at a place, or an item is refused, or an element.
 enum Progress {
@@ -28,20 +29,21 @@ enum Progress {
     ElementRefused(Refusal),
 }
 
-// What an element means.
+// What an element means, by the scopes of its indexes.
 fn put_use(
     t: &[u8],
     b: &[u8],
     places: &[u16; records::DIRECTORY],
     f: &[u8],
     u: Use,
+    scopes: Scopes,
     out: &mut [u8],
     at: usize,
     end: usize,
     write: bool,
 ) -> Next
-    requires { ⌜ Valid (now t) × Good-use (entries-of (now t)) (now f) u × Has-record (entries-of (now t)) (now b) (now places) × Roomy at end (now out) ⌝ }
-    ensures { λ r. ⌜ Fills (entries-of (now (t .entry))) (now (b .entry)) (now (places .entry)) (items-of (use-meant (entries-of (now (t .entry))) (now (f .entry)) u)) at end write (now (out .entry)) (now (out .exit)) r ⌝ }
+    requires { ⌜ Valid (now t) × Good-use (entries-of (now t)) (now f) u × Good-scopes (entries-of (now t)) u scopes × Has-record (entries-of (now t)) (now b) (now places) × Roomy at end (now out) ⌝ }
+    ensures { λ r. ⌜ Fills-by (entries-of (now (t .entry))) (now (b .entry)) (now (places .entry)) (λ x. meaning-items (entries-of (now (t .entry))) (now (f .entry)) u scopes x) at end write (now (out .entry)) (now (out .exit)) r ⌝ }
 {
     match u {
         Use::Blanks(n) => filling::put_blanks(n, out, at, end, write),
@@ -51,10 +53,17 @@ fn put_use(
             filling::put_count(count as u8, out, at, end, write)
         }
         Use::ValueCount(i, k) => {
-            let count = records::places::value_count(t, b, places, i, k);
+            let o = spans::occurrence_meant(t, b, places, i, k, scopes.occurrences);
+            let count = records::places::value_count(t, b, places, i, o);
             filling::put_count(count as u8, out, at, end, write)
         }
-        Use::Values(s) => spans::put_span(t, b, places, s, out, at, end, write),
+        Use::Values(s) => {
+            let meant = spans::occurrences_meant(t, b, places, s, scopes.occurrences);
+            if meant.upto < meant.from {
+                return Next::At(at);
+            }
+            spans::put_span(t, b, places, meant, scopes.values, out, at, end, write)
+        }
     }
 }
 
@@ -110,12 +119,26 @@ fn put_element(
     if is_element_refused(state) {
         return state;
     }
-    match uses::use_of(t, last, e) {
+    let m = uses::use_of(t, last, e);
+    let meant = m.meant;
+    match meant {
         Meant::Refused(n) => Progress::ElementRefused(n),
         Meant::As(u) => {
-            uses::remember(t, last, u);
+            let scopes = m.scopes;
+            uses::remember(t, last, u, scopes.values);
             match state {
-                Progress::At(p) => after_items(put_use(t, b, places, f, u, out, p, end, write)),
+                Progress::At(p) => after_items(put_use(
+                    t,
+                    b,
+                    places,
+                    f,
+                    u,
+                    scopes,
+                    out,
+                    p,
+                    end,
+                    write,
+                )),
                 Progress::ItemRefused(n) => Progress::ItemRefused(n),
                 Progress::ElementRefused(n) => Progress::ElementRefused(n),
             }

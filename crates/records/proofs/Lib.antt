@@ -14,6 +14,7 @@ pub mod HeadLaws
 pub mod Normals
 pub mod Directories
 pub mod Placed
+pub mod Holding
 pub mod Contents
 pub mod Skips
 pub mod Widths

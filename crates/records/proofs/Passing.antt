@@ -60,7 +60,7 @@ other-name n m (field f s mu) fs q = rw (q, member) refl
 other-name n m (group p) fs q = refl
 
 -- A periodic group that does not reach as far as entry j has no field of a name that no entry before entry j has.
-none-below : (n : ℕ) (es : List Entry) (d : Entry) (j : ℕ) → j < length es → Unnamed n es j → Clear true es d j → member n (fields-below 1 es) ≡ none
+pub none-below : (n : ℕ) (es : List Entry) (d : Entry) (j : ℕ) → j < length es → Unnamed n es j → Clear true es d j → member n (fields-below 1 es) ≡ none
 unfolding member inside-from
 none-below n [] d j l u c = absurd (not-suc-le-zero l)
 none-below n (e ∷ es) d zero l u c = by-test (ltb 1 (e .level)) (λ t. absurd (c t (stays (e .level) (e .what) t))) (λ t. rw (below-end e es t) refl)

@@ -72,7 +72,7 @@ pub cell-numbers : (es : List Entry) (i : ℕ) (bs : Bytes) → is-group (getD e
 unfolding stored-cell
 cell-numbers es i bs h = by-field (getD es i blank .what) h λ f s mu w. rw (field-is es i f s mu w, w, number-back f) refl
 
-home-deeper : (es : List Entry) (i g : ℕ) → Home es i g → Deeper es blank g i
+pub home-deeper : (es : List Entry) (i g : ℕ) → Home es i g → Deeper es blank g i
 home-deeper es i g home k p q =
     let z : suc g + (k - suc g) ≡ k = omega arith in
     let l = run-levels 1 (drop (suc g) es) (k - suc g) (omega (arith, home .within)) in
@@ -81,6 +81,13 @@ home-deeper es i g home k p q =
 -- What lies in a periodic group stands after it.
 pub home-before : (es : List Entry) (i g : ℕ) → is-periodic (getD es i blank .what) ≡ false → Home es i g → g < i
 home-before es i g what home = by-order g i (λ l. l) (λ l. let z : g ≡ i = omega (arith, home .upto) in absurd (never (rw (← z) at what) (ap is-periodic (home .periodic))))
+
+-- It lies in one alone.
+home-later : (es : List Entry) (i g h : ℕ) → Home es i g → Home es i h → h ≤ g
+home-later es i g h a b = by-order g h (λ l. absurd (omega (arith, home-deeper es i g a h l (b .upto), b .level))) (λ l. l)
+
+pub one-home : (es : List Entry) (i g h : ℕ) → Home es i g → Home es i h → g ≡ h
+one-home es i g h a b = omega (arith, home-later es i g h a b, home-later es i h g b a)
 
 pub home-end : (es : List Entry) (i g : ℕ) → Home es i g → i ≤ group-end es g
 unfolding group-end

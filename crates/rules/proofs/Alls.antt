@@ -1,4 +1,5 @@
 -- What holds of every element of lists holds of every element of what is made of them.
+use mathlib.Core.Path.{_≡_, refl, _∙_, ap}
 use mathlib.Core.List.{List, [], _∷_, _++_, map}
 use Prim.Native.Nat.{ℕ, zero, suc, _+_, _≤_, _<_}
 use native.Mathlib.Omega.{arith}
@@ -31,3 +32,7 @@ module _ {X : Type 0} (P : X → Type 0) where
 pub all-both : {X : Type 0} (P Q R : X → Type 0) → ((x : X) → P x → Q x → R x) → (xs : List X) → All P xs → All Q xs → All R xs
 all-both P Q R f [] a b = tt
 all-both P Q R f (x ∷ xs) a b = (f x (a .0) (b .0), all-both P Q R f xs (a .1) (b .1))
+
+pub map-agree : {X Y : Type 0} (f g : X → Y) (xs : List X) → All (λ x. f x ≡ g x) xs → map f xs ≡ map g xs
+map-agree f g [] a = refl
+map-agree f g (x ∷ xs) a = ap (λ y. y ∷ map f xs) (a .0) ∙ ap (_∷_ (g x)) (map-agree f g xs (a .1))

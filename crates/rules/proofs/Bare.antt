@@ -19,7 +19,7 @@ use Rattle.rules.specs.Update.{Assignment, assignments, to-field, highes
 use Rattle.rules.proofs.Steps.{from-bind, from-need, done-inj, not-done, and-left, and-right, by-test, eqb-same, true-T, T-true}
 use Rattle.rules.proofs.Alls.{all-parts}
 use Rattle.rules.proofs.Places.{counting}
-use Rattle.rules.proofs.Uses.{in-order-le, not-T-false}
+use Rattle.rules.proofs.Uses.{in-order-le, not-T-false, from-uses}
 use Rattle.rules.proofs.Ranges.{first-value-item}
 use Rattle.rules.proofs.Named.{values-named, named-append, value-and-bare, assigned-named, Bare-all, Bare-none, true-not-false, nothing-there, none-append, last-kept, last-now, asked-field, one-item, field-none, by-use}
 
@@ -55,9 +55,8 @@ module _ (es : List Entry) (n i : ℕ) (d : mu-outside (find n es) ≡ true → 
   unfolding uses items join values-named
   uses-none ls [] us p = rw (← done-inj p) tt
   uses-none ls (x ∷ xs) us p =
-      from-bind (use-of es ls x) _ p λ u h k.
-      from-bind (uses es (indexes-after u ls) xs) _ k λ vs h₂ k₂.
-      rw (← done-inj k₂) (none-append n i (items-of u) (items vs) (use-none ls x u h) (uses-none (indexes-after u ls) xs vs h₂))
+      from-uses es ls x xs us p λ u h z vs h₂ e.
+      rw (← e) (none-append n i (items-of u) (items vs) (use-none ls x u h) (uses-none (indexes-after u ls) xs vs h₂))
 
 -- What an element says of an MU field outside periodic groups: nothing bare, and its last index stays; one value above that index, by
 -- its bare name; or some value by an index.
@@ -132,9 +131,8 @@ module _ (es : List Entry) (n : ℕ) (o : mu-outside (find n es) ≡ true) where
   unfolding uses items join values-named run
   bare-onward ls [] us p = rw (← done-inj p) (λ a. refl)
   bare-onward ls (x ∷ xs) us p =
-      from-bind (use-of es ls x) _ p λ u h k.
-      from-bind (uses es (indexes-after u ls) xs) _ k λ vs h₂ k₂.
-      rw (← done-inj k₂, named-append n 1 (items-of u) (items vs))
+      from-uses es ls x xs us p λ u h z vs h₂ e.
+      rw (← e, named-append n 1 (items-of u) (items vs))
       (onward-more n ls u (values-named n 1 (items vs)) (use-says ls x u h) (bare-onward (indexes-after u ls) xs vs h₂))
 
 unbared : (cs : List (ℕ × Bool)) → Bare-none cs → Onward 0 cs

@@ -13,8 +13,8 @@ use Rattle.rules.specs.Outcome.{done}
 use Rattle.rules.specs.Lists.{Bytes, all, filter, run, join, look-up, cut, absent}
 use Rattle.rules.specs.Values.{Format, allowed, converts, converted-bytes, first-value}
 use Rattle.rules.specs.Table.{Field, What, field, group, Entry, fields-below}
-use Rattle.rules.specs.Format.{Range, Element, blanks, quoted, named, count, series}
-use Rattle.rules.specs.Use.{Item, blanks-item, text-item, group-count, value-count, value-item, Asked, Use, values, value-items, items-of, Found, find, format-in-effect, length-in-effect, asked, as-stored, in-order, just, Spread, spread, Indexes, last-index, indexes-after, plain, use-of-group, use-of-field, use-of-count, fields-to, use-of-series, use-of}
+use Rattle.rules.specs.Format.{Range, Element, blanks, quoted, named, count, count-in-last, series}
+use Rattle.rules.specs.Use.{Item, blanks-item, text-item, group-count, value-count, value-item, Asked, Use, values, value-items, items-of, Found, find, format-in-effect, length-in-effect, asked, as-stored, in-order, just, Spread, spread, Indexes, last-index, indexes-after, plain, use-of-group, use-of-field, use-of-count, fields-to, use-of-series, ranges-of, use-of}
 use Rattle.rules.specs.Update.{Assignment, assignments, to-field}
 use Rattle.rules.proofs.Steps.{from-bind, from-need, done-inj, not-done, and-left, and-right, by-test, by-option, eqb-same, true-T}
 use Rattle.rules.proofs.Back.{All}
@@ -209,10 +209,11 @@ unfolding use-of items-of values-named indexes-after
 by-use n i es ls (blanks m) u p q c = q (rw (← done-inj p) (tt, refl))
 by-use n i es ls (quoted t) u p q c = q (rw (← done-inj p) (tt, refl))
 by-use n i es ls (count m o) u p q c = from-bind (find m es) _ p λ x h k. q (count-quiet n i ls m (x .entry .what) (x .inside) o u k)
+by-use n i es ls (count-in-last m) u p q c = from-bind (find m es) _ p λ x h k. q (count-quiet n i ls m (x .entry .what) (x .inside) (some 1) u k)
 by-use n i es ls (series m o) u p q c =
     from-bind (find m es) _ p λ x h k.
     from-bind (find o es) _ k λ y h₂ k₂.
     q (series-quiet n i ls x o u k₂)
 by-use n i es ls (named m os vs l g) u p q c =
     from-bind (find m es) _ p λ x h k.
-    by-what (x .entry .what) (λ f s mu e. c m os vs l g x f s mu h e (rw e at k)) (λ b e. q (group-quiet n i ls x os vs l g u (rw e at k)))
+    by-what (x .entry .what) (λ f s mu e. c m (ranges-of os) (ranges-of vs) l g x f s mu h e (rw e at k)) (λ b e. q (group-quiet n i ls x (ranges-of os) (ranges-of vs) l g u (rw e at k)))

@@ -17,8 +17,9 @@ use Rattle.rules.specs.declared.Refusal.the-variants.{BadTable, BadRecor
 use Rattle.rules.specs.Values.{Format, alpha, binary, fixed, packed, unpacked, Value, text, number, accepted-plus, accepted-minus, sign-means, decimal, halves, meaning, normal, conversion, in-range, converts, converted, converted-bytes, allowed, first-value}
 use Rattle.rules.specs.Table.{Part, Entry, What, field, group, Field, is-inside, fields-below, table, parts}
 use Rattle.rules.specs.Record.{Record, stored, record-bytes, empty-record}
-use Rattle.rules.specs.Format.{Range, Element, blanks, quoted, named, count, series, elements}
-use Rattle.rules.specs.Use.{Item, blanks-item, text-item, group-count, value-count, value-item, Use, Found, Indexes, find-from, find, format-in-effect, length-in-effect, asked, in-order, just, spread, plain, last-index, use-of-group, use-of-field, use-of-count, fields-to, use-of-series, use-of, indexes-after, uses, items}
+use Rattle.rules.specs.Format.{Range, Element, blanks, quoted, named, count, count-in-last, series, elements}
+use Rattle.rules.specs.Use.{Item, blanks-item, text-item, group-count, value-count, value-item, Use, Found, Indexes, find-from, find, format-in-effect, length-in-effect, asked, in-order, just, spread, plain, last-index, use-of-group, use-of-field, use-of-count, fields-to, use-of-series, use-of, indexes-after, ranges-of, has-N, uses, items}
+use Rattle.rules.specs.Last.{Lasts, lasts-after, in-full, meaning-of, meanings, counts-in, items-read}
 use Rattle.rules.specs.Update.{named-twice, assignments, after-update}
 use Rattle.rules.specs.Services.{item-bytes, filled, read, assignments-of, fitting, update, empty}
 use Rattle.rules.proofs.Only.{Only, Is, only-bind, only-need, only-pick, only-option}
@@ -106,15 +107,27 @@ unfolding use-of
 use-kept es ls (blanks n) = tt
 use-kept es ls (quoted t) = tt
 use-kept es ls (count n i) = only-bind Numbered (find n es) _ (find-kept n es) (λ x. count-kept n (x .entry .what) (x .inside) i)
+use-kept es ls (count-in-last n) = only-bind Numbered (find n es) _ (find-kept n es) (λ x. count-kept n (x .entry .what) (x .inside) (some 1))
 use-kept es ls (series n m) = only-bind Numbered (find n es) _ (find-kept n es)
     (λ x. only-bind Numbered (find m es) _ (find-kept m es) (λ _. series-kept m (x .entry .name) (x .entry .level) (x .entry .what) (x .inside) (x .behind)))
-use-kept es ls (named n os vs l g) = only-bind Numbered (find n es) _ (find-kept n es) (λ x. named-kept x ls n os vs l g (x .entry .what))
+use-kept es ls (named n os vs l g) = only-bind Numbered (find n es) _ (find-kept n es) (λ x. named-kept x ls n (ranges-of os) (ranges-of vs) l g (x .entry .what))
 
 uses-kept : (es : List Entry) (ls : Indexes) (xs : List Element) → Only Numbered (uses es ls xs)
 unfolding uses
 uses-kept es ls [] = tt
 uses-kept es ls (x ∷ xs) = only-bind Numbered (use-of es ls x) _ (use-kept es ls x)
-    (λ u. only-bind Numbered (uses es (indexes-after u ls) xs) _ (uses-kept es (indexes-after u ls) xs) (λ us. tt))
+    (λ u. only-need Numbered (not (has-N x)) (UseRule, refl) _ (only-bind Numbered (uses es (indexes-after u ls) xs) _ (uses-kept es (indexes-after u ls) xs) (λ us. tt)))
+
+element-kept : (es : List Entry) (ls : Indexes) (ns : Lasts) (x : Element) → Only Numbered (meaning-of es ls ns x)
+unfolding meaning-of
+element-kept es ls ns x = only-bind Numbered (use-of es ls (in-full es ns x)) _ (use-kept es ls (in-full es ns x)) (λ u. tt)
+
+meanings-kept : (es : List Entry) (ls : Indexes) (ns : Lasts) (xs : List Element) → Only Numbered (meanings es ls ns xs)
+unfolding meanings
+meanings-kept es ls ns [] = tt
+meanings-kept es ls ns (x ∷ xs) =
+    only-bind Numbered (meaning-of es ls ns x) _ (element-kept es ls ns x)
+    (λ m. only-bind Numbered (meanings es (indexes-after (m .meant) ls) (lasts-after m ns) xs) _ (meanings-kept es (indexes-after (m .meant) ls) (lasts-after m ns) xs) (λ ms. tt))
 
 -- ---- values
 
@@ -212,7 +225,8 @@ unfolding read
 read-numbered t b f room = only-bind Numbered (table t) _ (by-one BadTable (table t) (table-only t))
     (λ es. only-bind Numbered (stored (parts es) b) _ (by-one BadRecord (stored (parts es) b) (stored-only (parts es) b))
     (λ r. only-bind Numbered (elements f) _ (by-one BadSyntax (elements f) (elements-only f))
-    (λ xs. only-bind Numbered (uses es [] xs) _ (uses-kept es [] xs) (λ us. filled-kept (parts es) r (min room longest-items) (items us)))))
+    (λ xs. only-bind Numbered (meanings es [] [] xs) _ (meanings-kept es [] [] xs)
+    (λ ms. filled-kept (parts es) r (min room longest-items) (items-read (parts es) (counts-in (parts es) r) ms)))))
 
 pub update-numbered : (t b f buffer : Bytes) (room : ℕ) → Only Numbered (update t b f buffer room)
 unfolding update

@@ -1,7 +1,6 @@
 -- Outcomes that are refused only with numbers of one kind, if at all: a `do` block keeps to the kind that its steps keep to.
 use mathlib.Core.Path.{_≡_, sym, ap}
 use mathlib.Core.Bool.{Bool, true, false}
-use mathlib.Core.List.{List, [], _∷_}
 use mathlib.Core.Option.{Option, none, some}
 use Prim.Native.Nat.{ℕ}
 use Rattle.rules.specs.Outcome.{Outcome, done, refused, _>>=_, need, refused-as, is-done}
@@ -28,15 +27,10 @@ module _ (P : ℕ → Type 0) where
   only-as p (done a) = tt
   only-as p (refused k) = p
 
-  -- By cases of a test, of a list, of an option.
+  -- By cases of a test, of an option.
   pub only-pick : {B : Type 0} (t : Bool) (x y : Outcome B) → Only P x → Only P y → Only {A = B} P (elim t [ true ↦ x | false ↦ y ])
   only-pick true x y k l = k
   only-pick false x y k l = l
-
-  pub only-list : {A B : Type 0} (xs : List A) (x : Outcome B) (g : A → List A → Outcome B) → Only P x → ((y : A) (ys : List A) → Only P (g y ys))
-      → Only {A = B} P (elim xs [ [] ↦ x | y ∷ ys ↦ g y ys ])
-  only-list [] x g k l = k
-  only-list (y ∷ ys) x g k l = l y ys
 
   pub only-option : {A B : Type 0} (o : Option A) (x : Outcome B) (g : A → Outcome B) → Only P x → ((a : A) → Only P (g a))
       → Only {A = B} P (elim o [ none ↦ x | some a ↦ g a ])

@@ -5,15 +5,15 @@ use mathlib.Core.List.{List, [], _∷_}
 use Prim.Native.Nat.{ℕ, zero, suc}
 use lib.Dec.{eqb, leb}
 use lib.ListN.{length, take, drop, getD}
-use Rattle.rules.specs.Outcome.{refused, refused-as, is-done}
+use Rattle.rules.specs.Outcome.{done, refused, _>>=_, need, refused-as, is-done}
 use Rattle.rules.specs.Limits.{most-entries, greatest-count, longest-record, longest-format, longest-blanks, longest-text, greatest-length, most-digits}
-use Rattle.rules.specs.Characters.{space, period, apostrophe, hyphen, open-parenthesis, close-parenthesis, digit, letter-C, letter-X}
+use Rattle.rules.specs.Characters.{space, period, apostrophe, hyphen, open-parenthesis, close-parenthesis, digit, letter-C, letter-N, letter-X}
 use Rattle.rules.specs.Lists.{Bytes, nothing, absent, same, all, but-last, last}
 use Rattle.rules.specs.Values.{Format, allowed, first-value, in-normal-form}
 use Rattle.rules.specs.Table.{group, format-of, is-name, name-of, what-of, entries, levels, differ, names, table, table-head, Field, Part}
 use Rattle.rules.specs.Record.{Reader, times, stored-count, counted, each, stored-value, stored-cell, stored-part, stored, record-head}
-use Rattle.rules.specs.Format.{Range, Element, blanks, quoted, named, count, series, Piece, element, length-piece, format-piece, turned, ends, texts, trim, leading-digits, number-first, closing, parenthesis, after-range, after-index, series-to, after-name, is-override, after-number, text-piece, piece, Pending, settled, completed, put-before, assembled, elements}
-use Rattle.rules.proofs.Only.{Only, Is, only-bind, only-need, only-as, only-pick, only-list, only-option, refused-by}
+use Rattle.rules.specs.Format.{Indexing, these, the-last, up-to-the-last, Element, blanks, quoted, named, count, count-in-last, series, Piece, element, length-piece, format-piece, turned, ends, texts, trim, leading-digits, number-first, index-first, range-to, range-end, closing, parenthesis, takes-parenthesis, after-range, after-index, series-to, after-name, is-override, after-number, text-piece, piece, Pending, settled, completed, put-before, assembled, elements}
+use Rattle.rules.proofs.Only.{Only, Is, only-bind, only-need, only-as, only-pick, only-option, refused-by}
 
 -- ---- a table
 
@@ -113,32 +113,54 @@ unfolding number-first
 number-only bs =
     only-need (Is 3) (leb 1 (length (leading-digits bs .0)) && leb (length (leading-digits bs .0)) most-digits) refl _ tt
 
-closing-only : (r : Range) (bs : Bytes) → Only (Is 3) (closing r bs)
+index-only : (bs : Bytes) → Only (Is 3) (index-first bs)
+unfolding index-first
+index-only [] = refl
+index-only (b ∷ bs) = only-pick (Is 3) (eqb b letter-N) _ _ tt (only-bind (Is 3) (number-first (b ∷ bs)) _ (number-only (b ∷ bs)) (λ i. tt))
+
+range-joined : (i : ℕ) (y : Indexing) (bs : Bytes) → Only {A = Indexing × Bytes} (Is 3) (elim y [
+  | these s ↦ done (these (record { from = i; upto = s .upto }), bs)
+  | the-last ↦ need (eqb i 1) 3 >>= (λ _. done (up-to-the-last, bs))
+  | up-to-the-last ↦ refused 3
+])
+range-joined i (these s) bs = tt
+range-joined i the-last bs = only-need (Is 3) (eqb i 1) refl _ tt
+range-joined i up-to-the-last bs = refl
+
+range-to-only : (x : Indexing) (bs : Bytes) → Only (Is 3) (range-to x bs)
+unfolding range-to
+range-to-only (these r) bs = only-bind (Is 3) (index-first bs) _ (index-only bs) (λ j. range-joined (r .from) (j .0) (j .1))
+range-to-only the-last bs = refl
+range-to-only up-to-the-last bs = refl
+
+range-end-only : (x : Indexing) (bs : Bytes) → Only (Is 3) (range-end x bs)
+unfolding range-end
+range-end-only x [] = tt
+range-end-only x (b ∷ bs) = only-pick (Is 3) (eqb b hyphen) _ _ (range-to-only x bs) tt
+
+closing-only : (x : Indexing) (bs : Bytes) → Only (Is 3) (closing x bs)
 unfolding closing
-closing-only r [] = refl
-closing-only r (b ∷ bs) = only-need (Is 3) (eqb b close-parenthesis && nothing bs) refl _ tt
+closing-only x [] = refl
+closing-only x (b ∷ bs) = only-need (Is 3) (eqb b close-parenthesis && nothing bs) refl _ tt
 
 parenthesis-only : (bs : Bytes) → Only (Is 3) (parenthesis bs)
 unfolding parenthesis
 parenthesis-only bs =
-    only-bind (Is 3) (number-first bs) _ (number-only bs)
-    (λ k. only-list (Is 3) (k .1) _ _ refl
-    (λ b cs. only-pick (Is 3) (eqb b hyphen) _ _ (only-bind (Is 3) (number-first cs) _ (number-only cs) (λ l. closing-only _ (l .1))) (closing-only _ (b ∷ cs))))
+    only-bind (Is 3) (index-first bs) _ (index-only bs)
+    (λ k. only-bind (Is 3) (range-end (k .0) (k .1)) _ (range-end-only (k .0) (k .1)) (λ r. closing-only (r .0) (r .1)))
 
-after-range-only : (n : ℕ) (r : Range) (bs : Bytes) → Only (Is 3) (after-range n r bs)
+after-range-only : (n : ℕ) (x : Indexing) (bs : Bytes) → Only (Is 3) (after-range n x bs)
 unfolding after-range
-after-range-only n r [] = tt
-after-range-only n r (b ∷ bs) =
-    only-need (Is 3) (eqb b open-parenthesis) refl _ (only-bind (Is 3) (parenthesis bs) _ (parenthesis-only bs) (λ v. tt))
+after-range-only n x [] = tt
+after-range-only n x (b ∷ bs) =
+    only-need (Is 3) (takes-parenthesis x && eqb b open-parenthesis) refl _ (only-bind (Is 3) (parenthesis bs) _ (parenthesis-only bs) (λ v. tt))
 
-after-index-only : (n i : ℕ) (bs : Bytes) → Only (Is 3) (after-index n i bs)
+after-index-only : (n : ℕ) (x : Indexing) (bs : Bytes) → Only (Is 3) (after-index n x bs)
 unfolding after-index
-after-index-only n i [] = tt
-after-index-only n i (b ∷ bs) =
+after-index-only n x [] = tt
+after-index-only n x (b ∷ bs) =
     only-pick (Is 3) (eqb b letter-C && nothing bs) _ _ tt
-    (only-pick (Is 3) (eqb b hyphen) _ _
-    (only-bind (Is 3) (number-first bs) _ (number-only bs) (λ j. after-range-only n _ (j .1)))
-    (after-range-only n _ (b ∷ bs)))
+    (only-bind (Is 3) (range-end x (b ∷ bs)) _ (range-end-only x (b ∷ bs)) (λ r. after-range-only n (r .0) (r .1)))
 
 series-only : (n : ℕ) (bs : Bytes) → Only (Is 3) (series-to n bs)
 unfolding series-to
@@ -152,7 +174,7 @@ after-name-only n [] = tt
 after-name-only n (b ∷ bs) =
     only-pick (Is 3) (eqb b letter-C && nothing bs) _ _ tt
     (only-pick (Is 3) (eqb b hyphen) _ _ (series-only n bs)
-    (only-bind (Is 3) (number-first (b ∷ bs)) _ (number-only (b ∷ bs)) (λ i. after-index-only n (i .0) (i .1))))
+    (only-bind (Is 3) (index-first (b ∷ bs)) _ (index-only (b ∷ bs)) (λ i. after-index-only n (i .0) (i .1))))
 
 after-number-only : (n : ℕ) (bs : Bytes) → Only (Is 3) (after-number n bs)
 unfolding after-number
@@ -182,6 +204,7 @@ completed-only (named n o v l f) p = tt
 completed-only (blanks n) p = only-need (Is 3) (settled p) refl _ tt
 completed-only (quoted t) p = only-need (Is 3) (settled p) refl _ tt
 completed-only (count n i) p = only-need (Is 3) (settled p) refl _ tt
+completed-only (count-in-last n) p = only-need (Is 3) (settled p) refl _ tt
 completed-only (series n m) p = only-need (Is 3) (settled p) refl _ tt
 
 put-only : (x : Piece) (p : Pending) → Only (Is 3) (put-before x p)

@@ -1,5 +1,6 @@
--- A run of what stands at n numbers in turn: how many there are, and what stands at each.
+-- A run of what stands at n numbers in turn: how many there are, what stands at each, and that runs of what agrees are the same.
 use mathlib.Core.Path.{_≡_, refl, _∙_, ap}
+use mathlib.Core.List.{_∷_}
 use Prim.Native.Nat.{ℕ, zero, suc, pred, _+_, _≤_, _<_}
 use native.Mathlib.Nat.{add-zero, not-suc-le-zero, le-of-suc-le-suc}
 use native.Mathlib.Omega.{arith}
@@ -26,3 +27,8 @@ module _ {A : Type 0} (g : ℕ → A) where
   pub run-past : (s n j : ℕ) (d : A) → n < j → getD (run g s n) (pred j) d ≡ d
   run-past s n zero d h = absurd (not-suc-le-zero h)
   run-past s n (suc j) d h = List·getD-eq-default (run g s n) d (rw run-length (le-of-suc-le-suc h))
+
+  pub run-agree : (h : ℕ → A) (s n : ℕ) → ((k : ℕ) → s ≤ k → k < s + n → g k ≡ h k) → run g s n ≡ run h s n
+  unfolding run
+  run-agree h s zero e = refl
+  run-agree h s (suc n) e = ap (λ x. x ∷ run g (suc s) n) (e s (omega arith) (omega arith)) ∙ ap (_∷_ (h s)) (run-agree h (suc s) n (λ k a b. e k (omega arith) (omega arith)))

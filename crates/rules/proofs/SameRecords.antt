@@ -69,7 +69,7 @@ sized-same false a b h = omega arith
 
 -- ---- the names of parts
 
-named-apart : (n m : ℕ) (ps : List Part) (q : Part) → Avoids n (part-names ps) → part-named m ps ≡ some q → n ≡ m → ⊥
+pub named-apart : (n m : ℕ) (ps : List Part) (q : Part) → Avoids n (part-names ps) → part-named m ps ≡ some q → n ≡ m → ⊥
 unfolding part-named
 named-apart n m [] q a e z = not-some e
 named-apart n m (p ∷ ps) q a e z = from-avoids n (p .name) (part-names ps) a λ d b.

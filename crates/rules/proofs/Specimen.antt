@@ -10,6 +10,7 @@ use Rattle.rules.specs.Lists.{Bytes, same, all}
 use Rattle.rules.specs.Services.{read, update}
 use Rattle.rules.specs.Characters as CharactersS
 use Rattle.rules.specs.Format as FormatS
+use Rattle.rules.specs.Last as LastS
 use Rattle.rules.specs.Lists as ListsS
 use Rattle.rules.specs.Record as RecordS
 use Rattle.rules.specs.Services as ServicesS
@@ -18,9 +19,10 @@ use Rattle.rules.specs.Update as UpdateS
 use Rattle.rules.specs.Use as UseS
 use Rattle.rules.specs.Values as ValuesS
 
--- A read by its format and room, an update by its format and record buffer, and what each gives.
+-- A read by its format and room, or by another record and its format; an update by its format and record buffer; and what each gives.
 pub data Case : Type 0 where
   reads : Bytes → ℕ → Outcome Bytes → Case
+  reads-from : Bytes → Bytes → Outcome Bytes → Case
   updates : Bytes → Bytes → Outcome Bytes → Case
 
 -- 1 AA A5; 1 AB P3; 1 MF U2 MU; 1 GB PE; 2 BA B1; 2 CB U1 MU; 1 HB PE; 2 BB B1; 2 BD A2; 1 ZV A0
@@ -113,8 +115,9 @@ same-answer (refused n) (refused m) = eqb n m
 
 -- Every definition of the rules is opened here, and with `passes` wherever that is.
 unfoldable pub passes : Case → Bool
-unfolding job-table job-record same-answer CharactersS.letter CharactersS.digit FormatS.onto FormatS.texts FormatS.skip-spaces FormatS.trim FormatS.leading-digits FormatS.number-first FormatS.closing FormatS.parenthesis FormatS.after-range FormatS.after-index FormatS.series-to FormatS.after-name FormatS.override-letters FormatS.is-override FormatS.after-number FormatS.text-piece FormatS.piece FormatS.settled FormatS.completed FormatS.put-before FormatS.assembled FormatS.elements ListsS.bytes-of ListsS.nothing ListsS.absent ListsS.same ListsS.all ListsS.any ListsS.filter ListsS.look-up ListsS.maximum ListsS.run ListsS.join ListsS.cut ListsS.spelled ListsS.digits ListsS.but-last ListsS.last RecordS.record-head RecordS.times RecordS.stored-count RecordS.counted RecordS.each RecordS.stored-value RecordS.stored-cell RecordS.stored-part RecordS.stored RecordS.count-bytes RecordS.counted-bytes RecordS.each-bytes RecordS.cell-bytes RecordS.part-bytes RecordS.body-bytes RecordS.record-bytes RecordS.cell-of RecordS.values-at RecordS.value-at RecordS.value-count-at RecordS.group-count-at RecordS.laid-cell RecordS.laid-part RecordS.laid-out RecordS.count-or-one RecordS.empty-record ServicesS.item-bytes ServicesS.filled ServicesS.read ServicesS.assignments-of ServicesS.fitting ServicesS.update ServicesS.empty TableS.table-head TableS.is-name TableS.name-of TableS.format-letters TableS.format-of TableS.what-of TableS.entries TableS.levels TableS.differ TableS.names TableS.table TableS.inside-of TableS.fields-below TableS.alone TableS.part-of TableS.parts-from TableS.parts TableS.member UpdateS.meet UpdateS.share UpdateS.name-alike UpdateS.named-twice UpdateS.assignments UpdateS.same-place UpdateS.assigned UpdateS.to-field UpdateS.to-part UpdateS.highest-occurrence UpdateS.highest-value UpdateS.bare-only UpdateS.new-value-count UpdateS.new-group-count UpdateS.new-value UpdateS.update-plan UpdateS.after-update UseS.value-items UseS.items-of UseS.items UseS.find-from UseS.find UseS.format-in-effect UseS.length-in-effect UseS.asked UseS.as-stored UseS.in-order UseS.spread UseS.last-index UseS.indexes-after UseS.plain UseS.use-of-group UseS.use-of-field UseS.use-of-count UseS.fields-to UseS.use-of-series UseS.use-of UseS.uses ValuesS.allowed ValuesS.signed ValuesS.strip ValuesS.halves ValuesS.pairs ValuesS.accepted-plus ValuesS.accepted-minus ValuesS.sign-means ValuesS.decimal ValuesS.twos-complement ValuesS.meaning ValuesS.sign-written ValuesS.zoned ValuesS.normal ValuesS.null-value ValuesS.null ValuesS.first-value ValuesS.content ValuesS.with-length-byte ValuesS.in-normal-form ValuesS.conversion ValuesS.converts ValuesS.in-range ValuesS.converted ValuesS.converted-bytes
+unfolding job-table job-record same-answer CharactersS.letter CharactersS.digit FormatS.onto FormatS.texts FormatS.skip-spaces FormatS.trim FormatS.leading-digits FormatS.number-first FormatS.index-first FormatS.range-to FormatS.range-end FormatS.closing FormatS.parenthesis FormatS.after-range FormatS.after-index FormatS.series-to FormatS.after-name FormatS.override-letters FormatS.is-override FormatS.after-number FormatS.text-piece FormatS.piece FormatS.settled FormatS.completed FormatS.put-before FormatS.assembled FormatS.elements ListsS.bytes-of ListsS.nothing ListsS.absent ListsS.same ListsS.all ListsS.any ListsS.filter ListsS.look-up ListsS.maximum ListsS.run ListsS.join ListsS.cut ListsS.spelled ListsS.digits ListsS.but-last ListsS.last RecordS.record-head RecordS.times RecordS.stored-count RecordS.counted RecordS.each RecordS.stored-value RecordS.stored-cell RecordS.stored-part RecordS.stored RecordS.count-bytes RecordS.counted-bytes RecordS.each-bytes RecordS.cell-bytes RecordS.part-bytes RecordS.body-bytes RecordS.record-bytes RecordS.cell-of RecordS.values-at RecordS.value-at RecordS.value-count-at RecordS.group-count-at RecordS.laid-cell RecordS.laid-part RecordS.laid-out RecordS.count-or-one RecordS.empty-record LastS.lies-inside LastS.scoped LastS.after-N LastS.lasts-by LastS.in-full LastS.meaning-of LastS.meanings LastS.counts-in LastS.occurrences-stored LastS.item-resolved LastS.use-resolved LastS.items-read ServicesS.item-bytes ServicesS.filled ServicesS.read ServicesS.assignments-of ServicesS.fitting ServicesS.update ServicesS.empty TableS.table-head TableS.is-name TableS.name-of TableS.format-letters TableS.format-of TableS.what-of TableS.entries TableS.levels TableS.differ TableS.names TableS.table TableS.inside-of TableS.fields-below TableS.alone TableS.part-of TableS.parts-from TableS.parts TableS.member TableS.part-holding UpdateS.meet UpdateS.share UpdateS.name-alike UpdateS.named-twice UpdateS.assignments UpdateS.same-place UpdateS.assigned UpdateS.to-field UpdateS.to-part UpdateS.highest-occurrence UpdateS.highest-value UpdateS.bare-only UpdateS.new-value-count UpdateS.new-group-count UpdateS.new-value UpdateS.update-plan UpdateS.after-update UseS.value-items UseS.items-of UseS.items UseS.find-from UseS.find UseS.format-in-effect UseS.length-in-effect UseS.asked UseS.as-stored UseS.in-order UseS.spread UseS.last-index UseS.indexes-after UseS.plain UseS.use-of-group UseS.use-of-field UseS.use-of-count UseS.fields-to UseS.use-of-series UseS.use-of UseS.uses ValuesS.allowed ValuesS.signed ValuesS.strip ValuesS.halves ValuesS.pairs ValuesS.accepted-plus ValuesS.accepted-minus ValuesS.sign-means ValuesS.decimal ValuesS.twos-complement ValuesS.meaning ValuesS.sign-written ValuesS.zoned ValuesS.normal ValuesS.null-value ValuesS.null ValuesS.first-value ValuesS.content ValuesS.with-length-byte ValuesS.in-normal-form ValuesS.conversion ValuesS.converts ValuesS.in-range ValuesS.converted ValuesS.converted-bytes
 passes (reads f room a) = same-answer (read job-table job-record f room) a
+passes (reads-from b f a) = same-answer (read job-table b f longest-items) a
 passes (updates f buffer a) = same-answer (update job-table job-record f buffer longest-new-record) a
 
 pub starred-pass : T (all passes starred)

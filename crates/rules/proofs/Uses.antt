@@ -12,8 +12,8 @@ use Rattle.rules.specs.Limits.{highest-index, most-entries}
 use Rattle.rules.specs.Lists.{Bytes, same, all, absent}
 use Rattle.rules.specs.Values.{Format}
 use Rattle.rules.specs.Table.{Field, What, field, group, Entry, differ, names, table-head, levels, entries, table, is-inside, fields-below}
-use Rattle.rules.specs.Format.{Range, Element, blanks, quoted, named, count, series}
-use Rattle.rules.specs.Use.{Use, one, values, Found, find-from, find, asked, as-stored, in-order, just, Spread, spread, Indexes, indexes-after, plain, use-of-group, use-of-field, use-of-count, fields-to, use-of-series, use-of, uses}
+use Rattle.rules.specs.Format.{Range, Element, blanks, quoted, named, count, count-in-last, series}
+use Rattle.rules.specs.Use.{Use, one, values, Found, find-from, find, asked, as-stored, in-order, just, Spread, spread, Indexes, indexes-after, plain, use-of-group, use-of-field, use-of-count, fields-to, use-of-series, use-of, ranges-of, has-N, uses}
 use Rattle.rules.proofs.Steps.{from-bind, from-need, done-inj, not-done, and-left, and-right, by-test}
 use Rattle.rules.proofs.Back.{All}
 use Rattle.rules.proofs.Places.{places-of, names-asked, Avoids, from-avoids, avoids-more, from-differ, differ-more}
@@ -92,6 +92,16 @@ find-picked before n (e ∷ es) x p =
     by-test (eqb (e .name) n)
     (λ t. rw (← done-inj (rw (t, find-from) at p)) (picked-all (names (e ∷ es))))
     (λ t. left-out (find-picked (is-inside before e) n es x (rw (t, find-from) at p)))
+
+-- By the first element of an update: it has no N.
+pub from-uses : {C : Type 0} (es : List Entry) (ls : Indexes) (x : Element) (xs : List Element) (us : List Use) → uses es ls (x ∷ xs) ≡ done us
+    → ((u : Use) → use-of es ls x ≡ done u → has-N x ≡ false → (vs : List Use) → uses es (indexes-after u ls) xs ≡ done vs → u ∷ vs ≡ us → C) → C
+unfolding uses
+from-uses es ls x xs us p c =
+    from-bind (use-of es ls x) _ p λ u h k.
+    from-need (not (has-N x)) 5 _ k λ t k₂.
+    from-bind (uses es (indexes-after u ls) xs) _ k₂ λ vs h₂ k₃.
+    c u h (not-T-false (has-N x) t) vs h₂ (done-inj k₃)
 
 -- An element names each of its occurrences once, and some for each of its fields; or it names none.
 abbrev pub Once : Use → Type 0
@@ -188,6 +198,7 @@ module _ (es : List Entry) (d : T (differ (names es))) where
   use-once ls (blanks n) u p = rw (← done-inj p) refl
   use-once ls (quoted t) u p = rw (← done-inj p) refl
   use-once ls (count n i) u p = from-bind (find n es) _ p λ x h k. count-once n (x .entry .what) (x .inside) i u k
+  use-once ls (count-in-last n) u p = from-bind (find n es) _ p λ x h k. count-once n (x .entry .what) (x .inside) (some 1) u k
   use-once ls (series n m) u p =
       from-bind (find n es) _ p λ x h k.
       from-bind (find m es) _ k λ y h₂ k₂.
@@ -195,14 +206,13 @@ module _ (es : List Entry) (d : T (differ (names es))) where
   use-once ls (named n os vs l g) u p =
       from-bind (find n es) _ p λ x h k.
       by-what (x .entry .what)
-      (λ f s m e. field-once _ (x .inside) _ os vs l g u (rw e at k))
-      (λ b e. group-once x os vs l g u (picked-differ (find-picked false n es x h) d) (rw e at k))
+      (λ f s m e. field-once _ (x .inside) _ (ranges-of os) (ranges-of vs) l g u (rw e at k))
+      (λ b e. group-once x (ranges-of os) (ranges-of vs) l g u (picked-differ (find-picked false n es x h) d) (rw e at k))
 
   -- What each element of a format means names each of its occurrences once.
   pub uses-apart : (ls : Indexes) (xs : List Element) (us : List Use) → uses es ls xs ≡ done us → Apart us
   unfolding uses
   uses-apart ls [] us p = rw (← done-inj p) tt
   uses-apart ls (x ∷ xs) us p =
-      from-bind (use-of es ls x) _ p λ u h k.
-      from-bind (uses es (indexes-after u ls) xs) _ k λ vs h₂ k₂.
-      rw (← done-inj k₂) (use-once ls x u h, uses-apart (indexes-after u ls) xs vs h₂)
+      from-uses es ls x xs us p λ u h z vs h₂ e.
+      rw (← e) (use-once ls x u h, uses-apart (indexes-after u ls) xs vs h₂)

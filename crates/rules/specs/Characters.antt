@@ -24,7 +24,7 @@ close-parenthesis = 0x5D
 abbrev pub apostrophe : ℕ
 apostrophe = 0x7D
 
--- The letters that stand for something: formats, counts (C), blanks (X) and the E that begins no name with a digit.
+-- The letters that stand for something: formats, counts (C), the last (N), blanks (X) and the E that begins no name with a digit.
 abbrev pub letter-A : ℕ
 letter-A = 0xC1
 
@@ -42,6 +42,9 @@ letter-F = 0xC6
 
 abbrev pub letter-G : ℕ
 letter-G = 0xC7
+
+abbrev pub letter-N : ℕ
+letter-N = 0xD5
 
 abbrev pub letter-P : ℕ
 letter-P = 0xD7

@@ -1,13 +1,13 @@
--- Document 01, "The format buffer", to "Anything else is bad syntax". Every refusal here is 3.
+-- Document 01, "The format buffer", to "Anything else is bad syntax", and the forms with N of document 02, M-100. Every refusal here is 3.
 use mathlib.Core.Bool.{Bool, true, false, not, _&&_, _||_}
-use mathlib.Core.List.{List, [], _∷_, _++_}
+use mathlib.Core.List.{List, [], _∷_}
 use mathlib.Core.Option.{Option, none, some}
 use Prim.Native.Nat.{ℕ, _-_}
 use lib.Dec.{eqb, leb}
 use lib.ListN.{length}
 use Rattle.rules.specs.Outcome.{Outcome, done, refused, _>>=_, need}
 use Rattle.rules.specs.Limits.{longest-format, longest-blanks, longest-text, greatest-length, most-digits}
-use Rattle.rules.specs.Characters.{space, period, comma, apostrophe, hyphen, open-parenthesis, close-parenthesis, digit, digit-0, letter-A, letter-B, letter-C, letter-F, letter-G, letter-P, letter-U, letter-W, letter-X}
+use Rattle.rules.specs.Characters.{space, period, comma, apostrophe, hyphen, open-parenthesis, close-parenthesis, digit, digit-0, letter-A, letter-B, letter-C, letter-F, letter-G, letter-N, letter-P, letter-U, letter-W, letter-X}
 use Rattle.rules.specs.Lists.{Bytes, nothing, absent, all, any, spelled, but-last, last}
 use Rattle.rules.specs.Values.{strip}
 use Rattle.rules.specs.Table.{is-name, name-of}
@@ -17,12 +17,20 @@ pub record Range : Type 0 where
   pub from : ℕ
   pub upto : ℕ
 
+-- The indexes of a name: `i-j`; by M-100 also `N`, the last one that is stored, or `1-N`, all of them.
+pub data Indexing : Type 0 where
+  these : Range → Indexing
+  the-last : Indexing
+  up-to-the-last : Indexing
+
 -- The four kinds of element, counts apart. A name has its occurrences, its values in parentheses, its length and its format, if any.
+-- `NC` of M-100 is the count in the last occurrence.
 pub data Element : Type 0 where
   blanks : ℕ → Element
   quoted : Bytes → Element
-  named : ℕ → Option Range → Option Range → Option ℕ → Option ℕ → Element
+  named : ℕ → Option Indexing → Option Indexing → Option ℕ → Option ℕ → Element
   count : ℕ → Option ℕ → Element
+  count-in-last : ℕ → Element
   series : ℕ → ℕ → Element
 
 -- What stands between two commas: an element, or the length or the format of the element before it.
@@ -74,44 +82,72 @@ number-first bs = let r = leading-digits bs in do
   _ ← need (leb 1 (length (r .0)) && leb (length (r .0)) most-digits) 3
   done (spelled 10 (r .0) 0, r .1)
 
--- `)` and nothing more.
-unfoldable pub closing : Range → Bytes → Outcome Range
-closing r [] = refused 3
-closing r (b ∷ bs) = do
-  _ ← need (eqb b close-parenthesis && nothing bs) 3
-  done r
+-- `i`, or by M-100 `N`; and what is after it.
+unfoldable pub index-first : Bytes → Outcome (Indexing × Bytes)
+index-first [] = refused 3
+index-first (b ∷ bs) = elim (eqb b letter-N) [
+  | true ↦ done (the-last, bs)
+  | false ↦ number-first (b ∷ bs) >>= (λ i. done (these (record { from = i .0; upto = i .0 }), i .1))
+]
 
--- After `(`: `k)` or `k-l)`.
-unfoldable pub parenthesis : Bytes → Outcome Range
-parenthesis bs = do
-  k ← number-first bs
-  elim (k .1) [
-    | [] ↦ refused 3
-    | b ∷ cs ↦ elim (eqb b hyphen) [
-      | true ↦ number-first cs >>= (λ l. closing (record { from = k .0; upto = l .0 }) (l .1))
-      | false ↦ closing (record { from = k .0; upto = k .0 }) (b ∷ cs)
-    ]
+-- After `i-`: `j`; by M-100 also `N` where i is 1. `N-` begins nothing.
+unfoldable pub range-to : Indexing → Bytes → Outcome (Indexing × Bytes)
+range-to the-last bs = refused 3
+range-to up-to-the-last bs = refused 3
+range-to (these r) bs = do
+  j ← index-first bs
+  elim (j .0) [
+    | these s ↦ done (these (record { from = r .from; upto = s .upto }), j .1)
+    | the-last ↦ need (eqb (r .from) 1) 3 >>= (λ _. done (up-to-the-last, j .1))
+    | up-to-the-last ↦ refused 3
   ]
 
--- After a name and `i` or `i-j`: nothing, or `(k)` or `(k-l)`.
-unfoldable pub after-range : ℕ → Range → Bytes → Outcome Element
-after-range n r [] = done (named n (some r) none none none)
-after-range n r (b ∷ bs) = do
-  _ ← need (eqb b open-parenthesis) 3
-  v ← parenthesis bs
-  done (named n (some r) (some v) none none)
+-- An index, or where a hyphen is after it, a range.
+unfoldable pub range-end : Indexing → Bytes → Outcome (Indexing × Bytes)
+range-end x [] = done (x, [])
+range-end x (b ∷ bs) = elim (eqb b hyphen) [ true ↦ range-to x bs | false ↦ done (x, b ∷ bs) ]
 
--- After a name and `i`: nothing, `C`, `-j`, or a parenthesis.
-unfoldable pub after-index : ℕ → ℕ → Bytes → Outcome Element
-after-index n i [] = done (named n (some (record { from = i; upto = i })) none none none)
-after-index n i (b ∷ bs) =
-    elim (eqb b letter-C && nothing bs) [
-      | true ↦ done (count n (some i))
-      | false ↦ elim (eqb b hyphen) [
-        | true ↦ number-first bs >>= (λ j. after-range n (record { from = i; upto = j .0 }) (j .1))
-        | false ↦ after-range n (record { from = i; upto = i }) (b ∷ bs)
-      ]
-    ]
+-- `)` and nothing more.
+unfoldable pub closing : Indexing → Bytes → Outcome Indexing
+closing x [] = refused 3
+closing x (b ∷ bs) = do
+  _ ← need (eqb b close-parenthesis && nothing bs) 3
+  done x
+
+-- After `(`: `k)` or `k-l)`; by M-100 also `N)` or `1-N)`.
+unfoldable pub parenthesis : Bytes → Outcome Indexing
+parenthesis bs = do
+  k ← index-first bs
+  r ← range-end (k .0) (k .1)
+  closing (r .0) (r .1)
+
+-- "`1-N` for the occurrence with parentheses is 3"
+abbrev pub takes-parenthesis : Indexing → Bool
+takes-parenthesis (these r) = true
+takes-parenthesis the-last = true
+takes-parenthesis up-to-the-last = false
+
+-- After a name and `i` or `i-j`, `N` or `1-N`: nothing, or a parenthesis.
+unfoldable pub after-range : ℕ → Indexing → Bytes → Outcome Element
+after-range n x [] = done (named n (some x) none none none)
+after-range n x (b ∷ bs) = do
+  _ ← need (takes-parenthesis x && eqb b open-parenthesis) 3
+  v ← parenthesis bs
+  done (named n (some x) (some v) none none)
+
+-- `iC`, or by M-100 `NC`.
+abbrev pub indexed-count : ℕ → Indexing → Element
+indexed-count n (these r) = count n (some (r .from))
+indexed-count n the-last = count-in-last n
+indexed-count n up-to-the-last = count-in-last n
+
+-- After a name and `i` or `N`: nothing, `C`, `-j`, or a parenthesis.
+unfoldable pub after-index : ℕ → Indexing → Bytes → Outcome Element
+after-index n x [] = done (named n (some x) none none none)
+after-index n x (b ∷ bs) = elim (eqb b letter-C && nothing bs) [
+  | true ↦ done (indexed-count n x)
+  | false ↦ range-end x (b ∷ bs) >>= (λ r. after-range n (r .0) (r .1))
+]
 
 -- After `name-`: a name and nothing more.
 unfoldable pub series-to : ℕ → Bytes → Outcome Element
@@ -128,7 +164,7 @@ after-name n (b ∷ bs) =
     elim (eqb b letter-C && nothing bs) [
       | true ↦ done (count n none)
       | false ↦
-          elim (eqb b hyphen) [ true ↦ series-to n bs | false ↦ number-first (b ∷ bs) >>= (λ i. after-index n (i .0) (i .1)) ]
+          elim (eqb b hyphen) [ true ↦ series-to n bs | false ↦ index-first (b ∷ bs) >>= (λ i. after-index n (i .0) (i .1)) ]
     ]
 
 -- "format (A, B, F, G, P, U or W)"
@@ -188,6 +224,7 @@ completed (named n o v l f) p = done (named n o v (p .size) (p .format))
 completed (blanks n) p = need (settled p) 3 >>= λ _. done (blanks n)
 completed (quoted t) p = need (settled p) 3 >>= λ _. done (quoted t)
 completed (count n i) p = need (settled p) 3 >>= λ _. done (count n i)
+completed (count-in-last n) p = need (settled p) 3 >>= λ _. done (count-in-last n)
 completed (series n m) p = need (settled p) 3 >>= λ _. done (series n m)
 
 -- A piece before what stands after it: an element, a length before a format or alone, a format.

@@ -8,5 +8,6 @@ pub mod Table
 pub mod Record
 pub mod Format
 pub mod Use
+pub mod Last
 pub mod Update
 pub mod Services

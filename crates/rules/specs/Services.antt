@@ -4,7 +4,7 @@ use mathlib.Core.List.{List, [], _∷_, _++_}
 use Prim.Native.Nat.{ℕ, _-_, min}
 use lib.Dec.{leb}
 use lib.ListN.{length, take, replicate}
-use Rattle.rules.specs.Outcome.{Outcome, done, refused, _>>=_, need}
+use Rattle.rules.specs.Outcome.{Outcome, done, _>>=_, need}
 use Rattle.rules.specs.Limits.{longest-items, longest-new-record}
 use Rattle.rules.specs.Characters.{space}
 use Rattle.rules.specs.Lists.{Bytes}
@@ -12,7 +12,8 @@ use Rattle.rules.specs.Values.{content, converted-bytes}
 use Rattle.rules.specs.Table.{Part, Entry, table, parts}
 use Rattle.rules.specs.Record.{Record, stored, record-bytes, value-at, value-count-at, group-count-at, empty-record}
 use Rattle.rules.specs.Format.{elements}
-use Rattle.rules.specs.Use.{Item, blanks-item, text-item, group-count, value-count, value-item, Use, items, uses}
+use Rattle.rules.specs.Use.{Item, blanks-item, text-item, group-count, value-count, value-item, items, uses}
+use Rattle.rules.specs.Last.{counts-in, meanings, items-read}
 use Rattle.rules.specs.Update.{Assignment, named-twice, assignments, after-update}
 
 -- "Read: each occurrence in order, in normal form at the length and format in effect; one that doesn't exist reads as null, its count as 0."
@@ -39,8 +40,8 @@ read t b f room = do
   es ← table t
   r ← stored (parts es) b
   xs ← elements f
-  us ← uses es [] xs
-  filled (parts es) r (min room longest-items) (items us)
+  ms ← meanings es [] [] xs
+  filled (parts es) r (min room longest-items) (items-read (parts es) (counts-in (parts es) r) ms)
 
 -- What an update assigns, by its table, format and record buffer alone: 3; 4 before 5; 6; then items left to right.
 unfoldable pub assignments-of : List Entry → Bytes → Bytes → Outcome (List Assignment)

@@ -1,6 +1,6 @@
 -- Document 01, "The field definition table". Every refusal here is 1.
 use mathlib.Core.Bool.{Bool, true, false, not, _&&_, _||_}
-use mathlib.Core.List.{List, [], _∷_, _++_, map}
+use mathlib.Core.List.{List, [], _∷_, map}
 use mathlib.Core.Option.{Option, none, some}
 use Prim.Native.Nat.{ℕ, zero, suc, _+_, _*_}
 use lib.Dec.{eqb, leb, ltb}
@@ -151,3 +151,8 @@ member n (f ∷ fs) = elim (eqb (f .name) n) [ true ↦ some f | false ↦ membe
 unfoldable pub part-named : ℕ → List Part → Option Part
 part-named n [] = none
 part-named n (p ∷ ps) = elim (eqb (p .name) n) [ true ↦ some p | false ↦ part-named n ps ]
+
+-- The name of the part in which the field n stands.
+unfoldable pub part-holding : ℕ → List Part → ℕ
+part-holding n [] = 0
+part-holding n (p ∷ ps) = elim (member n (p .members)) [ some f ↦ p .name | none ↦ part-holding n ps ]

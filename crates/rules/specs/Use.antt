@@ -1,6 +1,6 @@
 -- Document 01, "Use rules": what each element means by the table, and the items that it stands for. A name not in the table is 4, a
 -- use rule broken is 5.
-use mathlib.Core.Bool.{Bool, true, false, not, _&&_}
+use mathlib.Core.Bool.{Bool, true, false, not, _&&_, _||_}
 use mathlib.Core.List.{List, [], _∷_, _++_, map}
 use mathlib.Core.Option.{Option, none, some}
 use Prim.Native.Nat.{ℕ, suc, _-_}
@@ -10,7 +10,7 @@ use Rattle.rules.specs.Limits.{highest-index}
 use Rattle.rules.specs.Lists.{Bytes, absent, all, filter, run, join, look-up}
 use Rattle.rules.specs.Values.{Format, allowed, converts}
 use Rattle.rules.specs.Table.{Field, What, field, group, Entry, format-of, is-inside, fields-below}
-use Rattle.rules.specs.Format.{Range, Element, blanks, quoted, named, count, series}
+use Rattle.rules.specs.Format.{Range, Indexing, these, the-last, up-to-the-last, Element, blanks, quoted, named, count, count-in-last, series}
 
 -- "An occurrence .. is one value of one field": value `value` of `field` in occurrence `occurrence` of its periodic group, else 1.
 pub record Place : Type 0 where
@@ -41,10 +41,13 @@ pub data Use : Type 0 where
 abbrev pub over : {X : Type 0} → Range → (ℕ → X) → List X
 over r f = run f (r .from) (suc (r .upto) - r .from)
 
--- "Range order: occurrences outermost, then the group's fields in table order, then values."
-unfoldable pub value-items : List Asked → Range → Range → Bool → List Item
-value-items fs os vs bare = join (over os (λ i. join (map (λ a. over vs (λ k.
+-- "Range order: occurrences outermost, then the group's fields in table order, then values." The values may differ by field and occurrence.
+abbrev pub items-over : List Asked → Range → (Field → ℕ → Range) → Bool → List Item
+items-over fs os vs bare = join (over os (λ i. join (map (λ a. over (vs (a .field) i) (λ k.
     value-item (record { field = a .field; occurrence = i; value = k }) (a .format) (a .size) bare)) fs)))
+
+unfoldable pub value-items : List Asked → Range → Range → Bool → List Item
+value-items fs os vs bare = items-over fs os (λ f i. vs) bare
 
 unfoldable pub items-of : Use → List Item
 items-of (one x) = x ∷ []
@@ -96,6 +99,16 @@ in-order r = leb 1 (r .from) && leb (r .from) (r .upto) && leb (r .upto) highest
 
 abbrev pub just : ℕ → Range
 just i = record { from = i; upto = i }
+
+-- The use rules take N, and `1-N`, as they take 1.
+abbrev pub range-of : Indexing → Range
+range-of (these r) = r
+range-of the-last = just 1
+range-of up-to-the-last = just 1
+
+abbrev pub ranges-of : Option Indexing → Option Range
+ranges-of none = none
+ranges-of (some x) = some (range-of x)
 
 -- The occurrences and the values that an element means, and whether the bare name of an MU field means them.
 pub record Spread : Type 0 where
@@ -196,6 +209,9 @@ use-of es ls (quoted t) = done (one (text-item t))
 use-of es ls (count n i) = do
   x ← find n es
   use-of-count n (x .entry .what) (x .inside) i
+use-of es ls (count-in-last n) = do
+  x ← find n es
+  use-of-count n (x .entry .what) (x .inside) (some 1)
 use-of es ls (series n m) = do
   x ← find n es
   _ ← find m es
@@ -203,14 +219,31 @@ use-of es ls (series n m) = do
 use-of es ls (named n os vs l g) = do
   x ← find n es
   elim (x .entry .what) [
-    | group p ↦ use-of-group x os vs l g
-    | field f s mu ↦ use-of-field (record { name = n; format = f; size = s; multiple = mu }) (x .inside) (last-index n ls) os vs l g
+    | group p ↦ use-of-group x (ranges-of os) (ranges-of vs) l g
+    | field f s mu ↦
+        use-of-field (record { name = n; format = f; size = s; multiple = mu }) (x .inside) (last-index n ls) (ranges-of os) (ranges-of vs) l g
   ]
 
--- "elements left to right, 4 before 5"
+-- Whether an element has N in it.
+abbrev pub is-N : Option Indexing → Bool
+is-N none = false
+is-N (some (these r)) = false
+is-N (some the-last) = true
+is-N (some up-to-the-last) = true
+
+abbrev pub has-N : Element → Bool
+has-N (blanks n) = false
+has-N (quoted t) = false
+has-N (named n os vs l g) = is-N os || is-N vs
+has-N (count n i) = false
+has-N (count-in-last n) = true
+has-N (series n m) = false
+
+-- What the elements of an update mean: "elements left to right, 4 before 5". "N in an update is 5"; reads go by `Last`.
 unfoldable pub uses : List Entry → Indexes → List Element → Outcome (List Use)
 uses es ls [] = done []
 uses es ls (x ∷ xs) = do
   u ← use-of es ls x
+  _ ← need (not (has-N x)) 5
   us ← uses es (indexes-after u ls) xs
   done (u ∷ us)

@@ -1,6 +1,6 @@
--- The way from an entry back to its entry of level 1: what holds at each step of it, and at its end.
+-- The way from an entry back to its entry of level 1: what holds at each step of it, and at its end; by it what lies in a periodic group has one.
 use mathlib.Core.Path.{_≡_, refl, sym, _∙_}
-use mathlib.Core.Bool.{true, false}
+use mathlib.Core.Bool.{true, false, false≢true}
 use mathlib.Core.List.{List}
 use Prim.Native.Nat.{ℕ, zero, suc, _+_, _-_, _≤_, _<_}
 use native.Mathlib.Nat.{not-suc-le-zero}
@@ -8,12 +8,14 @@ use native.Mathlib.Numerals.{add-one}
 use native.Mathlib.Omega.{arith}
 use lib.ListN.{length, getD, drop}
 use Rattle.rules.specs.Table.{Entry, levels, group}
+use Rattle.rules.proofs.Steps.{by-test}
+use Rattle.buffer.proofs.Cases.{by-order}
 use Rattle.tables.specs.Entries.{blank, is-periodic}
 use Rattle.tables.specs.Places.{inside-at, Home}
 use Rattle.tables.specs.Groups.{run-below}
 use Rattle.tables.proofs.EntryBytes.{Sound}
 use Rattle.tables.proofs.Periodic.{inside-up, inside-one}
-use Rattle.tables.proofs.Nesting.{run-more, periodic-what, first-level}
+use Rattle.tables.proofs.Nesting.{run-more, periodic-what, level-range, first-level}
 
 pub record Climb (es : List Entry) (i j : ℕ) : Type 0 where
   pub upto : j ≤ i
@@ -51,3 +53,22 @@ climb-none es i j c l p = sym (c .inside) ∙ inside-one es j (omega arith) ∙ 
 pub not-first : (es : List Entry) → levels (group false) 0 es ≡ true → (j : ℕ) → (getD es j blank .level ≡ 1 → ⊥) → 1 ≤ j
 not-first es v zero h = absurd (h (first-level es v))
 not-first es v (suc j) h = omega arith
+
+-- the periodic group in which an entry lies
+module _ (es : List Entry) (v : levels (group false) 0 es ≡ true) (sound : (k : ℕ) → k < length es → Sound (getD es k blank .level) (getD es k blank .what))
+    (i : ℕ) (less : i < length es) (inside : inside-at es i ≡ true) where
+  ends : (j : ℕ) → Climb es i j → getD es j blank .level ≡ 1 → (g : ℕ) × Home es i g
+  ends j c l = by-test (is-periodic (getD es j blank .what))
+      (λ p. (j, climb-home es i j c l p))
+      (λ p. absurd (false≢true (sym (climb-none es i j c l p) ∙ inside)))
+
+  climbs : (j : ℕ) → Climb es i j → (g : ℕ) × Home es i g
+  climbs zero c = ends zero c (first-level es v)
+  climbs (suc j) c =
+      let h : suc j < length es = omega (arith, c .upto) in
+      by-order 1 (getD es (suc j) blank .level)
+      (λ deep. climbs j (up es i j h deep (sound (suc j) h) c))
+      (λ top. ends (suc j) c (omega (arith, level-range es v (suc j) h .0)))
+
+  pub homed : (g : ℕ) × Home es i g
+  homed = climbs i (climb-start es i)

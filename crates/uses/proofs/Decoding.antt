@@ -1,6 +1,6 @@
 -- A format decoded one element at a time: what is left of it, from where it stands, says what the whole format does.
 use mathlib.Core.Path.{_≡_, refl, sym, ap, subst, _∙_}
-use mathlib.Core.Bool.{true, false}
+use mathlib.Core.Bool.{true, false, not, _||_}
 use mathlib.Core.List.{List, [], _∷_, _++_}
 use Prim.Native.Nat.{ℕ, _+_, _*_, _≤_, _<_}
 use native.Mathlib.Omega.{arith}
@@ -14,32 +14,35 @@ use Rattle.rules.specs.Lists.{Bytes, run}
 use Rattle.rules.specs.Numbers.{refusal-number}
 use Rattle.rules.specs.Table.{Entry}
 use Rattle.rules.specs.Format as rules
-use Rattle.rules.specs.Use.{Use as Meaning, Indexes, indexes-after, use-of, uses}
+use Rattle.rules.specs.Use.{Use as Used, Indexes, indexes-after, use-of, uses, has-N}
+use Rattle.rules.specs.Last.{Meaning as Told, scoped, is-last, meaning-of}
 use Rattle.rules.specs.declared.Refusal.{Refusal}
-use Rattle.rules.specs.declared.Refusal.the-variants.{BadSyntax}
-use Rattle.format_buffer.specs.Elements.{element-of}
+use Rattle.rules.specs.declared.Refusal.the-variants.{BadSyntax, UseRule}
+use Rattle.rules.proofs.Steps.{from-bind, by-outcome, done-inj, refused-inj, not-done}
+use Rattle.rules.proofs.Lasts.{no-N-yet, lasts-plain, in-full-plain, scoped-meant, scopes-told}
+use Rattle.format_buffer.specs.Elements.{element-of, sound}
 use Rattle.format_buffer.specs.Syntax.{parsed, elements-behind, element-before, Stepped}
 use Rattle.format_buffer.specs.declared.Element.{Element}
 use Rattle.format_buffer.specs.declared.syntax.Step.{Step}
 use Rattle.format_buffer.specs.declared.syntax.Step.the-variants as step
 use Rattle.format_buffer.proofs.StepLaws.{elements-parsed, elements-long, behind-last, behind-more}
-use Rattle.uses.specs.Meant.{use-meant, Means, indexes-kept, Remembers, Remembered, uses-of}
+use Rattle.uses.specs.Meant.{use-meant, Good-use, uses-of}
+use Rattle.uses.specs.Scopes.{scope-at, is-written}
+use Rattle.uses.specs.Meanings.{meaning-meant, Means, indexes-kept, Remembers, Remembered}
 use Rattle.uses.specs.Kept.{numbers, uses-kept, Good-uses, Decodes}
 use Rattle.uses.specs.Decoding.{uses-so-far, uses-left, Keeps-element}
 use Rattle.uses.specs.declared.Use.{Use}
-use Rattle.uses.specs.declared.Meant.{Meant}
 use Rattle.uses.specs.declared.Meant.the-variants as meant
+use Rattle.uses.specs.declared.scopes.Meaning.{Meaning}
 use Rattle.uses.specs.declared.kept.Decoded.{Decoded}
 use Rattle.uses.specs.declared.kept.Decoded.the-variants.{Uses, Refused}
-use Rattle.uses.proofs.Remembering.{no-index, zeros}
+use Rattle.uses.proofs.Scoping.{written-told, values-written}
+use Rattle.uses.proofs.Remembering.{none-remembered, plain-remembered}
 use Rattle.uses.proofs.Numbers.{uses-more, good-more}
 
 -- An answer that is matched is one of its variants.
 pub step-as : {f : Bytes} {at : ℕ} {o : Outcome (List rules.Element)} {r s : Step} → r ≡ s → Stepped f at o r → Stepped f at o s
 step-as {f} {at} {o} e h = subst (Stepped f at o) e h
-
-pub means-as : {es : List Entry} {last : List ℕ} {x : Element} {r s : Meant} → r ≡ s → Means es last x r → Means es last x s
-means-as {es} {last} {x} e h = subst (Means es last x) e h
 
 -- Lists joined: after one more, and with none.
 snoc-joined : {A : Type 0} (ks : List A) (u : A) (us : List A) → (ks ++ (u ∷ [])) ++ us ≡ ks ++ (u ∷ us)
@@ -50,28 +53,51 @@ none-joined : {A : Type 0} (ks : List A) → ks ++ [] ≡ ks
 none-joined [] = refl
 none-joined (k ∷ ks) = ap (λ ys. k ∷ ys) (none-joined ks)
 
-joined : (u : Meaning) (ks : List Meaning) {ks′ : List Meaning} → ks′ ≡ ks ++ (u ∷ []) → (o : Outcome (List Meaning))
+joined : (u : Used) (ks : List Used) {ks′ : List Used} → ks′ ≡ ks ++ (u ∷ []) → (o : Outcome (List Used))
     → (o >>= (λ us. done (u ∷ us)) >>= λ us. done (ks ++ us)) ≡ (o >>= λ us. done (ks′ ++ us))
 joined u ks e (done us) = ap done (sym (ap (λ ys. ys ++ us) e ∙ snoc-joined ks u us))
 joined u ks e (refused k) = refl
 
 -- The uses of an element before some more.
 module _ (es : List Entry) (ls : Indexes) (x : rules.Element) where
-  first-done : (xs : List rules.Element) (u : Meaning) → done u ≡ use-of es ls x
+  first-done : (xs : List rules.Element) (u : Used) → use-of es ls x ≡ done u → has-N x ≡ false
       → uses es ls (x ∷ xs) ≡ (uses es (indexes-after u ls) xs >>= λ us. done (u ∷ us))
   unfolding uses
-  first-done xs u e = rw (← e) refl
+  first-done xs u e q = rw (e, q) refl
 
-  pub first-refused : (xs : List rules.Element) (n : ℕ) → refused n ≡ use-of es ls x → uses es ls (x ∷ xs) ≡ refused n
+  first-refused : (xs : List rules.Element) (n : ℕ) → use-of es ls x ≡ refused n → uses es ls (x ∷ xs) ≡ refused n
   unfolding uses
-  first-refused xs n e = rw (← e) refl
+  first-refused xs n e = rw e refl
 
-  pub before-done : (o : Outcome (List rules.Element)) (u : Meaning) → done u ≡ use-of es ls x
+  first-last : (xs : List rules.Element) (u : Used) → use-of es ls x ≡ done u → has-N x ≡ true → uses es ls (x ∷ xs) ≡ refused (refusal-number UseRule)
+  unfolding uses
+  first-last xs u e q = rw (e, q) refl
+
+  before-done : (o : Outcome (List rules.Element)) (u : Used) → use-of es ls x ≡ done u → has-N x ≡ false
       → (element-before x o >>= uses es ls) ≡ (o >>= uses es (indexes-after u ls) >>= λ us. done (u ∷ us))
-  before-done (done xs) u e = first-done xs u e
-  before-done (refused k) u e = refl
+  before-done (done xs) u e q = first-done xs u e q
+  before-done (refused k) u e q = refl
 
-pub no-uses : (es : List Entry) (ls : Indexes) → uses es ls [] ≡ done []
+  -- What an element means in a read that has no N before it, seen as its use in an update.
+  meaning-plain : meaning-of es ls [] x ≡ (use-of es ls x >>= λ u. done (scoped es x u))
+  unfolding meaning-of
+  meaning-plain = rw (in-full-plain es [] no-N-yet x) refl
+
+  use-done : (m : Told) → done m ≡ meaning-of es ls [] x → (use-of es ls x ≡ done (m .meant)) × (has-N x ≡ (is-last (m .occurrences) || is-last (m .values)))
+  use-done m p =
+      from-bind (use-of es ls x) _ (sym (p ∙ meaning-plain)) λ u h k.
+      let q : scoped es x u ≡ m = done-inj k in (
+        h ∙ ap done (sym (scoped-meant es x u) ∙ ap (λ (y : Told). y .meant) q),
+        sym (scopes-told es ls x u h) ∙ ap (λ (y : Told). is-last (y .occurrences) || is-last (y .values)) q,
+      )
+
+  use-refused : (n : ℕ) → refused n ≡ meaning-of es ls [] x → use-of es ls x ≡ refused n
+  use-refused n p =
+      by-outcome (use-of es ls x)
+      (λ u h. absurd (not-done (p ∙ meaning-plain ∙ ap (λ o. o >>= λ u. done (scoped es x u)) h)))
+      (λ k h. let q : _≡_ {A = Outcome Told} (refused n) (refused k) = p ∙ meaning-plain ∙ ap (λ o. o >>= λ u. done (scoped es x u)) h in h ∙ ap refused (refused-inj (sym q)))
+
+no-uses : (es : List Entry) (ls : Indexes) → uses es ls [] ≡ done []
 unfolding uses
 no-uses es ls = refl
 
@@ -82,17 +108,17 @@ module _ (es : List Entry) (f : Bytes) (ls : Indexes) (x : rules.Element) (kept 
   left-passed n (done xs) = refl
   left-passed n (refused k) = refl
 
-  left-refused : (n : ℕ) (y : Refusal) → refused (refusal-number y) ≡ use-of es ls x → (xs : Outcome (List rules.Element))
+  left-refused : (n : ℕ) (y : Refusal) → ((ys : List rules.Element) → uses es ls (x ∷ ys) ≡ refused (refusal-number y)) → (xs : Outcome (List rules.Element))
       → uses-left es f ls (element-before x xs) kept (Uses n) ≡ uses-left es f ls xs kept (Refused y)
   unfolding uses-left
-  left-refused n y e (done xs) = ap (λ o. o >>= λ us. done (uses-kept es f kept n ++ us)) (first-refused es ls x xs (refusal-number y) e)
+  left-refused n y e (done xs) = ap (λ o. o >>= λ us. done (uses-kept es f kept n ++ us)) (e xs)
   left-refused n y e (refused k) = refl
 
-  left-used : (n m : ℕ) (u : Meaning) (kept′ : List ℕ) → done u ≡ use-of es ls x → uses-kept es f kept′ m ≡ uses-kept es f kept n ++ (u ∷ [])
+  left-used : (n m : ℕ) (u : Used) (kept′ : List ℕ) → use-of es ls x ≡ done u → has-N x ≡ false → uses-kept es f kept′ m ≡ uses-kept es f kept n ++ (u ∷ [])
       → (xs : Outcome (List rules.Element)) → uses-left es f ls (element-before x xs) kept (Uses n) ≡ uses-left es f (indexes-after u ls) xs kept′ (Uses m)
   unfolding uses-left
-  left-used n m u kept′ e k xs =
-      ap (λ o. o >>= λ us. done (uses-kept es f kept n ++ us)) (before-done es ls x xs u e) ∙ joined u (uses-kept es f kept n) k (xs >>= uses es (indexes-after u ls))
+  left-used n m u kept′ e q k xs =
+      ap (λ o. o >>= λ us. done (uses-kept es f kept n ++ us)) (before-done es ls x xs u e q) ∙ joined u (uses-kept es f kept n) k (xs >>= uses es (indexes-after u ls))
 
 -- One element more, by where the decoding stands and what the element means.
 module _ {es : List Entry} {e : Element} {last : List ℕ} where
@@ -105,36 +131,62 @@ module _ {es : List Entry} {e : Element} {last : List ℕ} where
     room = refl;
     more = omega arith;
     good = λ f s g. g;
-    left = λ f ls q. (ls, q, left-passed es f ls (element-of f e) kept x);
+    left = λ f s ls q. (ls, q, left-passed es f ls (element-of f e) kept x);
   }
 
-  pub keeps-refused : (kept : List ℕ) (n : ℕ) (x : Refusal) → Means es last e (meant.Refused x) → Keeps-element es e last last kept kept (Uses n) (Refused x)
-  keeps-refused kept n x m = record {
-    same = refl;
-    room = refl;
-    more = omega arith;
-    good = λ f s g i h. absurd (omega arith);
-    left = λ f ls q. (ls, q, left-refused es f ls (element-of f e) kept n x (m .answer f ls q));
-  }
+  -- What the element means, by what was matched of the answer.
+  module _ (m : Meaning) (w : Means es last e m) where
+    pub keeps-refused : (kept : List ℕ) (n : ℕ) (x : Refusal) → m .meant ≡ meant.Refused x → Keeps-element es e last last kept kept (Uses n) (Refused x)
+    keeps-refused kept n x h = record {
+      same = refl;
+      room = refl;
+      more = omega arith;
+      good = λ f s g i h. absurd (omega arith);
+      left = λ f s ls q. (
+        ls,
+        q,
+        left-refused es f ls (element-of f e) kept n x (λ ys. first-refused es ls (element-of f e) ys _
+            (use-refused es ls (element-of f e) _ (rw h at (w .answer f ls [] s q)))),
+      );
+    }
 
-  pub keeps-use : (kept : List ℕ) (n : ℕ) (u : Use) {last′ kept′ : List ℕ} → 10 * n + 10 ≤ length kept → Means es last e (meant.As u) → Remembered es u last last′
-      → kept′ ≡ sets kept (10 * n) (numbers u) → Keeps-element es e last last′ kept kept′ (Uses n) (Uses (n + 1))
-  keeps-use kept n u {last′} h m k q = rw q (record {
-    same = k .same;
-    room = length-sets kept (10 * n) (numbers u);
-    more = omega arith;
-    good = λ f s g. good-more es f kept n u h (m .held f s) g;
-    left = λ f ls r. (
-      indexes-after (use-meant es f u) ls,
-      k .indexes f ls r,
-      left-used es f ls (element-of f e) kept n (n + 1) (use-meant es f u) _ (m .answer f ls r) (uses-more es f kept n u h),
-    );
-  })
+    module _ (u : Use) (h : m .meant ≡ meant.As u) where
+      pub use-held : (f : Bytes) → sound f e → Good-use es f u
+      use-held f s = rw h at (w .held f s)
+
+      told : (f : Bytes) (ls : Indexes) → sound f e → Remembers es last ls [] → (use-of es ls (element-of f e) ≡ done (use-meant es f u)) × (has-N (element-of f e) ≡ not (is-written (m .scopes)))
+      told f ls s q =
+          let d = use-done es ls (element-of f e) (meaning-meant es f u (m .scopes)) (rw h at (w .answer f ls [] s q)) in
+          (d .0, d .1 ∙ written-told (m .scopes))
+
+      pub keeps-last : (kept : List ℕ) (n : ℕ) → is-written (m .scopes) ≡ false → Keeps-element es e last last kept kept (Uses n) (Refused UseRule)
+      keeps-last kept n z = record {
+        same = refl;
+        room = refl;
+        more = omega arith;
+        good = λ f s g i h. absurd (omega arith);
+        left = λ f s ls q. let d = told f ls s q in
+            (ls, q, left-refused es f ls (element-of f e) kept n UseRule (λ ys. first-last es ls (element-of f e) ys _ (d .0) (d .1 ∙ ap not z)));
+      }
+
+      pub keeps-use : (kept : List ℕ) (n : ℕ) {last′ kept′ : List ℕ} → 10 * n + 10 ≤ length kept → is-written (m .scopes) ≡ true
+          → Remembered es u (m .scopes .values) last last′ → kept′ ≡ sets kept (10 * n) (numbers u) → Keeps-element es e last last′ kept kept′ (Uses n) (Uses (n + 1))
+      keeps-use kept n {last′} l z k q = rw q (record {
+        same = k .same;
+        room = length-sets kept (10 * n) (numbers u);
+        more = omega arith;
+        good = λ f s g. good-more es f kept n u l (use-held f s) g;
+        left = λ f s ls r. let d = told f ls s r in (
+          indexes-after (use-meant es f u) ls,
+          plain-remembered es last′ _ _ (lasts-plain (use-meant es f u) (scope-at (m .scopes .values)) [] (values-written (m .scopes) z) no-N-yet) (k .indexes f ls [] r),
+          left-used es f ls (element-of f e) kept n (n + 1) (use-meant es f u) _ (d .0) (d .1 ∙ ap not z) (uses-more es f kept n u l),
+        );
+      })
 
 -- The decoding stands somewhere, with some elements left.
 pub record Decoding (es : List Entry) (f : Bytes) (last : List ℕ) (xs : Outcome (List rules.Element)) (kept : List ℕ) (d : Decoded) : Type 0 where
   pub indexes : Indexes
-  pub remembers : Remembers es last indexes
+  pub remembers : Remembers es last indexes []
   pub good : Good-uses es f kept (uses-so-far d)
   pub left : uses-of es f ≡ uses-left es f indexes xs kept d
 
@@ -142,7 +194,7 @@ pub decode-long : (es : List Entry) (f : Bytes) (kept : List ℕ) → longest-fo
 unfolding uses-of
 decode-long es f kept h = ap (λ o. o >>= uses es []) (elements-long f h)
 
-after-none : (o : Outcome (List Meaning)) → o ≡ (o >>= λ us. done ([] ++ us))
+after-none : (o : Outcome (List Used)) → o ≡ (o >>= λ us. done ([] ++ us))
 after-none (done us) = refl
 after-none (refused k) = refl
 
@@ -151,7 +203,7 @@ module _ (es : List Entry) (f : Bytes) (kept : List ℕ) where
   unfolding uses-of uses-left uses-kept run
   decode-start h = record {
     indexes = [];
-    remembers = λ i k. zeros indexes-kept i ∙ sym (no-index (getD es i _ .name));
+    remembers = none-remembered es;
     good = λ i k. absurd (omega arith);
     left = ap (λ o. o >>= uses es []) (elements-parsed f h) ∙ after-none (parsed f >>= uses es []);
   }
@@ -178,7 +230,7 @@ module _ {es : List Entry} {f : Bytes} where
   module _ {at : ℕ} {e : Element} {stop : ℕ} (t : Stepped f at (parsed (drop at f)) (step.At e stop)) {last last′ kept kept′ : List ℕ} {d d′ : Decoded}
       (w : Decoding es f last (parsed (drop at f)) kept d) (k : Keeps-element es e last last′ kept kept′ d d′) where
     behind-element : Decoding es f last′ (elements-behind f stop) kept′ d′
-    behind-element = let v = decode-as (t .answer) w in let n = k .left f (v .indexes) (v .remembers) in record {
+    behind-element = let v = decode-as (t .answer) w in let n = k .left f (t .place .2) (v .indexes) (v .remembers) in record {
       indexes = n .0;
       remembers = n .1;
       good = k .good f (t .place .2) (v .good);

@@ -1,8 +1,12 @@
 pub mod Spreading
 pub mod Effects
 pub mod Fields
+pub mod Scoping
 pub mod Settling
 pub mod Finding
+pub mod Naming
+pub mod Reaching
+pub mod Elements
 pub mod Remembering
 pub mod SpanFields
 pub mod Sharing

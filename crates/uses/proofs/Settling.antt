@@ -27,11 +27,12 @@ use Rattle.tables.proofs.EntryFields.{field-periodic}
 use Rattle.format_buffer.specs.declared.Named.{Named}
 use Rattle.uses.specs.Spread.{occurrences, bracket, spread-of}
 use Rattle.uses.specs.Effect.{length-given, letter-given, asked-at}
-use Rattle.uses.specs.Meant.{fields-from, Settles, field-use, group-use, series-use, field-span, stored-span}
+use Rattle.uses.specs.Meant.{fields-from, Settles, Settles-entry, field-use, group-use, entry-use, series-use, field-span, stored-span}
 use Rattle.uses.specs.declared.spread.Ranges.{Ranges}
 use Rattle.uses.specs.declared.spread.Spreads.the-variants as spreads
 use Rattle.uses.specs.declared.effect.Effect.the-variants as effect
 use Rattle.uses.specs.declared.Use.the-variants as code
+use Rattle.uses.specs.declared.Meant.{Meant}
 use Rattle.uses.specs.declared.Meant.the-variants as meant
 use Rattle.uses.proofs.Spreading.{one-ordered, upto-one, value-one}
 use Rattle.uses.proofs.Together.{group-some, group-begins, group-inside, group-together, series-outside}
@@ -40,6 +41,9 @@ use Rattle.uses.proofs.Fields.{group-fields, group-upto, plain-none-mul
 
 pub refuse : (es : List Entry) (o : Outcome rules.Use) → o ≡ refused (refusal-number UseRule) → Settles es o (meant.Refused UseRule)
 refuse es o e = record { answer = λ f. sym e; held = λ f. tt }
+
+pub refuse-entry : (es : List Entry) (i : ℕ) (o : Outcome rules.Use) → o ≡ refused (refusal-number UseRule) → Settles-entry es i o (meant.Refused UseRule)
+refuse-entry es i o e = record { settles = refuse es o e; spans = tt }
 
 -- A field.
 module _ (f : Field) (inside : Bool) (last : ℕ) (os vs : Option Range) (l g : Option ℕ) where
@@ -157,32 +161,43 @@ module _ (x : Found) (n : ℕ) where
       unfolding use-of-series
       series-done fs p = first-field (x .entry .what) _ e ∙ rw (i, p)
 
+-- An entry, which is a group or a field.
+module _ (es : List Entry) (i last : ℕ) (n : Named) (r : Meant) where
+  pub group-entry : is-group (getD es i blank .what) ≡ true → Settles-entry es i (group-use es i n) r → Settles-entry es i (entry-use es i last n) r
+  group-entry e s = rw e s
+
+  pub field-entry : is-group (getD es i blank .what) ≡ false → Settles-entry es i (field-use es i last n) r → Settles-entry es i (entry-use es i last n) r
+  field-entry e s = rw e s
+
 -- The span of a field.
 module _ (es : List Entry) (i last : ℕ) (n : Named) (h : i < length es) (g : is-group (getD es i blank .what) ≡ false) where
   pub field-as : (r : Ranges) (k m : ℕ)
       → spread-of (spreads.Over r) ≡ spread (inside-at es i) (field-at es i .multiple) last (occurrences n) (bracket n)
       → asked-at (field-at es i) (effect.At k m) ≡ asked (field-at es i) (length-given n) (letter-given n)
-      → k < formats → Settles es (field-use es i last n) (meant.As (code.Values (field-span i r k m)))
+      → k < formats → Settles-entry es i (field-use es i last n) (meant.As (code.Values (field-span i r k m)))
   field-as r k m p q b =
       let o = spread-in-order (inside-at es i) (field-at es i .multiple) last (occurrences n) (bracket n) _ (sym p) in
       let a = asked-right (field-at es i) (length-given n) (letter-given n) _ (sym q) in
       record {
-        answer = λ f. sym (field-done (field-at es i) (inside-at es i) last (occurrences n) (bracket n) (length-given n) (letter-given n) _ _ (sym p) (sym q));
-        held = λ f. record {
-          ordered = omega arith;
-          upto = omega arith;
-          occurrences = T-true _ (o .0);
-          values = T-true _ (o .1);
-          single = λ e. absurd (false≢true e);
-          alone = λ e. record { next = refl; field = g; format = b; allowed = a .0; converts = a .1 };
-          only = λ j low high e. let z : j ≡ i = omega arith in upto-one (inside-at es i) (field-at es i .multiple) last (occurrences n) (bracket n) _ (sym p) (rw z at e);
-          begins = field-periodic (getD es i blank .what) g;
-          once = λ e. absurd (false≢true e);
-          unasked = λ e. absurd (false≢true e);
-          one-group = λ e. absurd (false≢true e);
-          outside = λ e. absurd (false≢true e);
-          grouped = λ e. absurd (false≢true e);
+        settles = record {
+          answer = λ f. sym (field-done (field-at es i) (inside-at es i) last (occurrences n) (bracket n) (length-given n) (letter-given n) _ _ (sym p) (sym q));
+          held = λ f. record {
+            ordered = omega arith;
+            upto = omega arith;
+            occurrences = T-true _ (o .0);
+            values = T-true _ (o .1);
+            single = λ e. absurd (false≢true e);
+            alone = λ e. record { next = refl; field = g; format = b; allowed = a .0; converts = a .1 };
+            only = λ j low high e. let z : j ≡ i = omega arith in upto-one (inside-at es i) (field-at es i .multiple) last (occurrences n) (bracket n) _ (sym p) (rw z at e);
+            begins = field-periodic (getD es i blank .what) g;
+            once = λ e. absurd (false≢true e);
+            unasked = λ e. absurd (false≢true e);
+            one-group = λ e. absurd (false≢true e);
+            outside = λ e. absurd (false≢true e);
+            grouped = λ e. absurd (false≢true e);
+          };
         };
+        spans = record { span = field-span i r k m; is = refl; standard = sym g; first = rw g refl };
       }
 
 -- The span of a group.
@@ -192,28 +207,31 @@ module _ (t : Bytes) (v : Valid t) (i : ℕ) (n : Named) (h : i < length (entrie
   es = entries-of t
 
   pub group-as : (r : Ranges) → spread-of (spreads.Over r) ≡ spread (inside-at es i) false 0 (occurrences n) (bracket n)
-      → Settles es (group-use es i n) (meant.As (code.Values (stored-span (i + 1) (group-end es i) r)))
+      → Settles-entry es i (group-use es i n) (meant.As (code.Values (stored-span (i + 1) (group-end es i) r)))
   unfolding found-at
   group-as r p =
       let o = spread-in-order (inside-at es i) false 0 (occurrences n) (bracket n) _ (sym p) in
       let fs = group-fields es i h in
       record {
-        answer = λ f. rw (z, l, ← fs) (sym (group-done (found-at es i) (occurrences n) (bracket n) a _ (sym p)));
-        held = λ f. record {
-          ordered = group-some t v i h g;
-          upto = group-upto es i h .1;
-          occurrences = T-true _ (o .0);
-          values = T-true _ (o .1);
-          single = λ e. rw (← fs) (plain-none-multiple _ a);
-          alone = λ e. absurd (true≢false e);
-          only = λ j low high e. upto-one (inside-at es i) false 0 (occurrences n) (bracket n) _ (sym p) (sym (group-inside t v i h g j (omega arith) high) ∙ e);
-          begins = group-begins t v i h g;
-          once = λ e. let one = value-one (inside-at es i) 0 (occurrences n) (bracket n) _ (sym p) in (ap (λ (x : Range). x .from) one, ap (λ (x : Range). x .upto) one);
-          unasked = λ e. (refl, refl);
-          one-group = λ e k home. (group-together t v i h g k home, rw (← fs) a);
-          outside = λ e out j low high. group-inside t v i h g j (omega arith) high ∙ sym (group-inside t v i h g (i + 1) (omega arith) (group-some t v i h g)) ∙ out;
-          grouped = λ e inside. (i, add-one i, g, refl);
+        settles = record {
+          answer = λ f. rw (z, l, ← fs) (sym (group-done (found-at es i) (occurrences n) (bracket n) a _ (sym p)));
+          held = λ f. record {
+            ordered = group-some t v i h g;
+            upto = group-upto es i h .1;
+            occurrences = T-true _ (o .0);
+            values = T-true _ (o .1);
+            single = λ e. rw (← fs) (plain-none-multiple _ a);
+            alone = λ e. absurd (true≢false e);
+            only = λ j low high e. upto-one (inside-at es i) false 0 (occurrences n) (bracket n) _ (sym p) (sym (group-inside t v i h g j (omega arith) high) ∙ e);
+            begins = group-begins t v i h g;
+            once = λ e. let one = value-one (inside-at es i) 0 (occurrences n) (bracket n) _ (sym p) in (ap (λ (x : Range). x .from) one, ap (λ (x : Range). x .upto) one);
+            unasked = λ e. (refl, refl);
+            one-group = λ e k home. (group-together t v i h g k home, rw (← fs) a);
+            outside = λ e out j low high. group-inside t v i h g j (omega arith) high ∙ sym (group-inside t v i h g (i + 1) (omega arith) (group-some t v i h g)) ∙ out;
+            grouped = λ e inside. (i, add-one i, g, refl);
+          };
         };
+        spans = record { span = stored-span (i + 1) (group-end es i) r; is = refl; standard = sym g; first = rw g refl };
       }
 
 -- The span of a series.

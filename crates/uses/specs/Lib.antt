@@ -1,6 +1,8 @@
 pub mod Spread
 pub mod Effect
 pub mod Meant
+pub mod Scopes
+pub mod Meanings
 pub mod Kept
 pub mod Decoding
 pub mod Boxes

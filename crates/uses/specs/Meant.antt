@@ -1,28 +1,26 @@
 -- What the code's uses mean in the words of `rules`.
 use mathlib.Core.Path.{_≡_}
-use mathlib.Core.Bool.{Bool, true, false}
+use mathlib.Core.Bool.{Bool, true, false, cond}
 use mathlib.Core.List.{List, [], _∷_, map}
 use Prim.Native.Nat.{ℕ, suc, _-_, _+_, _<_, _≤_}
 use lib.ListN.{length, take, drop, getD}
 use Rattle.rules.specs.Outcome.{Outcome, done, refused, _>>=_}
-use Rattle.rules.specs.Limits.{formats, most-entries, highest-index, longest-blanks, longest-text}
+use Rattle.rules.specs.Limits.{formats, highest-index, longest-blanks, longest-text}
 use Rattle.rules.specs.Numbers.{refusal-number}
 use Rattle.rules.specs.Lists.{Bytes, all, filter}
 use Rattle.rules.specs.Values.{allowed, converts}
 use Rattle.rules.specs.Table.{Field, Entry, group}
 use Rattle.rules.specs.Format.{elements}
 use Rattle.rules.specs.Use as rules
-use Rattle.rules.specs.Use.{Asked, plain, as-stored, in-order, Indexes, last-index, use-of}
+use Rattle.rules.specs.Use.{Asked, plain, as-stored, in-order}
 use Rattle.value_formats.specs.Formats.{format-at}
 use Rattle.tables.specs.Entries.{blank, is-group, is-multiple, is-periodic}
 use Rattle.tables.specs.Places.{inside-at, found-at, Home}
 use Rattle.tables.specs.Groups.{group-end, field-at, fields-in}
 use Rattle.format_buffer.specs.Part.{part}
-use Rattle.format_buffer.specs.Elements.{optional, range, element-of, sound}
+use Rattle.format_buffer.specs.Elements.{optional, range}
 use Rattle.format_buffer.specs.declared.Named.{Named}
 use Rattle.format_buffer.specs.declared.Count.{Count}
-use Rattle.format_buffer.specs.declared.Element.{Element}
-use Rattle.format_buffer.specs.declared.Element.the-variants as element
 use Rattle.uses.specs.Spread.{occurrences, bracket}
 use Rattle.uses.specs.Effect.{length-given, letter-given}
 use Rattle.uses.specs.declared.Span.{Span}
@@ -105,6 +103,21 @@ pub record Settles (es : List Entry) (o : Outcome rules.Use) (r : Meant) : Type 
   pub answer : (f : Bytes) → outcome-of es f r ≡ o
   pub held : (f : Bytes) → Good-meaning es f r
 
+-- The span of a name is its entry's: of the field alone, or of the members of the group.
+pub record Entry-span (es : List Entry) (i : ℕ) (u : Use) : Type 0 where
+  pub span : Span
+  pub is : u ≡ code.Values span
+  pub standard : span .standard ≡ is-group (getD es i blank .what)
+  pub first : span .first ≡ cond (is-group (getD es i blank .what)) (i + 1) i
+
+abbrev pub Entry-span-of : List Entry → ℕ → Meant → Type 0
+Entry-span-of es i (meant.As u) = Entry-span es i u
+Entry-span-of es i (meant.Refused x) = Unit {0}
+
+pub record Settles-entry (es : List Entry) (i : ℕ) (o : Outcome rules.Use) (r : Meant) : Type 0 where
+  pub settles : Settles es o r
+  pub spans : Entry-span-of es i r
+
 -- The rules for a name, a count and a series, by the entries that are named.
 abbrev pub field-use : List Entry → ℕ → ℕ → Named → Outcome rules.Use
 field-use es i last n =
@@ -118,6 +131,16 @@ count-use es i c = rules.use-of-count (getD es i blank .name) (getD es i blank .
 
 abbrev pub series-use : List Entry → ℕ → ℕ → Outcome rules.Use
 series-use es i j = rules.use-of-series (found-at es i) (getD es j blank .name)
+
+-- The rules for an entry, a group or a field; and for a count and a series by their names.
+abbrev pub entry-use : List Entry → ℕ → ℕ → Named → Outcome rules.Use
+entry-use es i last n = cond (is-group (getD es i blank .what)) (group-use es i n) (field-use es i last n)
+
+abbrev pub count-named : List Entry → Count → Outcome rules.Use
+count-named es c = rules.find (c .name) es >>= λ x. rules.use-of-count (c .name) (x .entry .what) (x .inside) (optional (c .indexed) (c .index))
+
+abbrev pub series-named : List Entry → ℕ → ℕ → Outcome rules.Use
+series-named es n m = rules.find n es >>= λ x. rules.find m es >>= λ _. rules.use-of-series x m
 
 -- Fields at their own formats and lengths; one at the format and the length in effect.
 abbrev pub stored-span : ℕ → ℕ → Ranges → Span
@@ -148,29 +171,6 @@ field-span i r format size = record {
   bare = r .bare;
 }
 
--- How many numbers are kept: an index for each entry, and after them where the next name is looked for first.
-abbrev pub indexes-kept : ℕ
-indexes-kept = most-entries + 1
-
--- The last index so far of each entry.
-abbrev pub Remembers : List Entry → List ℕ → Indexes → Type 0
-Remembers es last ls = (i : ℕ) → i < length es → getD last i 0 ≡ last-index (getD es i blank .name) ls
-
--- What an element means, after the indexes so far.
-pub record Means (es : List Entry) (last : List ℕ) (e : Element) (r : Meant) : Type 0 where
-  pub answer : (f : Bytes) (ls : Indexes) → Remembers es last ls → outcome-of es f r ≡ use-of es ls (element-of f e)
-  pub held : (f : Bytes) → sound f e → Good-meaning es f r
-
-abbrev pub Name-means : List Entry → List ℕ → Named → Meant → Type 0
-Name-means es last n r = Means es last (element.Named n) r
-
--- A count and a series do not depend on the indexes so far.
-abbrev pub Count-means : List Entry → Count → Meant → Type 0
-Count-means es c r = (last : List ℕ) → Means es last (element.Count c) r
-
-abbrev pub Series-means : List Entry → ℕ → ℕ → Meant → Type 0
-Series-means es n m r = (last : List ℕ) → Means es last (element.Series n m) r
-
 -- The span of a use, if it has one, is well formed.
 abbrev pub Good-span-of : List Entry → Use → Type 0
 Good-span-of es (code.Blanks n) = Unit {0}
@@ -179,11 +179,6 @@ Good-span-of es (code.GroupCount i) = Unit {0}
 Good-span-of es (code.ValueCount i k) = Unit {0}
 Good-span-of es (code.Values s) = Good-span es s
 
--- The indexes after a use.
-pub record Remembered (es : List Entry) (u : Use) (before after : List ℕ) : Type 0 where
-  pub same : length after ≡ length before
-  pub indexes : (f : Bytes) (ls : Indexes) → Remembers es before ls → Remembers es after (rules.indexes-after (use-meant es f u) ls)
-
--- What the use rules say of a format.
+-- What the use rules say of the format of an update.
 unfoldable pub uses-of : List Entry → Bytes → Outcome (List rules.Use)
 uses-of es f = elements f >>= rules.uses es []

@@ -7,6 +7,7 @@ use crate::Use;
 use crate::index;
 use crate::meaning;
 use crate::memory;
+use crate::scopes;
 use format_buffer::Element;
 use format_buffer::syntax::Step;
 use rules::Refusal;
@@ -20,7 +21,7 @@ ghost use Rattle.rules.specs.Lists.{Bytes};
 ghost use Rattle.tables.specs.Entries.{Valid, entries-of};
 ghost use Rattle.format_buffer.specs.Elements.{sound};
 ghost use Rattle.uses.specs.Spread.{index-bound};
-ghost use Rattle.uses.specs.Meant.{indexes-kept};
+ghost use Rattle.uses.specs.Meanings.{indexes-kept};
 ghost use Rattle.uses.specs.Kept.{numbers-kept, element-bytes, span-at, use-at, span-kind, flag, span-numbers, numbers, Small-span, small, Decodes};
 ghost use Rattle.uses.specs.Decoding.{uses-so-far, Keeps-element};
 
@@ -150,7 +151,8 @@ pub fn get(kept: &[Index], n: usize) -> Use
     Use::Values(span_at(kept, at))
 }
 
-// One element more: its use is kept, or it is refused. After an element that is refused the uses of the others do not matter.
+// One element more: its use is kept, or it is refused, as N is in an update. After an element that is refused the uses of the others do
+// not matter.
 fn keep_element(
     t: &[u8],
     e: Element,
@@ -163,14 +165,21 @@ fn keep_element(
 {
     match d {
         Decoded::Refused(x) => Decoded::Refused(x),
-        Decoded::Uses(n) => match meaning::use_of(t, last, e) {
-            Meant::Refused(x) => Decoded::Refused(x),
-            Meant::As(u) => {
-                memory::remember(t, last, u);
-                put(kept, n, u);
-                Decoded::Uses(n + 1)
+        Decoded::Uses(n) => {
+            let m = meaning::use_of(t, last, e);
+            let meant = m.meant;
+            match meant {
+                Meant::Refused(x) => Decoded::Refused(x),
+                Meant::As(u) => {
+                    if scopes::is_written(m.scopes) {
+                        memory::remember(t, last, u, m.scopes.values);
+                        put(kept, n, u);
+                        return Decoded::Uses(n + 1);
+                    }
+                    Decoded::Refused(Refusal::UseRule)
+                }
             }
-        },
+        }
     }
 }
 

@@ -5,6 +5,7 @@ pub mod kept;
 mod meaning;
 mod memory;
 mod ranges;
+pub mod scopes;
 mod spread;
 pub mod twice;
 
@@ -23,6 +24,9 @@ pub const NEAR: usize = rules::MOST_ENTRIES;
 
 // How many numbers are kept along a format: the last index so far of each entry, and after them the one at NEAR.
 pub const INDEXES: usize = NEAR + 1;
+
+// What is kept as the last index of an MU field after N: no number of a format is as large.
+const AFTER_N: Index = 1000;
 
 // The fields of the entries from first up to end, in the occurrences from-upto, and in each the values value_from-value_upto. Where
 // standard holds, each is at its own format and length; else first is the one field, at the format and the size in effect.

@@ -1,4 +1,5 @@
 // What an element means, by the entries that it names.
+use crate::AFTER_N;
 use crate::INDEXES;
 use crate::Index;
 use crate::Meant;
@@ -9,12 +10,16 @@ use crate::byte;
 use crate::effect;
 use crate::effect::Effect;
 use crate::index;
+use crate::scopes;
+use crate::scopes::Meaning;
 use crate::spread;
 use crate::spread::Ranges;
 use crate::spread::Spreads;
 use crate::wide;
 use format_buffer::Count;
 use format_buffer::Element;
+use format_buffer::Indexing;
+use format_buffer::LAST_ALONE;
 use format_buffer::Named;
 use rules::Refusal;
 use tables::Found;
@@ -24,8 +29,10 @@ ghost use Prim.Native.Nat.{_<_};
 ghost use lib.ListN.{length, getD};
 ghost use Rattle.rules.specs.Limits.{most-entries};
 ghost use Rattle.tables.specs.Entries.{Valid, entries-of, blank, is-group, is-multiple};
+ghost use Rattle.tables.specs.Places.{inside-at};
 ghost use Rattle.uses.specs.Spread.{index-bound};
-ghost use Rattle.uses.specs.Meant.{Settles, field-use, group-use, count-use, series-use, stored-span, field-span, Means, Name-means, Count-means, Series-means};
+ghost use Rattle.uses.specs.Meant.{Settles, Settles-entry, field-use, group-use, entry-use, count-use, series-use, count-named, series-named, stored-span, field-span};
+ghost use Rattle.uses.specs.Meanings.{unscoped, name-in-full, Means, Name-means};
 
 // Fields at their own formats and lengths.
 fn stored(first: usize, end: usize, r: Ranges) -> Span
@@ -67,7 +74,7 @@ fn one_field(i: usize, r: Ranges, format: usize, size: usize) -> Span
 // The field of entry i, after its last index so far.
 fn use_of_field(t: &[u8], i: usize, last: usize, n: Named) -> Meant
     requires { ⌜ Valid (now t) × (i < length (entries-of (now t))) × (is-group (getD (entries-of (now t)) i blank .what) ≡ false) × (last < index-bound) ⌝ }
-    ensures { λ r. ⌜ Settles (entries-of (now (t .entry))) (field-use (entries-of (now (t .entry))) i last n) r ⌝ }
+    ensures { λ r. ⌜ Settles-entry (entries-of (now (t .entry))) i (field-use (entries-of (now (t .entry))) i last n) r ⌝ }
 {
     let e = tables::entry_at(t, i);
     let s = spread::spread(tables::inside(t, i), e.multiple, last, n);
@@ -84,7 +91,7 @@ fn use_of_field(t: &[u8], i: usize, last: usize, n: Named) -> Meant
 // The fields of group i: it takes no length and no format.
 fn use_of_group(t: &[u8], i: usize, n: Named) -> Meant
     requires { ⌜ Valid (now t) × (i < length (entries-of (now t))) × (is-group (getD (entries-of (now t)) i blank .what) ≡ true) ⌝ }
-    ensures { λ r. ⌜ Settles (entries-of (now (t .entry))) (group-use (entries-of (now (t .entry))) i n) r ⌝ }
+    ensures { λ r. ⌜ Settles-entry (entries-of (now (t .entry))) i (group-use (entries-of (now (t .entry))) i n) r ⌝ }
 {
     if n.sized {
         return Meant::Refused(Refusal::UseRule);
@@ -170,27 +177,71 @@ fn use_of_series(t: &[u8], i: usize, j: usize) -> Meant
     Meant::Refused(Refusal::UseRule)
 }
 
+// The group or the field of entry i, after its last index so far.
+fn use_of_entry(t: &[u8], i: usize, last: usize, n: Named) -> Meant
+    requires { ⌜ Valid (now t) × (i < length (entries-of (now t))) × (last < index-bound) ⌝ }
+    ensures { λ r. ⌜ Settles-entry (entries-of (now (t .entry))) i (entry-use (entries-of (now (t .entry))) i last n) r ⌝ }
+{
+    if tables::group_at(t, i) {
+        return use_of_group(t, i, n);
+    }
+    use_of_field(t, i, last, n)
+}
+
+// The bare name of entry i after N, outside periodic groups, is that name with N.
+fn in_full(t: &[u8], i: usize, last: usize, n: Named) -> Named
+    requires { ⌜ Valid (now t) × (i < length (entries-of (now t))) ⌝ }
+    ensures { λ r. ⌜ r ≡ name-in-full (inside-at (entries-of (now (t .entry))) i) last n ⌝ }
+{
+    if last == index(AFTER_N) {
+        if n.indexed {
+            return n;
+        }
+        if tables::inside(t, i) {
+            return n;
+        }
+        return n.with_occurrences(Indexing {
+            from: 1,
+            upto: 1,
+            scope: LAST_ALONE,
+        });
+    }
+    n
+}
+
+// What has no N.
+fn unscoped(meant: Meant) -> Meaning
+    ensures { λ r. ⌜ r ≡ unscoped meant ⌝ }
+{
+    Meaning {
+        meant,
+        scopes: scopes::both_written(),
+    }
+}
+
 // A name, after the last index so far of each entry. A format mostly names fields in table order, so the entry after the one that was
 // named last is tried first.
-fn use_of_name(t: &[u8], last: &[Index; INDEXES], n: Named) -> Meant
+fn use_of_name(t: &[u8], last: &[Index; INDEXES], n: Named) -> Meaning
     requires { ⌜ Valid (now t) ⌝ }
     ensures { λ r. ⌜ Name-means (entries-of (now (t .entry))) (now (last .entry)) n r ⌝ }
 {
     let found = tables::find_near(t, index(last[NEAR]), n.name);
     match found {
         Found::At(i) => {
-            if tables::group_at(t, i) {
-                return use_of_group(t, i, n);
+            let kept = index(last[i]);
+            let full = in_full(t, i, kept, n);
+            Meaning {
+                meant: use_of_entry(t, i, kept, full),
+                scopes: scopes::of_name(t, i, full),
             }
-            use_of_field(t, i, index(last[i]), n)
         }
-        Found::Nothing => Meant::Refused(Refusal::UnknownName),
+        Found::Nothing => unscoped(Meant::Refused(Refusal::UnknownName)),
     }
 }
 
 fn use_of_counted(t: &[u8], c: Count) -> Meant
     requires { ⌜ Valid (now t) ⌝ }
-    ensures { λ r. ⌜ Count-means (entries-of (now (t .entry))) c r ⌝ }
+    ensures { λ r. ⌜ Settles (entries-of (now (t .entry))) (count-named (entries-of (now (t .entry))) c) r ⌝ }
 {
     let found = tables::find(t, c.name);
     match found {
@@ -201,7 +252,7 @@ fn use_of_counted(t: &[u8], c: Count) -> Meant
 
 fn use_of_names(t: &[u8], from: u16, upto: u16) -> Meant
     requires { ⌜ Valid (now t) ⌝ }
-    ensures { λ r. ⌜ Series-means (entries-of (now (t .entry))) from upto r ⌝ }
+    ensures { λ r. ⌜ Settles (entries-of (now (t .entry))) (series-named (entries-of (now (t .entry))) from upto) r ⌝ }
 {
     let first = tables::find(t, from);
     let last = tables::find(t, upto);
@@ -214,16 +265,19 @@ fn use_of_names(t: &[u8], from: u16, upto: u16) -> Meant
     }
 }
 
-// What an element means.
-pub fn use_of(t: &[u8], last: &[Index; INDEXES], e: Element) -> Meant
+// What an element of a read means.
+pub fn use_of(t: &[u8], last: &[Index; INDEXES], e: Element) -> Meaning
     requires { ⌜ Valid (now t) ⌝ }
     ensures { λ r. ⌜ Means (entries-of (now (t .entry))) (now (last .entry)) e r ⌝ }
 {
     match e {
-        Element::Blanks(n) => Meant::As(Use::Blanks(byte(n))),
-        Element::Text(from, upto) => Meant::As(Use::Text(from, upto)),
+        Element::Blanks(n) => unscoped(Meant::As(Use::Blanks(byte(n)))),
+        Element::Text(from, upto) => unscoped(Meant::As(Use::Text(from, upto))),
         Element::Named(n) => use_of_name(t, last, n),
-        Element::Count(c) => use_of_counted(t, c),
-        Element::Series(from, upto) => use_of_names(t, from, upto),
+        Element::Count(c) => Meaning {
+            meant: use_of_counted(t, c),
+            scopes: scopes::of_count(c),
+        },
+        Element::Series(from, upto) => unscoped(use_of_names(t, from, upto)),
     }
 }

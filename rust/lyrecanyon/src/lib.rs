@@ -13,6 +13,9 @@
 //! let job = lyrecanyon::update_vec(table, &empty, b"\xC1\xC2\x6B\xD4\xC6\x4B", b"\x00\x15\x0F\xF1\xF5")?;
 //! let answer = lyrecanyon::read_vec(table, &job, b"\xC1\xC2\x6B\xF5\x6B\xE4\x4B")?;
 //! assert_eq!(answer, b"\xF0\xF0\xF1\xF5\xF0");
+//!
+//! // The last value of MF, whichever it is: `MFN.`
+//! assert_eq!(lyrecanyon::read_vec(table, &job, b"\xD4\xC6\xD5\x4B")?, b"\xF1\xF5");
 //! # Ok::<(), lyrecanyon::Refusal>(())
 //! ```
 //!

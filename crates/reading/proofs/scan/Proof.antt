@@ -6,7 +6,7 @@ use lib.ListN.{length, drop}
 use Rattle.format_buffer.specs.Syntax.{parsed, Stepped}
 use Rattle.format_buffer.specs.declared.syntax.Step.the-variants.{At}
 use Rattle.tables.specs.Entries.{entries-of}
-use Rattle.uses.specs.Meant.{indexes-kept}
+use Rattle.uses.specs.Meanings.{indexes-kept}
 use Rattle.uses.proofs.Decoding.{step-as}
 use Rattle.reading.proofs.Scanning.{Scanning, scan-long, scan-start, scan-bad, scan-last, scan-more, scan-as-answer}
 use borrow.Author.Needs.{needs}

@@ -2,7 +2,8 @@
 use mathlib.Core.Path.{refl, sym, ap, _∙_}
 use native.Mathlib.Omega.{arith}
 use Rattle.format_buffer.specs.declared.Element.the-variants as code
-use Rattle.format_buffer.proofs.Names.{numbered-value, numbered-bad, after-name-nothing, after-name-count, after-name-series, after-name-index}
+use Rattle.format_buffer.proofs.Indexes.{indexes-at, indexes-bad, small-written, index-scope}
+use Rattle.format_buffer.proofs.Names.{after-name-nothing, after-name-count, after-name-series, after-name-index}
 use Rattle.format_buffer.proofs.Answers.{element-bad, element-is, element-from, small-bare}
 use borrow.Author.Needs.{needs}
 use Rattle.format_buffer.proofs.pieces.after_name.Statement.{statement}
@@ -22,7 +23,7 @@ alone-requires c κs = search needs
 returns-2 : tie.Need-returns-2
 returns-2 c =
     let a = c .before .before .before .before .args in
-    element-is refl (after-name-count (a .name) (a .f .now) (a .at) (a .upto) (sym (c .before .alone .ensures) ∙ c .if2 .taken)) (omega arith) tt
+    element-is refl (after-name-count (a .name) (a .f .now) (a .at) (a .upto) (sym (c .before .alone .ensures) ∙ c .if2 .taken)) (small-written 0 0 (omega arith) (omega arith), (λ h. absurd (h refl)), omega arith) tt
 
 shared-slice-read-if3 : tie.Need-shared-slice-read-if3
 shared-slice-read-if3 c = search needs
@@ -40,11 +41,11 @@ returns-3 c =
     (after-name-series (a .name) (a .f .now) (a .at) (a .upto) (omega arith) (omega arith) (sym (c .before .before .before .before .alone .ensures) ∙ c .before .before .before .if2 .left) (c .before .if3 .taken))
     (c .series-to .ensures)
 
-number-first-requires : tie.Need-number-first-requires
-number-first-requires c κs = search needs
+index-first-requires : tie.Need-index-first-requires
+index-first-requires c κs = search needs
 
-enum-known-i : tie.Need-enum-known-i
-enum-known-i c = search needs
+enum-known-x : tie.Need-enum-known-x
+enum-known-x c = search needs
 
 enum-told : tie.Need-enum-told
 enum-told c = search needs
@@ -54,17 +55,17 @@ returns-4 c =
     let a = c .before .before .before .before .before .before .before .before .before .args in
     element-bad
     (after-name-index (a .name) (a .f .now) (a .at) (a .upto) (omega arith) (omega arith) (sym (c .before .before .before .before .before .before .alone .ensures) ∙ c .before .before .before .before .before .if2 .left) (c .before .before .before .if3 .left)
-    (numbered-bad (c .before .before .number-first .ensures) (c .enum-told .given .1)))
+    (indexes-bad (c .before .before .index-first .ensures) (c .enum-told .given .1)))
 
 after-index-requires : tie.Need-after-index-requires
 after-index-requires c κs =
-    let v = numbered-value (c .before .before .before .number-first .ensures) (c .before .i .given .1) in
-    (v .1 .1, omega arith, v .1 .2)
+    let v = indexes-at (c .before .before .before .index-first .ensures) (c .before .x .given .1) in
+    (v .1 .1, omega arith, v .1 .2, index-scope _ _ (v .1 .2) (v .0))
 
 returns-5 : tie.Need-returns-5
 returns-5 c =
     let a = c .before .before .before .before .before .before .before .before .before .before .before .args in
-    let v = numbered-value (c .before .before .before .before .number-first .ensures) (c .before .before .i .given .1) in
+    let v = indexes-at (c .before .before .before .before .index-first .ensures) (c .before .before .x .given .1) in
     element-from
     (after-name-index (a .name) (a .f .now) (a .at) (a .upto) (omega arith) (omega arith) (sym (c .before .before .before .before .before .before .before .before .alone .ensures) ∙ c .before .before .before .before .before .before .before .if2 .left) (c .before .before .before .before .before .if3 .left) (v .0))
     (c .after-index .ensures)
@@ -81,8 +82,8 @@ after-name-spec =
     add-series-to
     series-to-requires
     returns-3
-    number-first-requires
-    enum-known-i
+    index-first-requires
+    enum-known-x
     enum-told
     returns-4
     after-index-requires

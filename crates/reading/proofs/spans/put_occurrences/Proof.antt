@@ -13,7 +13,7 @@ use Rattle.reading.proofs.spans.put_occurrences.Tie as tie
 
 abbrev Inv-loop : tie.InvT-loop
 Inv-loop t b places s out₀ at end write path width n start p₀ o₀ out p o =
-    Running (entries-of t) b places end (span-items (entries-of t) s o₀) (span-items (entries-of t) s o) p₀ p write out₀ out
+    Running (entries-of t) b places end (λ r. span-items (entries-of t) s o₀) (λ r. span-items (entries-of t) s o) p₀ p write out₀ out
     × (1 ≤ o)
 
 abbrev μ-loop : tie.MeasureT-loop
@@ -84,7 +84,7 @@ add-o c =
 -- The occurrences that are put together are put, and the others are left.
 begun : (c : tie.After-first Inv-loop μ-loop)
     → (let a = start c .args in
-    Running (entries-of (a .t .now)) (a .b .now) (a .places .now) (a .end) (span-items (entries-of (a .t .now)) (a .s) (a .s .from)) (span-items (entries-of (a .t .now)) (a .s) (a .s .from + counted c .adjacent-count .result))
+    Running (entries-of (a .t .now)) (a .b .now) (a .places .now) (a .end) (λ r. span-items (entries-of (a .t .now)) (a .s) (a .s .from)) (λ r. span-items (entries-of (a .t .now)) (a .s) (a .s .from + counted c .adjacent-count .result))
     (a .at) (c .first .given .0 .0) (a .write) (a .out .now) (put-first c .put-adjacent .last .1 .1 .1 .1 .1 .1 .1 .0))
 begun c =
     let s = start c in
@@ -134,7 +134,7 @@ returns-2 c =
     let es = entries-of (a .t .now) in
     let l = turn p .loop in
     fills-rest (begun (first (turn p)))
-    (run-off (l .inv .0) (occurrence-items es (a .s) (l .o)) (span-items es (a .s) (l .o + 1)) (rows-first es (a .s) (l .o) (a .s .upto) (p .before .before .if1 .taken)) (p .put-occurrence .ensures) _ (c .before .next .given .1))
+    (run-off (l .inv .0) (λ r. occurrence-items es (a .s) (l .o)) (λ r. span-items es (a .s) (l .o + 1)) (λ r. rows-first es (a .s) (l .o) (a .s .upto) (p .before .before .if1 .taken)) (p .put-occurrence .ensures) _ (c .before .next .given .1))
 
 enum-known-next-2 : tie.Need-enum-known-next-2 Inv-loop μ-loop
 enum-known-next-2 c = search needs
@@ -155,7 +155,7 @@ loop-again c =
     let a = start (first (turn p)) .args in
     let es = entries-of (a .t .now) in
     let l = turn p .loop in (
-      run-on (l .inv .0) (occurrence-items es (a .s) (l .o)) (span-items es (a .s) (l .o + 1)) (rows-first es (a .s) (l .o) (a .s .upto) (p .before .before .if1 .taken)) (p .put-occurrence .ensures) _ (c .before .next2 .given .1),
+      run-on (l .inv .0) (λ r. occurrence-items es (a .s) (l .o)) (λ r. span-items es (a .s) (l .o + 1)) (λ r. rows-first es (a .s) (l .o) (a .s .upto) (p .before .before .if1 .taken)) (p .put-occurrence .ensures) _ (c .before .next2 .given .1),
       omega arith,
     )
 
@@ -168,7 +168,7 @@ returns-3 : tie.Need-returns-3 Inv-loop μ-loop
 returns-3 c =
     let l = c .before .before in
     let a = start (first l) .args in
-    fills-rest (begun (first l)) (run-end (l .loop .inv .0) (rows-none (entries-of (a .t .now)) (a .s) (l .loop .o) (a .s .upto) (c .if1 .left)))
+    fills-rest (begun (first l)) (run-end (l .loop .inv .0) (λ r. rows-none (entries-of (a .t .now)) (a .s) (l .loop .o) (a .s .upto) (c .if1 .left)))
 
 pub put-occurrences-spec : {M : Type 1} → statement M
 put-occurrences-spec =

@@ -1,33 +1,39 @@
 -- `uses::kept::keep_element` meets its contract: by what the element means, what is left after it is what was left with it.
-use mathlib.Core.Path.{_≡_, subst}
+use mathlib.Core.Path.{_≡_, sym, subst, _∙_}
 use Prim.Native.Nat.{_+_, _*_, _≤_}
 use native.Mathlib.Omega.{arith}
 use lib.ListN.{length}
 use Rattle.tables.specs.Entries.{entries-of}
 use Rattle.tables.proofs.Tables.{valid-most}
-use Rattle.uses.specs.Meant.{Means}
+use Rattle.uses.specs.Meant.{Good-use}
 use Rattle.uses.specs.Decoding.{uses-so-far}
-use Rattle.uses.specs.declared.Meant.the-variants.{As}
+use Rattle.uses.specs.declared.Use.{Use}
 use Rattle.uses.specs.declared.kept.Decoded.{Decoded}
 use Rattle.uses.specs.declared.kept.Decoded.the-variants.{Uses}
 use Rattle.uses.proofs.Remembering.{span-known}
 use Rattle.uses.proofs.Numbers.{use-small}
-use Rattle.uses.proofs.Decoding.{means-as, keeps-as, keeps-passed, keeps-refused, keeps-use}
+use Rattle.uses.proofs.Decoding.{keeps-as, keeps-passed, keeps-refused, use-held, keeps-last, keeps-use}
 use borrow.Author.Needs.{needs}
 use Rattle.uses.proofs.kept.keep_element.Statement.{statement}
 use Rattle.uses.proofs.kept.keep_element.Tie as tie
 
--- Where the function starts, before what the element means; where the use that was found stands in the count; that it is meant; and that there is room.
-abbrev start : tie.After-u → tie.Start
-start c = c .before .before .before .before .before .before .before .before .before
+-- Where the function starts, before what the element means; where the use that was found stands in the count; that it is good; and that there is room.
+abbrev start : tie.After-use-of → tie.Start
+start c = c .before .before .before .before .before .before .before
 
-number : (c : tie.After-u) → (let d = c .before .before .before .before .before in start c .args .d ≡ Uses (d .d2 .given .0 .0))
-number c = c .before .before .before .before .before .d2 .given .1
+abbrev asked : tie.After-is-written → tie.After-use-of
+asked c = c .before .before .before .before
 
-means : (c : tie.After-u) → Means (entries-of (start c .args .t .now)) (start c .args .last .now) (start c .args .e) (As (c .u .given .0 .0))
-means c = means-as (c .u .given .1) (c .before .before .use-of .ensures)
+number : (c : tie.After-use-of) → (let d = c .before .before .before in start c .args .d ≡ Uses (d .d2 .given .0 .0))
+number c = c .before .before .before .d2 .given .1
 
-room : (c : tie.After-u) → (let d = c .before .before .before .before .before in 10 * (d .d2 .given .0 .0) + 10 ≤ length (start c .args .kept .now))
+abbrev used : tie.After-is-written → Use
+used c = c .before .before .meant2 .given .0 .0
+
+held : (c : tie.After-is-written) → (let s = start (asked c) in Good-use (entries-of (s .args .t .now)) (s .pre .3 .0) (used c))
+held c = let s = start (asked c) in use-held _ (asked c .use-of .ensures) _ (c .before .before .meant2 .given .1) (s .pre .3 .0) (s .pre .3 .1)
+
+room : (c : tie.After-use-of) → (let d = c .before .before .before in 10 * (d .d2 .given .0 .0) + 10 ≤ length (start c .args .kept .now))
 room c = subst (λ (d : Decoded). 10 * uses-so-far d + 10 ≤ length (start c .args .kept .now)) (number c) (start c .pre .2)
 
 enum-known-d : tie.Need-enum-known-d
@@ -39,44 +45,53 @@ enum-known-d-2 c = search needs
 use-of-requires : tie.Need-use-of-requires
 use-of-requires c κs = search needs
 
-enum-known-x : tie.Need-enum-known-x
-enum-known-x c = search needs
+enum-known-meant : tie.Need-enum-known-meant
+enum-known-meant c = search needs
 
-enum-known-u : tie.Need-enum-known-u
-enum-known-u c = search needs
+enum-known-meant-2 : tie.Need-enum-known-meant-2
+enum-known-meant-2 c = search needs
+
+is-written-requires : tie.Need-is-written-requires
+is-written-requires c κs = search needs
 
 remember-requires : tie.Need-remember-requires
 remember-requires c κs =
-    let u = c .before .before in
-    let s = start u in
-    let f = s .pre .3 in
-    (s .pre .0, span-known (entries-of (s .args .t .now)) (f .0) (u .u .given .0 .0) (means u .held (f .0) (f .1)), s .pre .1)
+    let w = c .before .before in
+    let s = start (asked w) in
+    (s .pre .0, span-known (entries-of (s .args .t .now)) (s .pre .3 .0) (used w) (held w), s .pre .1)
 
 put-requires : tie.Need-put-requires
 put-requires c κs =
-    let u = c .before .before .before .before in
-    let s = start u in
-    let f = s .pre .3 in
-    (room u, use-small (entries-of (s .args .t .now)) (valid-most (s .args .t .now) (s .pre .0)) (f .0) (f .2) (u .u .given .0 .0) (means u .held (f .0) (f .1)))
+    let w = c .before .before .before .before in
+    let s = start (asked w) in
+    (room (asked w), use-small (entries-of (s .args .t .now)) (valid-most (s .args .t .now) (s .pre .0)) (s .pre .3 .0) (s .pre .3 .2) (used w) (held w))
 
-add-t18 : tie.Need-add-t18
-add-t18 c = let u = c .before .before .before .before .before .before .before in let h = room u in omega arith
-
-returns : tie.Need-returns
-returns c = keeps-as (c .before .d .given .1) (keeps-passed _ _)
-
-returns-2 : tie.Need-returns-2
-returns-2 c = let x = c .before in keeps-as (x .before .before .before .before .before .d2 .given .1) (keeps-refused _ _ _ (means-as (x .x .given .1) (x .before .before .use-of .ensures)))
+add-t20 : tie.Need-add-t20
+add-t20 c =
+    let h = room (asked (c .before .before .before .before .before .before .before)) in omega arith
 
 same-length : tie.Need-same-length
 same-length c = search needs
 
-returns-3 : tie.Need-returns-3
-returns-3 c =
+returns : tie.Need-returns
+returns c =
     let p = c .before .before in
     let r = p .before .before in
-    let u = r .before .before .before in
-    keeps-as (number u) (keeps-use _ _ _ (room u) (means u) (r .remember .ensures) (p .put .ensures))
+    let w = r .before .before .before in
+    let u = asked w in
+    keeps-as (number u) (keeps-use _ (u .use-of .ensures) _ (w .before .before .meant2 .given .1) _ _ (room u) (sym (w .is-written .ensures) ∙ r .before .before .if1 .taken) (r .remember .ensures) (p .put .ensures))
+
+returns-2 : tie.Need-returns-2
+returns-2 c = keeps-as (c .before .d .given .1) (keeps-passed _ _)
+
+returns-3 : tie.Need-returns-3
+returns-3 c = let u = c .before .before .before in keeps-as (number u) (keeps-refused _ (u .use-of .ensures) _ _ _ (c .before .meant .given .1))
+
+returns-4 : tie.Need-returns-4
+returns-4 c =
+    let w = c .before in
+    let u = asked w in
+    keeps-as (number u) (keeps-last _ (u .use-of .ensures) _ (w .before .before .meant2 .given .1) _ _ (sym (w .is-written .ensures) ∙ c .if1 .left))
 
 pub keep-element-spec : {M : Type 1} → statement M
 keep-element-spec =
@@ -85,12 +100,14 @@ keep-element-spec =
     enum-known-d
     enum-known-d-2
     use-of-requires
-    enum-known-x
-    enum-known-u
+    enum-known-meant
+    enum-known-meant-2
+    is-written-requires
     remember-requires
     put-requires
-    add-t18
+    add-t20
+    same-length
     returns
     returns-2
-    same-length
-    returns-3)
+    returns-3
+    returns-4)

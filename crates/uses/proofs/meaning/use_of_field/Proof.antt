@@ -11,7 +11,7 @@ use Rattle.value_formats.specs.Formats.{format-at}
 use Rattle.uses.specs.Spread.{spread-of, occurrences, bracket}
 use Rattle.uses.specs.Effect.{asked-at, known-format, length-given, letter-given}
 use Rattle.uses.proofs.Fields.{multiple-at, size-at, format-of-field}
-use Rattle.uses.proofs.Settling.{refuse, field-as, field-astray, field-unfit}
+use Rattle.uses.proofs.Settling.{refuse-entry, field-as, field-astray, field-unfit}
 use borrow.Author.Needs.{needs}
 use Rattle.uses.proofs.meaning.use_of_field.Statement.{statement}
 use Rattle.uses.proofs.meaning.use_of_field.Tie as tie
@@ -92,7 +92,7 @@ returns-2 : tie.Need-returns-2
 returns-2 c =
     let k = c .before .before .before .before .before in
     let s = start (ranges k) in
-    refuse _ _ (field-unfit (field-at (entries-of (s .args .t .now)) (s .args .i)) _ _ _ _ _ _ _
+    refuse-entry _ _ _ (field-unfit (field-at (entries-of (s .args .t .now)) (s .args .i)) _ _ _ _ _ _ _
     (sym (spread-known (ranges k)) ∙ ap spread-of (c .before .before .before .s .given .1))
     (sym (asked-known k) ∙ ap (asked-at (field-at (entries-of (s .args .t .now)) (s .args .i))) (c .enum-told .given .1)))
 
@@ -100,7 +100,7 @@ returns-3 : tie.Need-returns-3
 returns-3 c =
     let r = ranges (c .before .before) in
     let s = start r in
-    refuse _ _ (field-astray (field-at (entries-of (s .args .t .now)) (s .args .i)) _ _ _ _ _ _ (sym (spread-known r) ∙ ap spread-of (c .enum-told2 .given .1)))
+    refuse-entry _ _ _ (field-astray (field-at (entries-of (s .args .t .now)) (s .args .i)) _ _ _ _ _ _ (sym (spread-known r) ∙ ap spread-of (c .enum-told2 .given .1)))
 
 pub use-of-field-spec : {M : Type 1} → statement M
 use-of-field-spec =

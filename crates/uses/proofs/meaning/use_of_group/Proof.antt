@@ -12,7 +12,7 @@ use Rattle.tables.specs.Entries.{entries-of, blank}
 use Rattle.tables.specs.Places.{found-at, inside-at}
 use Rattle.tables.proofs.Tables.{valid-most}
 use Rattle.uses.specs.Spread.{spread-of, occurrences, bracket}
-use Rattle.uses.proofs.Settling.{refuse, group-sized, group-lettered, group-unnamed, group-astray, group-as}
+use Rattle.uses.proofs.Settling.{refuse-entry, group-sized, group-lettered, group-unnamed, group-astray, group-as}
 use borrow.Author.Needs.{needs}
 use Rattle.uses.proofs.meaning.use_of_group.Statement.{statement}
 use Rattle.uses.proofs.meaning.use_of_group.Tie as tie
@@ -31,10 +31,10 @@ spread-known : (c : tie.After-spread)
 spread-known c = rw (← c .before .inside .ensures) (c .spread .ensures)
 
 returns : tie.Need-returns
-returns c = refuse _ _ (rw (c .if1 .taken) (group-sized _ _ _ _ _))
+returns c = refuse-entry _ _ _ (rw (c .if1 .taken) (group-sized _ _ _ _ _))
 
 returns-2 : tie.Need-returns-2
-returns-2 c = refuse _ _ (rw (c .before .if1 .left, c .if2 .taken) (group-lettered _ _ _ _))
+returns-2 c = refuse-entry _ _ _ (rw (c .before .if1 .left, c .if2 .taken) (group-lettered _ _ _ _))
 
 plain-group-requires : tie.Need-plain-group-requires
 plain-group-requires c κs = search needs
@@ -71,14 +71,14 @@ returns-3 c =
 returns-4 : tie.Need-returns-4
 unfolding found-at
 returns-4 c =
-    refuse _ _ (rw (c .before .before .before .before .before .before .before .if1 .left, c .before .before .before .before .before .before .if2 .left)
+    refuse-entry _ _ _ (rw (c .before .before .before .before .before .before .before .if1 .left, c .before .before .before .before .before .before .if2 .left)
     (group-astray (found-at _ _) _ _ (all-plain (c .before .before .before .before)) (sym (spread-known (c .before .before)) ∙ ap spread-of (c .enum-told .given .1))))
 
 returns-5 : tie.Need-returns-5
 unfolding found-at
 returns-5 c =
     let s = c .before .before .before .before .before in
-    refuse _ _ (rw (c .before .before .before .if1 .left, c .before .before .if2 .left)
+    refuse-entry _ _ _ (rw (c .before .before .before .if1 .left, c .before .before .if2 .left)
     (group-unnamed (found-at (entries-of (s .args .t .now)) (s .args .i)) _ _ (rw (add-one (s .args .i)) at (sym (c .before .plain-group .ensures) ∙ c .if3 .left))))
 
 pub use-of-group-spec : {M : Type 1} → statement M
