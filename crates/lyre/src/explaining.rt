@@ -6,6 +6,7 @@ use crate::meanings;
 use crate::meanings::Told;
 use crate::plain;
 use crate::refusals;
+use crate::spans_shown;
 use uses::INDEXES;
 use uses::Index;
 use uses::Use;
@@ -63,13 +64,13 @@ fn say_use(t: &[u8], record: &[u8], f: &[u8], u: Use, m: Manner)
             say_text(f, from, upto);
         }
         Use::GroupCount(i) => {
-            listing::say_count_meant(t, record, i, 1, m);
+            spans_shown::say_count_meant(t, record, i, 1, m);
         }
         Use::ValueCount(i, o) => {
-            listing::say_count_meant(t, record, i, o, m);
+            spans_shown::say_count_meant(t, record, i, o, m);
         }
         Use::Values(s) => {
-            listing::say_span(t, record, s, m);
+            spans_shown::say_span(t, record, s, m);
         }
     }
 }

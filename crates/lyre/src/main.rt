@@ -11,6 +11,7 @@ mod meanings;
 mod plain;
 mod refusals;
 mod saving;
+mod spans_shown;
 mod tables_shown;
 mod values_shown;
 mod words;

@@ -12,6 +12,7 @@ ghost use Rattle.reading.specs.Spans.{Fills-by};
 ghost use Rattle.reading.specs.Scan.{meaning-items, filled-upto, answer-of, element-refused, progress-after, Puts-element, Scans};
 
 mod cells;
+mod meant;
 mod spans;
 
 use filling::Next;
@@ -53,12 +54,12 @@ fn put_use(
             filling::put_count(count as u8, out, at, end, write)
         }
         Use::ValueCount(i, k) => {
-            let o = spans::occurrence_meant(t, b, places, i, k, scopes.occurrences);
+            let o = meant::occurrence_meant(t, b, places, i, k, scopes.occurrences);
             let count = records::places::value_count(t, b, places, i, o);
             filling::put_count(count as u8, out, at, end, write)
         }
         Use::Values(s) => {
-            let meant = spans::occurrences_meant(t, b, places, s, scopes.occurrences);
+            let meant = meant::occurrences_meant(t, b, places, s, scopes.occurrences);
             if meant.upto < meant.from {
                 return Next::At(at);
             }

@@ -2,33 +2,28 @@
 ghost use mathlib.Core.Path.{_≡_};
 ghost use mathlib.Core.List.{map};
 ghost use mathlib.Core.Bool.{true, false};
-ghost use Prim.Native.Nat.{ℕ, _+_, _-_, _≤_, _<_, min};
-ghost use lib.ListN.{length, take, getD};
+ghost use Prim.Native.Nat.{_+_, _-_, _≤_, _<_, min};
+ghost use lib.ListN.{length, take};
 ghost use lib.Seq.{slice};
 ghost use Rattle.rules.specs.Limits.{highest-index, most-entries};
 ghost use Rattle.rules.specs.Lists.{all};
 ghost use Rattle.rules.specs.Use.{plain};
-ghost use Rattle.rules.specs.Table.{parts};
-ghost use Rattle.rules.specs.Record.{Record, group-count-at};
-ghost use Rattle.tables.specs.Entries.{Valid, entries-of, blank, is-multiple};
-ghost use Rattle.tables.specs.Places.{inside-at, Home};
-ghost use Rattle.format_buffer.specs.Elements.{written-scope, last-scope};
+ghost use Rattle.rules.specs.Record.{Record};
+ghost use Rattle.tables.specs.Entries.{Valid, entries-of};
+ghost use Rattle.tables.specs.Places.{inside-at};
 ghost use Rattle.tables.specs.Groups.{field-at, fields-in};
 ghost use Rattle.uses.specs.Meant.{Good-span, fields-from};
 ghost use Rattle.records.specs.Paths.{Wide, Leads};
 ghost use Rattle.records.specs.Places.{Is-record, Has-record, Piece-of};
 ghost use Rattle.filling.specs.Filling.{Roomy, Filling, together};
-ghost use Rattle.reading.specs.Spans.{Fills, Fills-by, Fields-numbered, nulls-of, occurrence-items, span-items, scoped-items, Scoped-values, Meant-span, Occurrence-meant, Way, occurrences-items, Adjacent};
+ghost use Rattle.reading.specs.Spans.{Fills, Fills-by, Fields-numbered, nulls-of, occurrence-items, span-items, scoped-items, Scoped-values, Way, occurrences-items, Adjacent};
 use super::cells;
 use filling::Next;
-use format_buffer::AS_WRITTEN;
 use records::paths::Path;
 use records::places::Extent;
 use rules::MOST_ENTRIES;
 use tables::Found;
 use uses::Span;
-use uses::scopes::resolved_from;
-use uses::scopes::resolved_upto;
 
 // The width of a span's fields together, where all are of fixed length and none is MU; otherwise it means nothing.
 fn width(t: &[u8], s: Span) -> usize
@@ -295,55 +290,4 @@ pub fn put_span(
         return put_occurrences(t, b, places, s, out, at, end, write);
     }
     put_column(t, b, places, s, scope, out, at, end, write)
-}
-
-// How many occurrences are stored of the periodic group in which entry i lies.
-fn occurrences_stored(t: &[u8], b: &[u8], places: &[u16; records::DIRECTORY], i: usize) -> usize
-    requires { ⌜ Valid (now t) × (i < length (entries-of (now t))) × Has-record (entries-of (now t)) (now b) (now places) ⌝ }
-    ensures { λ n. ⌜ (n ≤ highest-index) × ((g : ℕ) → Home (entries-of (now (t .entry))) i g → (r : Record) → Is-record (entries-of (now (t .entry))) (now (b .entry)) (now (places .entry)) r → n ≡ group-count-at (parts (entries-of (now (t .entry)))) r (getD (entries-of (now (t .entry))) g blank .name)) ⌝ }
-{
-    let home = tables::periodic_group(t, i);
-    match home {
-        Found::At(g) => records::places::group_count(t, b, places, g),
-        Found::Nothing => 0,
-    }
-}
-
-// The occurrence o of entry i, an MU field, or the last one.
-pub fn occurrence_meant(
-    t: &[u8],
-    b: &[u8],
-    places: &[u16; records::DIRECTORY],
-    i: usize,
-    o: usize,
-    scope: u8,
-) -> usize
-    requires { ⌜ Valid (now t) × (i < length (entries-of (now t))) × (is-multiple (getD (entries-of (now t)) i blank .what) ≡ true) × (1 ≤ o) × (inside-at (entries-of (now t)) i ≡ false → o ≡ 1) × ((scope ≡ written-scope → ⊥) → inside-at (entries-of (now t)) i ≡ true) × (scope ≤ last-scope) × Has-record (entries-of (now t)) (now b) (now places) ⌝ }
-    ensures { λ k. ⌜ Occurrence-meant (entries-of (now (t .entry))) (now (b .entry)) (now (places .entry)) i o scope k ⌝ }
-{
-    if scope == AS_WRITTEN {
-        return o;
-    }
-    resolved_upto(scope, o, o, occurrences_stored(t, b, places, i))
-}
-
-// A span with the occurrences that are meant, by how far they reach.
-pub fn occurrences_meant(
-    t: &[u8],
-    b: &[u8],
-    places: &[u16; records::DIRECTORY],
-    s: Span,
-    scope: u8,
-) -> Span
-    requires { ⌜ Valid (now t) × Good-span (entries-of (now t)) s × ((scope ≡ written-scope → ⊥) → inside-at (entries-of (now t)) (s .first) ≡ true) × Has-record (entries-of (now t)) (now b) (now places) ⌝ }
-    ensures { λ x. ⌜ Meant-span (entries-of (now (t .entry))) (now (b .entry)) (now (places .entry)) s scope x ⌝ }
-{
-    if scope == AS_WRITTEN {
-        return s;
-    }
-    let n = occurrences_stored(t, b, places, s.first);
-    let mut meant = s;
-    meant.from = resolved_from(scope, s.from, s.upto, n);
-    meant.upto = resolved_upto(scope, s.from, s.upto, n);
-    meant
 }

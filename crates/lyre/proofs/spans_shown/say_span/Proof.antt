@@ -1,8 +1,8 @@
--- `lyre::listing::say_span` is safe: its first entry is one of the table's.
+-- `lyre::spans_shown::say_span` is safe: its first entry is one of the table's.
 use borrow.Author.Needs.{needs}
 use native.Mathlib.Omega.{arith}
-use Rattle.lyre.proofs.listing.say_span.Statement.{statement}
-use Rattle.lyre.proofs.listing.say_span.Tie as tie
+use Rattle.lyre.proofs.spans_shown.say_span.Statement.{statement}
+use Rattle.lyre.proofs.spans_shown.say_span.Tie as tie
 
 span-meant-requires : tie.Need-span-meant-requires
 span-meant-requires c κs = (search needs, omega arith)

@@ -1,8 +1,8 @@
--- `reading::spans::occurrences_meant` meets its contract: with N the occurrences are those of the periodic group in which the span lies.
+-- `reading::meant::occurrences_meant` meets its contract: with N the occurrences are those of the periodic group in which the span lies.
 use Rattle.reading.proofs.Reaching.{meant-written, meant-last}
 use borrow.Author.Needs.{needs}
-use Rattle.reading.proofs.spans.occurrences_meant.Statement.{statement}
-use Rattle.reading.proofs.spans.occurrences_meant.Tie as tie
+use Rattle.reading.proofs.meant.occurrences_meant.Statement.{statement}
+use Rattle.reading.proofs.meant.occurrences_meant.Tie as tie
 
 returns : tie.Need-returns
 returns c =

@@ -1,4 +1,4 @@
--- `reading::spans::occurrences_stored` meets its contract: an entry lies in one periodic group alone, and the count of that is no more than an index can be.
+-- `reading::meant::occurrences_stored` meets its contract: an entry lies in one periodic group alone, and the count of that is no more than an index can be.
 use mathlib.Core.Path.{sym, _∙_, ap, subst}
 use mathlib.Core.Bool.{false≢true}
 use Prim.Native.Nat.{ℕ}
@@ -11,8 +11,8 @@ use Rattle.tables.specs.Places.{Home, Homes}
 use Rattle.tables.proofs.Tables.{valid-names}
 use Rattle.records.proofs.Placed.{one-home, count-most}
 use borrow.Author.Needs.{needs}
-use Rattle.reading.proofs.spans.occurrences_stored.Statement.{statement}
-use Rattle.reading.proofs.spans.occurrences_stored.Tie as tie
+use Rattle.reading.proofs.meant.occurrences_stored.Statement.{statement}
+use Rattle.reading.proofs.meant.occurrences_stored.Tie as tie
 
 -- Where the function starts, and the group that is found.
 abbrev start : tie.After-home → tie.Start

@@ -1,8 +1,8 @@
--- `lyre::listing::say_field` is safe and ends.
+-- `lyre::spans_shown::say_field` is safe and ends.
 use borrow.Author.Needs.{needs}
 use Prim.Native.Nat.{_≤_, _-_}
-use Rattle.lyre.proofs.listing.say_field.Statement.{statement}
-use Rattle.lyre.proofs.listing.say_field.Tie as tie
+use Rattle.lyre.proofs.spans_shown.say_field.Statement.{statement}
+use Rattle.lyre.proofs.spans_shown.say_field.Tie as tie
 
 abbrev Inv-loop : tie.InvT-loop
 Inv-loop t «record» i s m from upto o₀ o = Unit {0}

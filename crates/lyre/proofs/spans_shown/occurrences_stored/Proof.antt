@@ -1,11 +1,11 @@
--- `lyre::listing::occurrences_stored` is safe: the periodic group in which an entry lies stands before it.
+-- `lyre::spans_shown::occurrences_stored` is safe: the periodic group in which an entry lies stands before it.
 use mathlib.Core.Path.{subst}
 use native.Mathlib.Omega.{arith}
 use Rattle.tables.specs.Entries.{entries-of}
 use Rattle.tables.specs.Places.{Homes}
 use borrow.Author.Needs.{needs}
-use Rattle.lyre.proofs.listing.occurrences_stored.Statement.{statement}
-use Rattle.lyre.proofs.listing.occurrences_stored.Tie as tie
+use Rattle.lyre.proofs.spans_shown.occurrences_stored.Statement.{statement}
+use Rattle.lyre.proofs.spans_shown.occurrences_stored.Tie as tie
 
 count-requires : tie.Need-count-requires
 count-requires c κs =

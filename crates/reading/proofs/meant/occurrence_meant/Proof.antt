@@ -1,8 +1,8 @@
--- `reading::spans::occurrence_meant` meets its contract: with N it is the last of the periodic group that holds the entry, or 1.
+-- `reading::meant::occurrence_meant` meets its contract: with N it is the last of the periodic group that holds the entry, or 1.
 use Rattle.reading.proofs.Reaching.{occurrence-written, occurrence-last}
 use borrow.Author.Needs.{needs}
-use Rattle.reading.proofs.spans.occurrence_meant.Statement.{statement}
-use Rattle.reading.proofs.spans.occurrence_meant.Tie as tie
+use Rattle.reading.proofs.meant.occurrence_meant.Statement.{statement}
+use Rattle.reading.proofs.meant.occurrence_meant.Tie as tie
 
 returns : tie.Need-returns
 returns c =
