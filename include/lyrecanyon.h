@@ -1,6 +1,7 @@
 // Lyrecanyon: stored records, read and updated by format buffers. C99 and later, and C++. Link with liblyrecanyon.a (x86-64).
-// What tables, records and formats are, and when each number is returned, are the rules of document 01, in crates/rules/specs; a format of a
-// read may also have N, the last occurrence or value, as document 02 (M-100) says.
+// What tables, records and formats are, and when each number is returned, are the rules of document 01, in crates/rules/specs, with two
+// requests of document 02: a format of a read may have N, the last occurrence or value (M-100), and a packed or unpacked value of an update
+// may have any of the signs A, C, E and F for plus and B and D for minus, of which F and D are stored (M-101).
 //
 // Every call takes all inputs, ends, and does nothing undefined: no byte of a lent slice has to be checked before. Each returns a number:
 // LYRECANYON_DONE, or the number of a refusal. A refusal changes no byte of the slices; done writes as many bytes as the length used says,
@@ -17,10 +18,10 @@
 #include <stddef.h>
 #include <stdint.h>
 
-// The minor version rises with each function, number or form of a format that is added. A function keeps its parameters, and a number its meaning, for as long
-// as the major version stays.
+// The minor version rises with each function, number, form of a format or of a value that is added. A function keeps its parameters, and a
+// number its meaning, for as long as the major version stays.
 #define LYRECANYON_VERSION_MAJOR 1
-#define LYRECANYON_VERSION_MINOR 1
+#define LYRECANYON_VERSION_MINOR 2
 
 // The longest that a record and the answer of a read can be: slices of these lengths have room for every one.
 #define LYRECANYON_LONGEST_RECORD 4096

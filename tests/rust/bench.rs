@@ -1,5 +1,7 @@
-//! Times calls: both services are timed on each in turn, in one run.
+//! Times calls: both services are timed on each in turn, in one run. With the word `names` it prints the names of the rows, and with
+//! `once` it has the proved services answer each of them once, between marks that `tests/instructions` finds in the emulator's trace.
 
+use std::env;
 use std::time::{Duration, Instant};
 
 #[allow(dead_code)]
@@ -28,8 +30,32 @@ fn rust(call: &Call, lent: &mut [u8]) -> (u8, usize) {
     }
 }
 
-/// Times of a call in nanoseconds, by the Rust service and by the proved one, and the second as a multiple of the first.
 fn main() {
+    let words: Vec<String> = env::args().skip(1).collect();
+    match &words[..] {
+        [] => print_times(),
+        [word] if word == "names" => rows::rows().iter().for_each(|call| println!("{}", call.row)),
+        [word] if word == "once" => rows::rows().iter().for_each(once),
+        _ => panic!("bench [names | once]"),
+    }
+}
+
+fn once(call: &Call) {
+    let mut lent = vec![0; call.lent];
+    mark();
+    proved(call, &mut lent);
+    mark();
+}
+
+/// Does nothing, where the trace shows it by its name.
+#[no_mangle]
+#[inline(never)]
+pub extern "C" fn mark() {
+    unsafe { std::ptr::read_volatile(&0u8) };
+}
+
+/// Times of a call in nanoseconds, by the Rust service and by the proved one, and the second as a multiple of the first.
+fn print_times() {
     println!("| call | number | length | Rust, ns | proved, ns | times |");
     println!("|---|---|---|---|---|---|");
     for call in rows::rows() {

@@ -1,5 +1,5 @@
 //! Writes random calls: `generate SEED COUNT calls`, or chains of updates: `generate SEED COUNT chains`, or histories:
-//! `generate SEED COUNT histories`.
+//! `generate SEED COUNT histories`, or rounds of every sign at every length: `generate SEED COUNT signs`.
 //!
 //! Calls come in stories. A story has one table and one record; what an accepted update gives is mostly the record of the
 //! next call. Most calls are good ones, each of the others is made to be refused by one number, and some meet another
@@ -12,6 +12,7 @@ use std::io::{self, BufWriter, Write};
 use std::process::exit;
 
 mod service;
+mod signs;
 
 const MOST_RECORD: usize = 4096;
 const MOST_FORMAT: usize = 2048;
@@ -38,13 +39,14 @@ fn main() -> io::Result<()> {
         "calls" => write_calls(&mut random, count, &mut out)?,
         "chains" => write_chains(&mut random, count, &mut out)?,
         "histories" => write_histories(&mut random, count, &mut out)?,
+        "signs" => signs::write_signs(&mut random, count, &mut out)?,
         _ => usage(),
     }
     out.flush()
 }
 
 fn usage() -> ! {
-    eprintln!("generate SEED COUNT calls|chains|histories");
+    eprintln!("generate SEED COUNT calls|chains|histories|signs");
     exit(2);
 }
 
@@ -415,8 +417,7 @@ fn make_value(random: &mut Random, form: Form, fit: Form, loose: bool) -> Vec<u8
 
 fn put_number(random: &mut Random, form: Form, magnitude: u128, negative: bool, loose: bool) -> Vec<u8> {
     let length = usize::from(form.length);
-    let plus = if loose && random.chance(30) { 0xC } else { 0xF };
-    let sign = if negative { 0xD } else { plus };
+    let sign = make_sign(random, negative, loose);
     let digit = |right: usize| (magnitude / 10u128.pow(right as u32) % 10) as u8;
     match form.format {
         b'B' => {
@@ -434,6 +435,22 @@ fn put_number(random: &mut Random, form: Form, magnitude: u128, negative: bool, 
         }
         _ => (0..length).rev().map(|back| if back == 0 { sign << 4 | digit(0) } else { 0xF0 | digit(back) }).collect(),
     }
+}
+
+/// The sign of a number in normal form; a loose one is any that an incoming value may have.
+fn make_sign(random: &mut Random, negative: bool, loose: bool) -> u8 {
+    match (negative, loose) {
+        (false, false) => 0xF,
+        (true, false) => 0xD,
+        (false, true) => random.pick(&[0xA, 0xC, 0xE, 0xF, 0xF]),
+        (true, true) => random.pick(&[0xB, 0xD]),
+    }
+}
+
+/// Sets the half byte of a P or U value that is its sign.
+fn put_sign(form: Form, sign: u8, value: &mut [u8]) {
+    let last = value.len() - 1;
+    value[last] = if form.format == b'P' { value[last] & 0xF0 | sign } else { value[last] & 0x0F | sign << 4 };
 }
 
 fn make_text(random: &mut Random, form: Form, fit: Form, loose: bool) -> Vec<u8> {
@@ -461,9 +478,9 @@ fn make_bad(random: &mut Random, form: Form, value: &mut [u8]) {
     let half = random.between(0xA, 0xE) as u8;
     match form.format {
         b'A' if form.length == 0 => value[0] = random.pick(&[0, 255]),
-        b'P' if random.chance(50) => value[last] = value[last] & 0xF0 | random.pick(&[0, 9, 0xA, 0xB, 0xE]),
+        b'P' | b'U' if random.chance(40) => put_sign(form, random.below(10) as u8, value),
         b'P' => value[random.below(last + 1)] |= half << 4,
-        b'U' if random.chance(50) => value[random.below(last + 1)] = random.pick(&[0x05, 0xA5, 0xB5, 0xE5, 0x40]),
+        b'U' if last > 0 && random.chance(50) => value[random.below(last)] = random.pick(&[0x05, 0xA5, 0xB5, 0xE5, 0x40]),
         b'U' => value[random.below(last + 1)] |= half,
         _ => {}
     }
@@ -543,14 +560,52 @@ fn fill_record(random: &mut Random, last: &Entry, at: usize, record: &mut Vec<u8
     }
 }
 
-fn bad_record(random: &mut Random, record: &[u8]) -> Vec<u8> {
+/// The ends of the P and U values of a record, with their forms. It may be a record of another table, and its bytes run out.
+fn decimals_of(table: &[Entry], record: &[u8]) -> Vec<(usize, Form)> {
+    let (mut at, mut part, mut found) = (5, 0, Vec::new());
+    let byte = |at: usize| record.get(at).copied().unwrap_or(0);
+    let counted = |at: &mut usize| {
+        *at += 1;
+        byte(*at - 1)
+    };
+    while part < table.len() {
+        let (end, count) = match table[part].is_periodic() {
+            true => (table[part].end, counted(&mut at)),
+            false => (part + 1, 1),
+        };
+        let fields = table[part..end].iter().filter(|entry| !entry.is_group());
+        for field in (0..count).flat_map(|_| fields.clone()) {
+            let values = if field.is_multiple() { counted(&mut at) } else { 1 };
+            for _ in 0..values {
+                at += usize::from(if field.is_variable() { byte(at) } else { field.length });
+                if at <= record.len() && matches!(field.format, b'P' | b'U') {
+                    found.push((at, field.form()));
+                }
+            }
+        }
+        part = end;
+    }
+    found
+}
+
+/// Gives a P or U value of a record some half byte as its sign.
+fn sign_otherwise(random: &mut Random, table: &[Entry], record: &mut [u8]) {
+    let decimals = decimals_of(table, record);
+    if !decimals.is_empty() {
+        let (end, form) = random.pick(&decimals);
+        put_sign(form, random.below(16) as u8, &mut record[..end]);
+    }
+}
+
+fn bad_record(random: &mut Random, table: &[Entry], record: &[u8]) -> Vec<u8> {
     let mut bytes = record.to_vec();
-    match random.below(8) {
+    match random.below(10) {
         0 => bytes.push(random.pick(&[0, 1, SPACE])),
         1 => drop(bytes.pop()),
         2 => bytes[random.below(5)] ^= 1,
         3 if random.chance(10) => bytes.resize(random.pick(&[4097, 5000]), 0),
         4 => bytes.truncate(random.below(record.len())),
+        5 | 6 => sign_otherwise(random, table, &mut bytes),
         _ => {
             let at = random.between(0, record.len() - 1);
             bytes[at] = random.pick(&[0, 1, 2, 192, 255, 0x0C, 0x0D, 0xF0, 0xC0, 0xD0, 0xFA, 0xA5, SPACE]);
@@ -1005,7 +1060,7 @@ impl Story {
     fn lend(&self, random: &mut Random, plan: Plan, elements: &[Element]) -> (Vec<u8>, Vec<u8>, Vec<u8>) {
         let table = if plan == Plan::Table { bad_table(random, &self.table) } else { table_bytes(&self.table) };
         let record = match plan {
-            Plan::Record if !self.record.is_empty() => bad_record(random, &self.record),
+            Plan::Record if !self.record.is_empty() => bad_record(random, &self.table, &self.record),
             _ => self.record.clone(),
         };
         let mut format = write_format(random, elements);

@@ -344,7 +344,15 @@ fn sign(value: &[u8], format: Format) -> Option<u8> {
 }
 
 fn is_value(value: &[u8], form: Form) -> bool {
-    !form.is_decimal() || matches!(sign(value, form.format), Some(0xC) | Some(0xD) | Some(0xF))
+    !form.is_decimal() || sign(value, form.format).map_or(false, |sign| is_plus(sign) || is_minus(sign))
+}
+
+fn is_plus(sign: u8) -> bool {
+    matches!(sign, 0xA | 0xC | 0xE | 0xF)
+}
+
+fn is_minus(sign: u8) -> bool {
+    matches!(sign, 0xB | 0xD)
 }
 
 fn is_normal_decimal(value: &[u8], format: Format) -> bool {
@@ -360,7 +368,7 @@ fn is_negative(value: &[u8], format: Format) -> bool {
     let last = value[value.len() - 1];
     let (sign, digit, zero) =
         if format == Format::P { (last & 15, last >> 4, 0) } else { (last >> 4, last & 15, 0xF0) };
-    sign == 0xD && (digit != 0 || value[..value.len() - 1].iter().any(|&byte| byte != zero))
+    is_minus(sign) && (digit != 0 || value[..value.len() - 1].iter().any(|&byte| byte != zero))
 }
 
 /// The digit of a decimal value that has so many digits to its right.

@@ -1,7 +1,8 @@
 -- The normal form of P and U: when a number fits, its bytes, when a value is in it, and a value converted to it.
 use mathlib.Core.Path.{_≡_, refl, sym, _∙_, ap}
-use mathlib.Core.Bool.{Bool, true, false, and-true}
+use mathlib.Core.Bool.{Bool, true, false, and-true, false≢true}
 use mathlib.Core.List.{List, [], _∷_, _++_}
+use mathlib.Core.Logic.{_⊎_, inl, inr}
 use Prim.Native.Nat.{ℕ, zero, suc, _+_, _-_, _*_, _^_, _≤_, _<_}
 use native.Mathlib.Omega.{arith}
 use lib.Dec.{eqb, ltb}
@@ -16,8 +17,8 @@ use Rattle.rules.specs.Values.{Format, Value, number, pairs, zoned, meaning, si
 use Rattle.rules.proofs.Steps.{by-test, eqb-same}
 use Rattle.rules.proofs.Done.{is-done-need, no-length-byte}
 use Rattle.rules.proofs.Digits.{spelled-below, own-digits}
-use Rattle.fixed.proofs.NormalForm.{compares}
-use Rattle.decimals.specs.Decimals.{decimal-format, digits-of, sign-half, magnitude-of, is-minus, Readable, places, encoded, written}
+use Rattle.fixed.proofs.NormalForm.{compares, no-form}
+use Rattle.decimals.specs.Decimals.{decimal-format, digits-of, sign-half, magnitude-of, is-negative, Readable, places, encoded, written}
 use Rattle.decimals.proofs.Halves.{length-digits-of}
 use Rattle.decimals.proofs.Sound.{Sound, sound, readable, below-ten}
 
@@ -75,22 +76,34 @@ every-value false false w = refl
 
 module _ {p : Bool} {bs : Bytes} (v : Sound p bs) where
   -- a value is in normal form where its sign is the one that is written
-  pub form-sign : in-normal-form (decimal-format p) (length bs) bs ≡ eqb (sign-written (is-minus p bs)) (sign-half p bs)
+  pub form-sign : in-normal-form (decimal-format p) (length bs) bs ≡ eqb (sign-written (is-negative p bs)) (sign-half p bs)
   unfolding magnitude-of written
   form-sign =
       let ten = below-ten p bs (v .nines) in
       let l = length-digits-of p bs in
       let h = rw l at (spelled-below 10 (digits-of p bs) ten) in
       let d = rw l at (own-digits 10 (digits-of p bs) ten) in
-      compares (decimal-format p) (length bs) bs {b = written p (length bs) (is-minus p bs) (magnitude-of p bs)} (rw (v .means) (normal-done p (length bs) (is-minus p bs) (magnitude-of p bs) (lt-ltb _ _ h)))
+      compares (decimal-format p) (length bs) bs {b = written p (length bs) (is-negative p bs) (magnitude-of p bs)} (rw (v .means) (normal-done p (length bs) (is-negative p bs) (magnitude-of p bs) (lt-ltb _ _ h)))
       ∙ rw (no-length-byte (length bs) bs (v .some), d)
-      (ap (λ b. same (encoded p (digits-of p bs) (sign-written (is-minus p bs))) b) (sym (v .whole))
+      (ap (λ b. same (encoded p (digits-of p bs) (sign-written (is-negative p bs))) b) (sym (v .whole))
       ∙ same-encoded p (length bs) (digits-of p bs) _ _ (v .some) l)
 
   -- a value converted between P and U is its number in normal form there
-  pub converted-is : (q : Bool) (n : ℕ) → converted-bytes (decimal-format p) (decimal-format q) n bs ≡ normal (decimal-format q) n (number (is-minus p bs) (magnitude-of p bs))
+  pub converted-is : (q : Bool) (n : ℕ) → converted-bytes (decimal-format p) (decimal-format q) n bs ≡ normal (decimal-format q) n (number (is-negative p bs) (magnitude-of p bs))
   unfolding converted-bytes converted
-  converted-is q n = rw (v .means, every-value p q (number (is-minus p bs) (magnitude-of p bs)))
+  converted-is q n = rw (v .means, every-value p q (number (is-negative p bs) (magnitude-of p bs)))
+
+-- Document 02, M-101, "stored records keep F and D only": so does every value in normal form, which a stored one is
+pub kept-sign : (p : Bool) (bs : Bytes) → in-normal-form (decimal-format p) (length bs) bs ≡ true → (sign-half p bs ≡ 0xF) ⊎ (sign-half p bs ≡ 0xD)
+unfolding sign-written
+kept-sign p bs e =
+    by-test (is-done (meaning (decimal-format p) bs))
+    (λ d. which (is-negative p bs) (eqb-true _ _ (sym (form-sign (sound p bs d)) ∙ e)))
+    (λ d. absurd (false≢true (sym (no-form (decimal-format p) (length bs) bs d) ∙ e)))
+  where
+    which : (below : Bool) → sign-written below ≡ sign-half p bs → (sign-half p bs ≡ 0xF) ⊎ (sign-half p bs ≡ 0xD)
+    which false f = inl (sym f)
+    which true f = inr (sym f)
 
 -- what is converted is a value
 pub converted-value : (f g : Format) (n : ℕ) (bs : Bytes) → is-done (converted-bytes f g n bs) ≡ true → is-done (meaning f bs) ≡ true
@@ -108,7 +121,7 @@ module _ (p q : Bool) (n : ℕ) (bs : Bytes) (e : is-done (converted-bytes (deci
   pub converted-readable : length bs ≤ longest-alpha → Readable p bs
   converted-readable = readable converted-sound
 
-  pub bytes-converted : bytes-of (converted-bytes (decimal-format p) (decimal-format q) n bs) ≡ written q n (is-minus p bs) (magnitude-of p bs)
+  pub bytes-converted : bytes-of (converted-bytes (decimal-format p) (decimal-format q) n bs) ≡ written q n (is-negative p bs) (magnitude-of p bs)
   bytes-converted =
       let c = converted-is converted-sound q n in
-      rw c (normal-bytes q n (is-minus p bs) (magnitude-of p bs) (rw c at e))
+      rw c (normal-bytes q n (is-negative p bs) (magnitude-of p bs) (rw c at e))

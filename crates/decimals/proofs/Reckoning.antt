@@ -11,7 +11,7 @@ use Rattle.rules.specs.Lists.{Bytes}
 use Rattle.rules.specs.Values.{accepted-minus, meaning}
 use Rattle.fixed.specs.Words.{word-of, value-of, pick}
 use Rattle.fixed.specs.declared.Word.the-variants.{Number, Outside}
-use Rattle.decimals.specs.Decimals.{decimal-format, sign-half, magnitude-of, is-minus}
+use Rattle.decimals.specs.Decimals.{decimal-format, sign-half, magnitude-of, is-negative}
 use Rattle.decimals.specs.Numbers.{Reckoned}
 use Rattle.decimals.proofs.Sound.{Sound}
 use Rattle.decimals.proofs.Spelling.{Spelling, spelling-over}
@@ -27,7 +27,7 @@ module _ {p : Bool} {s : Bytes} {x : ℕ} where
 
 module _ {p : Bool} {s : Bytes} (v : Sound p s) where
   word-is : word-of (value-of (meaning (decimal-format p) s))
-      ≡ pick (leb (magnitude-of p s) lowest-word) (Number (record { negative = is-minus p s; magnitude = magnitude-of p s })) Outside
+      ≡ pick (leb (magnitude-of p s) lowest-word) (Number (record { negative = is-negative p s; magnitude = magnitude-of p s })) Outside
   unfolding word-of value-of
   word-is = rw (v .means)
 
@@ -36,5 +36,5 @@ module _ {p : Bool} {s : Bytes} (v : Sound p s) where
 
   pub word-number : (below : Bool) (x : ℕ) → Reckoned p s x → x ≤ lowest-word → below ≡ (accepted-minus (sign-half p s) && ltb 0 x)
       → Number (record { negative = below; magnitude = x }) ≡ word-of (value-of (meaning (decimal-format p) s))
-  unfolding is-minus
+  unfolding is-negative
   word-number below x r h e = sym (word-is ∙ rw (← r .exact h, ← e, le-leb _ _ h))

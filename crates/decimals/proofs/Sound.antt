@@ -6,27 +6,21 @@ use Prim.Native.Nat.{ℕ, _+_, _*_, _/_, _%_, _≤_, _<_}
 use native.Mathlib.Omega.{arith}
 use lib.Dec.{T, eqb, leb, ltb, leb→le, eqb→eq}
 use lib.ListN.{length, getD}
-use borrow.Author.Tests.{eqb-true, ne-eqb}
 use Rattle.rules.specs.Outcome.{Outcome, done, refused, is-done}
 use Rattle.rules.specs.Limits.{longest-alpha}
 use Rattle.rules.specs.Lists.{Bytes, all, spelled, but-last, last}
 use Rattle.rules.specs.Numbers.{refusal-number}
 use Rattle.rules.specs.declared.Refusal.the-variants.{BadValue}
 use Rattle.rules.specs.Values.{Value, number, signed, halves, pairs, zoned, accepted-plus, accepted-minus, sign-means, decimal, meaning}
-use Rattle.rules.proofs.Steps.{by-test, true-T, T-true, and-left, and-right, not-done, from-bind, from-need, done-inj}
+use Rattle.rules.proofs.Steps.{true-T, T-true, and-left, and-right, not-done, from-bind, from-need, done-inj}
 use Rattle.rules.proofs.Done.{done-some}
 use Rattle.rules.proofs.Digits.{Below, all-getD}
-use Rattle.decimals.specs.Decimals.{decimal-format, digits-of, sign-half, magnitude-of, is-minus, all-digits, Readable, encoded}
+use Rattle.decimals.specs.Decimals.{decimal-format, digits-of, sign-half, magnitude-of, is-negative, all-digits, Readable, encoded}
 use Rattle.decimals.specs.Tests.{value-bytes}
+use Rattle.decimals.proofs.SignHalves.{plus-not-minus}
 use Rattle.decimals.proofs.Meanings.{value-scan}
 
 -- ---- the meaning
-
-plus-not-minus : (s : ℕ) → accepted-plus s ≡ true → accepted-minus s ≡ false
-unfolding accepted-plus accepted-minus
-plus-not-minus s e =
-    by-test (eqb s 0xC) (λ t. ne-eqb s 0xD (let q = eqb-true s 0xC t in λ f. omega arith))
-    (λ t. ne-eqb s 0xD (let q = eqb-true s 0xF (sym (rw t) ∙ e) in λ f. omega arith))
 
 sign-done : (s : ℕ) (m : Bool) → sign-means s ≡ done m → m ≡ accepted-minus s
 unfolding sign-means
@@ -82,7 +76,7 @@ unpacked-whole (b ∷ c ∷ bs) a =
 pub record Sound (p : Bool) (bs : Bytes) : Type 0 where
   pub some : 0 < length bs
   pub nines : all-digits p bs ≡ true
-  pub means : meaning (decimal-format p) bs ≡ done (number (is-minus p bs) (magnitude-of p bs))
+  pub means : meaning (decimal-format p) bs ≡ done (number (is-negative p bs) (magnitude-of p bs))
   pub whole : encoded p (digits-of p bs) (sign-half p bs) ≡ bs
 
 some-bytes : (p : Bool) (bs : Bytes) → value-bytes p bs ≡ true → 0 < length bs
@@ -98,7 +92,7 @@ below-ten p bs e i =
     omega arith
 
 sound-as : (p : Bool) (bs : Bytes) (v : Value) → 0 < length bs → meaning (decimal-format p) bs ≡ done v → Sound p bs
-unfolding decimal-format meaning digits-of sign-half magnitude-of is-minus all-digits encoded
+unfolding decimal-format meaning digits-of sign-half magnitude-of is-negative all-digits encoded
 sound-as true bs v o e =
     decimal-done (but-last (halves bs)) (last (halves bs)) v e λ t f.
     record { some = o; nines = T-true _ t; means = e ∙ ap (λ (w : Value). done w) f; whole = packed-whole bs o }

@@ -26,9 +26,9 @@ sign-half false bs = last bs / 16
 unfoldable pub magnitude-of : Bool → Bytes → ℕ
 magnitude-of p bs = spelled 10 (digits-of p bs) 0
 
--- Below zero: "zero with D means zero".
-unfoldable pub is-minus : Bool → Bytes → Bool
-is-minus p bs = accepted-minus (sign-half p bs) && ltb 0 (magnitude-of p bs)
+-- Below zero: a minus sign, but "zero with D means zero".
+unfoldable pub is-negative : Bool → Bytes → Bool
+is-negative p bs = accepted-minus (sign-half p bs) && ltb 0 (magnitude-of p bs)
 
 -- Whether every digit is one: at most 9.
 unfoldable pub all-digits : Bool → Bytes → Bool

@@ -16,6 +16,7 @@ ghost use Rattle.decimals.specs.Decimals.{decimal-format, last-written};
 mod conversion;
 mod digits;
 mod numbers;
+mod signs;
 mod tests;
 
 use fixed::Signed;
@@ -42,20 +43,13 @@ pub fn is_value(s: &[u8], packed: bool) -> bool
     false
 }
 
-// The sign's half byte in normal form.
-fn written_sign(negative: bool) -> u8
-    ensures { λ r. ⌜ r ≡ sign-written negative ⌝ }
-{
-    if negative { 0xD } else { 0xF }
-}
-
 // Whether s is in normal form.
 pub fn is_normal(s: &[u8], packed: bool) -> bool
     requires { ⌜ (0 < length (now s)) × (length (now s) ≤ longest-alpha) ⌝ }
     ensures { λ r. ⌜ r ≡ in-normal-form (decimal-format packed) (length (now (s .entry))) (now (s .entry)) ⌝ }
 {
     if is_value(s, packed) {
-        written_sign(tests::negative(s, packed)) == tests::sign(s, packed)
+        signs::written_sign(tests::negative(s, packed)) == tests::sign(s, packed)
     } else {
         false
     }
@@ -74,7 +68,7 @@ fn last_written(d: u8, negative: bool, target: bool) -> u8
     requires { ⌜ d < 10 ⌝ }
     ensures { λ r. ⌜ r ≡ last-written target d (sign-written negative) ⌝ }
 {
-    let sign = written_sign(negative);
+    let sign = signs::written_sign(negative);
     if target { d * 16 + sign } else { sign * 16 + d }
 }
 

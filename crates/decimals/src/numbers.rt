@@ -8,6 +8,7 @@ ghost use Rattle.rules.specs.Values.{accepted-minus};
 ghost use Rattle.buffer.specs.Splice.{splice};
 ghost use Rattle.decimals.specs.Decimals.{Readable, front};
 ghost use Rattle.decimals.specs.Numbers.{Reckoned};
+use super::signs;
 use rules::LOWEST_WORD;
 
 // The magnitude of P, two digits a byte; it stops as soon as it is greater than any in a conversion range.
@@ -63,7 +64,7 @@ pub fn reckoned(s: &[u8], packed: bool) -> u64
 pub fn below_zero(x: u64, sign: u8) -> bool
     ensures { λ r. ⌜ r ≡ (accepted-minus sign && ltb 0 x) ⌝ }
 {
-    if x == 0 { false } else { sign == 0xD }
+    if x == 0 { false } else { signs::is_minus(sign) }
 }
 
 // 10^m, where a magnitude can have more than m digits.

@@ -8,28 +8,17 @@ ghost use Rattle.rules.specs.Outcome.{is-done};
 ghost use Rattle.rules.specs.Limits.{longest-alpha};
 ghost use Rattle.rules.specs.Lists.{all};
 ghost use Rattle.rules.specs.Values.{meaning};
-ghost use Rattle.decimals.specs.Decimals.{decimal-format, sign-half, is-minus};
+ghost use Rattle.decimals.specs.Decimals.{decimal-format, sign-half, is-negative};
 ghost use Rattle.decimals.specs.Tests.{is-sign, inner-byte, last-byte};
 use super::digits;
-
-// "C and F for plus, D for minus".
-fn is_sign(h: u8) -> bool
-    ensures { λ r. ⌜ r ≡ is-sign h ⌝ }
-{
-    if h == 0xC {
-        return true;
-    }
-    if h == 0xF {
-        return true;
-    }
-    h == 0xD
-}
+use super::signs;
 
 // Whether the halves of a last byte are a digit and a sign.
 fn digit_and_sign(d: u8, h: u8) -> bool
+    requires { ⌜ h < 16 ⌝ }
     ensures { λ r. ⌜ r ≡ (leb d 9 && is-sign h) ⌝ }
 {
-    if d <= 9 { is_sign(h) } else { false }
+    if d <= 9 { signs::is_sign(h) } else { false }
 }
 
 // Whether a byte can be the last: a digit and a sign.
@@ -93,9 +82,9 @@ pub fn sign(s: &[u8], packed: bool) -> u8
 // Whether the value s is below zero: zero is not, whatever its sign.
 pub fn negative(s: &[u8], packed: bool) -> bool
     requires { ⌜ (is-done (meaning (decimal-format packed) (now s)) ≡ true) × (length (now s) ≤ longest-alpha) ⌝ }
-    ensures { λ r. ⌜ r ≡ is-minus packed (now (s .entry)) ⌝ }
+    ensures { λ r. ⌜ r ≡ is-negative packed (now (s .entry)) ⌝ }
 {
-    if sign(s, packed) != 0xD {
+    if !signs::is_minus(sign(s, packed)) {
         return false;
     }
     if digits::last_digit(s, packed) != 0 {

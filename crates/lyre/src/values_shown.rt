@@ -13,6 +13,7 @@ ghost use Rattle.tables.specs.Entries.{Valid, entries-of};
 // Room for the longest value, with its length byte.
 const ROOM: usize = 256;
 
+// Minus as a read writes it.
 const MINUS: u8 = 0xD;
 
 // Whether entry i is named with an occurrence: it lies in a periodic group, and is not that group.

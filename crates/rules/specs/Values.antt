@@ -1,4 +1,5 @@
--- Document 01, "Values": the five formats, what a value means, its normal form, null, and the conversions.
+-- Document 01, "Values": the five formats, what a value means, its normal form, null, and the conversions; the accepted signs are those of
+-- document 02, M-101.
 use mathlib.Core.Bool.{Bool, true, false, _&&_, _||_}
 use mathlib.Core.List.{List, [], _∷_, _++_, map}
 use Prim.Native.Nat.{ℕ, zero, suc, _+_, _-_, _*_, _/_, _%_, _^_}
@@ -26,7 +27,7 @@ pub data Value : Type 0 where
   text : Bytes → Value
   number : Bool → ℕ → Value
 
--- "zero with D means zero"
+-- "zero with D means zero", and so does zero with B.
 unfoldable pub signed : Bool → ℕ → Value
 signed below n = number (below && ltb 0 n) n
 
@@ -48,12 +49,12 @@ pairs [] = []
 pairs (h ∷ []) = []
 pairs (h ∷ l ∷ bs) = (h * 16 + l) ∷ pairs bs
 
--- "Accepted signs in P and U are C and F for plus, D for minus".
+-- Document 02, M-101: "A, C, E and F as plus, B and D as minus, for P and U. Incoming values accept the full list".
 unfoldable pub accepted-plus : ℕ → Bool
-accepted-plus s = eqb s 0xC || eqb s 0xF
+accepted-plus s = eqb s 0xA || eqb s 0xC || eqb s 0xE || eqb s 0xF
 
 unfoldable pub accepted-minus : ℕ → Bool
-accepted-minus s = eqb s 0xD
+accepted-minus s = eqb s 0xB || eqb s 0xD
 
 -- Whether a sign says below zero; 8 where it is no sign.
 unfoldable pub sign-means : ℕ → Outcome Bool

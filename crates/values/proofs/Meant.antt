@@ -19,7 +19,7 @@ use Rattle.buffer.proofs.Cases.{by-order}
 use Rattle.rules.proofs.Digits.{Below, length-digits, spelled-digits, spelled-below}
 use Rattle.fixed.proofs.Fixed.{twos-plus, twos-minus}
 use Rattle.fixed.proofs.NormalForm.{is-normal-form, normal-form-is}
-use Rattle.decimals.specs.Decimals.{decimal-format, sign-half, is-minus, magnitude-of, places}
+use Rattle.decimals.specs.Decimals.{decimal-format, sign-half, is-negative, magnitude-of, places}
 use Rattle.decimals.proofs.Normal.{normal-fits, normal-done}
 use Rattle.decimals.proofs.Sound.{sound}
 use Rattle.rules.proofs.Lists.{strip-space, strip-again}
@@ -121,8 +121,8 @@ fixed-meant n x o h =
     (λ l. rw (twos-plus n x l) (λ e. absurd (false≢true e)))
     (λ l. rw (twos-minus n x l) (λ _. omega arith))
 
-minus-above : (p : Bool) (bs : Bytes) → is-minus p bs ≡ true → 0 < magnitude-of p bs
-unfolding is-minus
+minus-above : (p : Bool) (bs : Bytes) → is-negative p bs ≡ true → 0 < magnitude-of p bs
+unfolding is-negative
 minus-above p bs e = ltb→lt 0 (magnitude-of p bs) (and-right (accepted-minus (sign-half p bs)) (ltb 0 (magnitude-of p bs)) (true-T e))
 
 decimal-meant : (p : Bool) (bs : Bytes) (v : Value) → meaning (decimal-format p) bs ≡ done v → Meant v

@@ -60,6 +60,10 @@ pub fn read(table: &[u8], stored: &[u8], format: &[u8], buffer: &mut [u8]) -> Re
 /// let mut room = [0; lyrecanyon::LONGEST_RECORD];
 /// let length = lyrecanyon::update(table, stored, b"\xC1\xC2\x4B", b"\x00\x15\x0C", &mut room)?;
 /// assert_eq!(&room[..length], b"\xE5\xD9\xC3\x00\x01\x00\x15\x0F");
+///
+/// // The signs A, C, E and F are plus, and B and D minus; F and D are stored.
+/// let length = lyrecanyon::update(table, stored, b"\xC1\xC2\x4B", b"\x00\x15\x0B", &mut room)?;
+/// assert_eq!(&room[..length], b"\xE5\xD9\xC3\x00\x01\x00\x15\x0D");
 /// # Ok::<(), lyrecanyon::Refusal>(())
 /// ```
 pub fn update(table: &[u8], stored: &[u8], format: &[u8], buffer: &[u8], room: &mut [u8]) -> Result<usize, Refusal> {

@@ -1,7 +1,7 @@
 -- `decimals::convert` meets its contract: the last byte is written, and the digits before it to the bytes before it.
 use mathlib.Core.Path.{refl, _∙_}
 use lib.ListN.{length-set}
-use Rattle.decimals.specs.Decimals.{magnitude-of, is-minus}
+use Rattle.decimals.specs.Decimals.{magnitude-of, is-negative}
 use Rattle.decimals.proofs.Normal.{converted-value, converted-readable, bytes-converted}
 use Rattle.decimals.proofs.Written.{written-last-first}
 use borrow.Author.Needs.{needs}
@@ -50,7 +50,7 @@ returns c =
     let t = a .args .target in
     let e = rw (w .before .before .last-digit .ensures, w .before .negative .ensures) at (w .last-written .ensures) in
     rw (bytes-converted p t (a .args .n) s (a .pre .0))
-    (written-last-first t (a .args .n) (is-minus p s) (magnitude-of p s) (a .args .at) (a .args .out .now) _ _ _ (a .pre .2) (a .pre .4) refl e (c .before .before .convert-digits .ensures))
+    (written-last-first t (a .args .n) (is-negative p s) (magnitude-of p s) (a .args .at) (a .args .out .now) _ _ _ (a .pre .2) (a .pre .4) refl e (c .before .before .convert-digits .ensures))
 
 pub convert-spec : {M : Type 1} → statement M
 convert-spec =

@@ -1,5 +1,5 @@
 -- `decimals::fits` meets its contract: a value fits where its magnitude has no more digits than the bytes hold.
-use Rattle.decimals.specs.Decimals.{magnitude-of, is-minus}
+use Rattle.decimals.specs.Decimals.{magnitude-of, is-negative}
 use Rattle.decimals.proofs.Sound.{sound, readable}
 use Rattle.decimals.proofs.Normal.{normal-fits, converted-is}
 use borrow.Author.Needs.{needs}
@@ -19,7 +19,7 @@ returns : tie.Need-returns
 returns c =
     let a = c .before .before .before in
     let v = sound (a .args .packed) (a .args .s .now) (a .pre .0) in
-    rw (converted-is v (a .args .target) (a .args .n), normal-fits (a .args .target) (a .args .n) (is-minus (a .args .packed) (a .args .s .now)) (magnitude-of (a .args .packed) (a .args .s .now)), ← c .before .digit-count .ensures) (c .within .ensures)
+    rw (converted-is v (a .args .target) (a .args .n), normal-fits (a .args .target) (a .args .n) (is-negative (a .args .packed) (a .args .s .now)) (magnitude-of (a .args .packed) (a .args .s .now)), ← c .before .digit-count .ensures) (c .within .ensures)
 
 pub fits-spec : {M : Type 1} → statement M
 fits-spec = tie.close (tie.spec digit-count-requires within-requires returns)

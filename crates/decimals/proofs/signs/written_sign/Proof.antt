@@ -1,7 +1,7 @@
--- `decimals::written_sign` meets its contract, by its test.
+-- `decimals::signs::written_sign` meets its contract, by its test.
 use Rattle.rules.specs.Values.{sign-written}
-use Rattle.decimals.proofs.written_sign.Statement.{statement}
-use Rattle.decimals.proofs.written_sign.Tie as tie
+use Rattle.decimals.proofs.signs.written_sign.Statement.{statement}
+use Rattle.decimals.proofs.signs.written_sign.Tie as tie
 
 returns : tie.Need-returns
 unfolding sign-written
