@@ -10,6 +10,7 @@ pub use entries::group_at;
 pub use entries::level_at;
 pub use entries::multiple_at;
 pub use entries::periodic_at;
+pub use entries::size_at;
 pub use groups::expand;
 pub use groups::group_end;
 pub use groups::plain_group;
