@@ -1,151 +1,197 @@
--- The list of assignments as numbers: the heads of the chains by which a cell is found, the highest occurrence named of each entry, and then
--- the notes, one for each assignment.
+-- What is noted of the uses of a format while an update goes by them. The values that they give stand on a stage, one after the other. The list
+-- has the heads of chains of uses; of each entry the highest occurrence named, where value 1 of its occurrence 1 stands, and how wide the
+-- entries before it are; and then of each use where its values begin and the next use of its chain.
 use mathlib.Core.Path.{_≡_}
 use mathlib.Core.Bool.{Bool, true, false, cond, _&&_}
-use mathlib.Core.List.{List, [], _∷_, map}
-use Prim.Native.Nat.{ℕ, zero, suc, _+_, _*_, _%_, _≤_, _<_, max}
-use lib.Dec.{eqb}
-use lib.ListN.{length, getD, set}
-use lib.Seq.{slice}
-use Rattle.rules.specs.Limits.{most-entries, highest-index, longest-new-record}
-use Rattle.rules.specs.Lists.{Bytes, filter, maximum, run}
-use Rattle.rules.specs.Table.{Entry}
-use Rattle.rules.specs.Use.{Place}
-use Rattle.rules.specs.Update.{Assignment}
-use Rattle.tables.specs.Entries.{blank, is-group}
+use mathlib.Core.List.{List, [], _∷_, _++_, map}
+use mathlib.Core.Option.{Option, none, some}
+use Prim.Native.Nat.{ℕ, zero, suc, _+_, _-_, _*_, _%_, _≤_, _<_}
+use lib.Dec.{T, eqb, leb, ltb}
+use lib.ListN.{length, getD, take}
+use Rattle.rules.specs.Outcome.{Outcome, done, refused}
+use Rattle.rules.specs.Limits.{most-entries, longest-new-record}
+use Rattle.rules.specs.Lists.{Bytes, filter, join, maximum, run}
+use Rattle.rules.specs.Table.{Entry, differ, names}
+use Rattle.rules.specs.Use.{Place, items}
+use Rattle.rules.specs.Update.{Assignment, assigned, named-twice}
+use Rattle.rules.proofs.Ranges.{taking}
+use Rattle.tables.specs.Entries.{blank, is-group, size-of}
 use Rattle.tables.specs.Groups.{field-at}
-use Rattle.assignments.specs.declared.Note.{Note}
+use Rattle.uses.specs.Kept.{numbers-kept, span-at, use-at, uses-kept, Good-uses}
+use Rattle.uses.specs.declared.Span.{Span}
+use Rattle.uses.specs.declared.Use.{Use}
+use Rattle.uses.specs.declared.Use.the-variants as code
 
--- How many chains there are, and where the highest occurrences and the notes begin.
+-- The heads of the chains: a use of one field in one occurrence is in a chain by both, one of one field in several occurrences in that of
+-- the field, and one of several fields in the last.
+abbrev pub cell-chains : ℕ
+cell-chains = 256
+
+abbrev pub field-chains : ℕ
+field-chains = cell-chains
+
+abbrev pub group-chain : ℕ
+group-chain = field-chains + most-entries
+
 abbrev pub chains : ℕ
-chains = 256
+chains = group-chain + 1
 
+-- Where the numbers of the entries begin, and those of the uses.
 abbrev pub highest-from : ℕ
 highest-from = chains
 
-abbrev pub notes-from : ℕ
-notes-from = chains + most-entries
+abbrev pub firsts-from : ℕ
+firsts-from = highest-from + most-entries
 
--- How many numbers a note has: entry, occurrence, value, whether a bare name stands for it, from where and up to where its bytes stand on
--- the stage, and one above the number of the next note of its chain.
+abbrev pub widths-from : ℕ
+widths-from = firsts-from + most-entries
+
+abbrev pub uses-from : ℕ
+uses-from = widths-from + (most-entries + 1)
+
+-- How many numbers are noted of a use: where its values begin on the stage, and one above the number of the next use of its chain.
 abbrev pub numbers-noted : ℕ
-numbers-noted = 7
+numbers-noted = 2
 
--- Where a note stands, and how long a list for n notes is.
 abbrev pub note-place : ℕ → ℕ
-note-place m = notes-from + numbers-noted * m
+note-place n = uses-from + numbers-noted * n
 
--- The numbers of a note but the last, and that they are small.
-abbrev pub note-numbers : Note → List ℕ
-note-numbers n = n .entry ∷ n .occurrence ∷ n .value ∷ cond (n .bare) 1 0 ∷ n .from ∷ n .upto ∷ []
-
+-- A number of the list is below this.
 abbrev pub note-bound : ℕ
 note-bound = 65536
 
-abbrev pub Small-note : Note → Type 0
-Small-note n =
-    (n .entry < note-bound) × (n .occurrence < note-bound) × (n .value < note-bound) × (n .from < note-bound) × (n .upto < note-bound)
+abbrev pub highest-noted : List ℕ → ℕ → ℕ
+highest-noted list i = getD list (highest-from + i) 0
 
-abbrev pub entry-noted : List ℕ → ℕ → ℕ
-entry-noted list m = getD list (note-place m) 0
+abbrev pub first-noted : List ℕ → ℕ → ℕ
+first-noted list i = getD list (firsts-from + i) 0
 
-abbrev pub occurrence-noted : List ℕ → ℕ → ℕ
-occurrence-noted list m = getD list (note-place m + 1) 0
+abbrev pub width-noted : List ℕ → ℕ → ℕ
+width-noted list i = getD list (widths-from + i) 0
 
-abbrev pub value-noted : List ℕ → ℕ → ℕ
-value-noted list m = getD list (note-place m + 2) 0
-
-abbrev pub bare-noted : List ℕ → ℕ → Bool
-bare-noted list m = eqb (getD list (note-place m + 3) 0) 1
-
-abbrev pub from-noted : List ℕ → ℕ → ℕ
-from-noted list m = getD list (note-place m + 4) 0
-
-abbrev pub upto-noted : List ℕ → ℕ → ℕ
-upto-noted list m = getD list (note-place m + 5) 0
+abbrev pub start-noted : List ℕ → ℕ → ℕ
+start-noted list n = getD list (note-place n) 0
 
 abbrev pub next-noted : List ℕ → ℕ → ℕ
-next-noted list m = getD list (note-place m + 6) 0
+next-noted list n = getD list (note-place n + 1) 0
 
 -- Value k of entry i, a field, in occurrence o.
 abbrev pub place-at : List Entry → ℕ → ℕ → ℕ → Place
 place-at es i o k = record { field = field-at es i; occurrence = o; value = k }
 
--- The assignment that note m stands for.
-unfoldable pub noted : List Entry → List ℕ → Bytes → ℕ → Assignment
-noted es list stage m = record {
-  place = place-at es (entry-noted list m) (occurrence-noted list m) (value-noted list m);
-  bare = bare-noted list m;
-  bytes = slice (from-noted list m) (upto-noted list m) stage;
-}
+-- The bytes of assignments, one after the other.
+abbrev pub bytes-given : List Assignment → Bytes
+bytes-given ws = join (map (λ a. a .bytes) ws)
 
--- What is known of a note, where so many bytes of the stage are taken.
-pub record Good-note (es : List Entry) (list : List ℕ) (staged m : ℕ) : Type 0 where
-  pub entry : entry-noted list m < length es
-  pub field : is-group (getD es (entry-noted list m) blank .what) ≡ false
-  pub occurrence : (1 ≤ occurrence-noted list m) × (occurrence-noted list m ≤ highest-index)
-  pub value : (1 ≤ value-noted list m) × (value-noted list m ≤ highest-index)
-  pub ordered : from-noted list m ≤ upto-noted list m
-  pub within : upto-noted list m ≤ staged
+-- The assignments that the first n uses give by a record buffer: none where one is refused.
+abbrev pub assignments-of : Outcome (List Assignment × Bytes) → List Assignment
+assignments-of (done r) = r .0
+assignments-of (refused n) = []
 
--- The list and the stage hold the assignments ws.
-pub record Listed (es : List Entry) (list : List ℕ) (stage : Bytes) (staged : ℕ) (ws : List Assignment) : Type 0 where
-  pub entries : length es ≤ most-entries
-  pub room : note-place (length ws) ≤ length list
-  pub few : length ws ≤ longest-new-record
+unfoldable pub given-first : List Entry → Bytes → List ℕ → Bytes → ℕ → List Assignment
+given-first es f kept buffer n = assignments-of (taking (items (uses-kept es f kept n)) buffer)
+
+-- An assignment stands among others after so many bytes.
+pub record Stands-in (ws : List Assignment) (p : ℕ) (a : Assignment) : Type 0 where
+  pub before : List Assignment
+  pub after : List Assignment
+  pub is : ws ≡ before ++ (a ∷ after)
+  pub bytes : p ≡ length (bytes-given before)
+
+-- What an occurrence takes, by one above the bytes before it: nothing for 0.
+abbrev pub Takes-at : List Assignment → Place → ℕ → Type 0
+Takes-at ws q zero = assigned ws q ≡ none
+Takes-at ws q (suc p) = (a : Assignment) × Stands-in ws p a × (a .place ≡ q) × (assigned ws q ≡ some (a .bytes))
+
+-- Where value 1 of each field in occurrence 1 stands.
+abbrev pub Firsts : List Entry → List ℕ → List Assignment → Type 0
+Firsts es list ws = (i : ℕ) → i < length es → is-group (getD es i blank .what) ≡ false → Takes-at ws (place-at es i 1 1) (first-noted list i)
+
+-- The bytes of assignments stand on a stage, from its front on.
+pub record On-stage (stage : Bytes) (ws : List Assignment) : Type 0 where
+  pub staged : ℕ
   pub long : staged ≤ length stage
-  pub notes : ws ≡ run (noted es list stage) 0 (length ws)
-  pub good : (m : ℕ) → m < length ws → Good-note es list staged m
+  pub most : length stage ≤ longest-new-record
+  pub bytes : bytes-given ws ≡ take staged stage
+
+-- The assignments ws are what the first `count` uses give, their bytes stand on the stage, and where those of each use begin is noted.
+pub record Listed (es : List Entry) (f : Bytes) (kept : List ℕ) (count : ℕ) (list : List ℕ) (stage : Bytes) (ws : List Assignment) : Type 0 where
+  pub entries : length es ≤ most-entries
+  pub uses : Good-uses es f kept count
+  pub kept-room : numbers-kept * count ≤ length kept
+  pub room : note-place count ≤ length list
+  pub few : count < note-bound
+  pub buffer : Bytes
+  pub rest : Bytes
+  pub given : taking (items (uses-kept es f kept count)) buffer ≡ done (ws, rest)
+  pub starts : (n : ℕ) → n < count → start-noted list n ≡ length (bytes-given (given-first es f kept buffer n))
+  pub stands : On-stage stage ws
+  pub firsts : Firsts es list ws
 
 -- No chain has a head, and no occurrence is the highest of its entry.
 abbrev pub Unindexed : List ℕ → Type 0
-Unindexed list = (j : ℕ) → j < notes-from → getD list j 0 ≡ 0
+Unindexed list = (j : ℕ) → j < firsts-from → getD list j 0 ≡ 0
 
--- The chain of entry i in occurrence o.
-unfoldable pub chain-of : ℕ → ℕ → ℕ
-chain-of i o = (i * 67 + o) % chains
+-- The chain of entry i in occurrence o; that of a span; and that of a use, which names nothing where it is of another kind.
+unfoldable pub cell-chain : ℕ → ℕ → ℕ
+cell-chain i o = (i * 67 + o) % cell-chains
 
--- Note m can be put before those of its chain; and the list with it there, and with its occurrence among those of its entry.
-pub record Can-link (list : List ℕ) (m : ℕ) : Type 0 where
-  pub few : m < longest-new-record
-  pub room : note-place (m + 1) ≤ length list
-  pub entry : entry-noted list m < most-entries
-  pub occurrence : occurrence-noted list m ≤ highest-index
+unfoldable pub span-chain : Span → ℕ
+span-chain s = cond (ltb (s .first + 1) (s .end)) group-chain (cond (ltb (s .from) (s .upto)) (field-chains + s .first) (cell-chain (s .first) (s .from)))
 
-abbrev pub linked-by : List ℕ → (m i o chain : ℕ) → List ℕ
-linked-by list m i o chain =
-    set (set (set list (note-place m + 6) (getD list chain 0)) chain (m + 1)) (highest-from + i) (max (getD list (highest-from + i) 0) o)
+unfoldable pub use-chain : Use → ℕ
+use-chain (code.Values s) = span-chain s
+use-chain (code.Blanks n) = chains
+use-chain (code.Text from upto) = chains
+use-chain (code.GroupCount i) = chains
+use-chain (code.ValueCount i k) = chains
 
-unfoldable pub linked : List ℕ → ℕ → List ℕ
-linked list m = linked-by list m (entry-noted list m) (occurrence-noted list m) (chain-of (entry-noted list m) (occurrence-noted list m))
+-- Whether a span, and a use, names entry i in occurrence o.
+unfoldable pub names-cell : Span → ℕ → ℕ → Bool
+names-cell s i o = leb (s .from) o && leb o (s .upto) && leb (s .first) i && ltb i (s .end)
 
--- Whether note m is of entry i in occurrence o.
-unfoldable pub in-cell : List ℕ → ℕ → ℕ → ℕ → Bool
-in-cell list i o m = eqb (entry-noted list m) i && eqb (occurrence-noted list m) o
+unfoldable pub use-names : Use → ℕ → ℕ → Bool
+use-names (code.Values s) i o = names-cell s i o
+use-names (code.Blanks n) i o = false
+use-names (code.Text from upto) i o = false
+use-names (code.GroupCount j) i o = false
+use-names (code.ValueCount j k) i o = false
 
--- The numbers of the notes of a chain, from a number as it is kept on: 0 ends it. There are not more than the first number says.
+-- The last occurrence that a use names of entry i: 0 where it does not name it.
+unfoldable pub use-reach : Use → ℕ → ℕ
+use-reach (code.Values s) i = cond (leb (s .first) i && ltb i (s .end)) (s .upto) 0
+use-reach (code.Blanks n) i = 0
+use-reach (code.Text from upto) i = 0
+use-reach (code.GroupCount j) i = 0
+use-reach (code.ValueCount j k) i = 0
+
+-- The numbers of the uses of a chain, from a number as it is kept on: 0 ends it. There are not more than the first number says.
 unfoldable pub chained : List ℕ → ℕ → ℕ → List ℕ
 chained list zero n = []
 chained list (suc most) zero = []
 chained list (suc most) (suc m) = m ∷ chained list most (next-noted list m)
 
 -- The numbers below n.
-abbrev pub notes-below : ℕ → List ℕ
-notes-below n = run (λ m. m) 0 n
+abbrev pub numbers-below : ℕ → List ℕ
+numbers-below n = run (λ m. m) 0 n
 
--- The list can be searched: the chain of a cell has the notes of that cell in their order, and others.
-pub record Indexed (es : List Entry) (list : List ℕ) (stage : Bytes) (staged : ℕ) (ws : List Assignment) : Type 0 where
-  pub listed : Listed es list stage staged ws
-  pub heads : (x : ℕ) → x < chains → getD list x 0 ≤ length ws
-  pub nexts : (m : ℕ) → m < length ws → (next-noted list m ≤ length ws) × (0 < next-noted list m → suc m < next-noted list m)
-  pub cells : (i o : ℕ) → filter (in-cell list i o) (chained list (length ws) (getD list (chain-of i o) 0)) ≡ filter (in-cell list i o) (notes-below (length ws))
-  pub highest : (i : ℕ) → i < most-entries → getD list (highest-from + i) 0
-      ≡ maximum (map (occurrence-noted list) (filter (λ m. eqb (entry-noted list m) i) (notes-below (length ws))))
+-- How wide the first n entries are together, at their standard lengths.
+unfoldable pub width-before : List Entry → ℕ → ℕ
+width-before es zero = 0
+width-before es (suc n) = width-before es n + size-of (getD es n blank .what)
 
--- The list can be searched for some assignments.
-abbrev pub Has-index : List ℕ → Type 0
-Has-index list = (es : List Entry) × (stage : Bytes) × (staged : ℕ) × (ws : List Assignment) × Indexed es list stage staged ws
+-- The chains, from use m on: each has the uses that belong to it, in their order.
+pub record Chained (kept : List ℕ) (count m : ℕ) (list : List ℕ) : Type 0 where
+  pub heads : (x : ℕ) → x < chains → getD list x 0 ≤ count
+  pub nexts : (n : ℕ) → m ≤ n → n < count → (next-noted list n ≤ count) × (0 < next-noted list n → suc n < next-noted list n)
+  pub members : (x : ℕ) → x < chains → chained list count (getD list x 0) ≡ filter (λ n. eqb (use-chain (use-at kept n)) x) (run (λ n. n) m (count - m))
+  pub highest : (i : ℕ) → i < most-entries → highest-noted list i ≡ maximum (run (λ n. use-reach (use-at kept n) i) m (count - m))
 
--- The same, and there are as many as a number says.
-abbrev pub Has-note : List ℕ → ℕ → Type 0
-Has-note list n = (es : List Entry) × (stage : Bytes) × (staged : ℕ) × (ws : List Assignment) × Indexed es list stage staged ws × (n ≤ length ws)
+-- The list can be searched.
+pub record Indexed (es : List Entry) (f : Bytes) (kept : List ℕ) (count : ℕ) (list : List ℕ) (stage : Bytes) (ws : List Assignment) : Type 0 where
+  pub listed : Listed es f kept count list stage ws
+  pub chains : Chained kept count 0 list
+  pub widths : 0 < getD list group-chain 0 → (i : ℕ) → i ≤ length es → width-noted list i ≡ width-before es i
+  -- Names differ, and no occurrence is named twice.
+  pub apart : T (differ (names es))
+  pub once : named-twice (uses-kept es f kept count) ≡ false
