@@ -29,7 +29,7 @@ use Rattle.format_buffer.proofs.StepLaws.{elements-parsed, elements-long, behin
 use Rattle.uses.specs.Meant.{use-meant, Good-use, uses-of}
 use Rattle.uses.specs.Scopes.{scope-at, is-written}
 use Rattle.uses.specs.Meanings.{meaning-meant, Means, indexes-kept, Remembers, Remembered}
-use Rattle.uses.specs.Kept.{numbers, uses-kept, Good-uses, Decodes}
+use Rattle.uses.specs.Kept.{numbers-kept, numbers, small, uses-kept, Good-uses, Decodes}
 use Rattle.uses.specs.Decoding.{uses-so-far, uses-left, Keeps-element}
 use Rattle.uses.specs.declared.Use.{Use}
 use Rattle.uses.specs.declared.Meant.the-variants as meant
@@ -169,17 +169,17 @@ module _ {es : List Entry} {e : Element} {last : List ℕ} where
             (ls, q, left-refused es f ls (element-of f e) kept n UseRule (λ ys. first-last es ls (element-of f e) ys _ (d .0) (d .1 ∙ ap not z)));
       }
 
-      pub keeps-use : (kept : List ℕ) (n : ℕ) {last′ kept′ : List ℕ} → 10 * n + 10 ≤ length kept → is-written (m .scopes) ≡ true
-          → Remembered es u (m .scopes .values) last last′ → kept′ ≡ sets kept (10 * n) (numbers u) → Keeps-element es e last last′ kept kept′ (Uses n) (Uses (n + 1))
-      keeps-use kept n {last′} l z k q = rw q (record {
+      pub keeps-use : (kept : List ℕ) (n : ℕ) {last′ kept′ : List ℕ} → numbers-kept * n + numbers-kept ≤ length kept → small u → is-written (m .scopes) ≡ true
+          → Remembered es u (m .scopes .values) last last′ → kept′ ≡ sets kept (numbers-kept * n) (numbers u) → Keeps-element es e last last′ kept kept′ (Uses n) (Uses (n + 1))
+      keeps-use kept n {last′} l t z k q = rw q (record {
         same = k .same;
-        room = length-sets kept (10 * n) (numbers u);
+        room = length-sets kept (numbers-kept * n) (numbers u);
         more = omega arith;
-        good = λ f s g. good-more es f kept n u l (use-held f s) g;
+        good = λ f s g. good-more es f kept n u l t (use-held f s) g;
         left = λ f s ls r. let d = told f ls s r in (
           indexes-after (use-meant es f u) ls,
           plain-remembered es last′ _ _ (lasts-plain (use-meant es f u) (scope-at (m .scopes .values)) [] (values-written (m .scopes) z) no-N-yet) (k .indexes f ls [] r),
-          left-used es f ls (element-of f e) kept n (n + 1) (use-meant es f u) _ (d .0) (d .1 ∙ ap not z) (uses-more es f kept n u l),
+          left-used es f ls (element-of f e) kept n (n + 1) (use-meant es f u) _ (d .0) (d .1 ∙ ap not z) (uses-more es f kept n u l t),
         );
       })
 
@@ -216,7 +216,7 @@ module _ {es : List Entry} {f : Bytes} where
     decode-bad (Refused x) w = w .left
 
     -- Nothing is left.
-    decode-end : (d : Decoded) → 10 * uses-so-far d ≤ length kept → Decoding es f last (done []) kept d → Decodes es f kept d
+    decode-end : (d : Decoded) → numbers-kept * uses-so-far d ≤ length kept → Decoding es f last (done []) kept d → Decodes es f kept d
     unfolding uses-left
     decode-end (Uses n) h w =
         (w .left ∙ ap (λ o. o >>= λ us. done (uses-kept es f kept n ++ us)) (no-uses es (w .indexes)) ∙ ap done (none-joined (uses-kept es f kept n)), w .good, h)
@@ -237,7 +237,7 @@ module _ {es : List Entry} {f : Bytes} where
       left = v .left ∙ n .2 (elements-behind f stop);
     }
 
-    pub decode-last : eqb (getD f stop 0) period ≡ true → 10 * uses-so-far d′ ≤ length kept′ → Decodes es f kept′ d′
+    pub decode-last : eqb (getD f stop 0) period ≡ true → numbers-kept * uses-so-far d′ ≤ length kept′ → Decodes es f kept′ d′
     decode-last q h = decode-end d′ h (decode-as (behind-last f stop q) behind-element)
 
     pub decode-more : eqb (getD f stop 0) period ≡ false → Decoding es f last′ (parsed (drop (stop + 1) f)) kept′ d′

@@ -2,11 +2,11 @@
 use mathlib.Core.Path.{_≡_, refl, sym, ap, subst, _∙_}
 use mathlib.Core.Bool.{Bool, true, false, _&&_, true≢false}
 use mathlib.Core.List.{List, [], _∷_}
-use Prim.Native.Nat.{ℕ, suc, _+_, _*_, _<_, _≤_, max}
+use Prim.Native.Nat.{ℕ, _+_, _*_, _<_, _≤_, max}
 use native.Mathlib.Omega.{arith}
 use borrow.Author.Tests.{le-leb}
 use lib.Dec.{leb, leb→le}
-use lib.ListN.{length, getD, set}
+use lib.ListN.{length, getD}
 use lib.Seq.{sets, length-sets}
 use Rattle.rules.specs.Lists.{Bytes}
 use Rattle.rules.specs.Table.{Entry}
@@ -26,13 +26,6 @@ use Rattle.uses.specs.declared.Use.the-variants as code
 use Rattle.uses.proofs.Sharing.{from-shared, spans-met, one-left}
 use Rattle.uses.proofs.Numbers.{sets-below, sets-at, sets-above}
 use Rattle.uses.proofs.Meeting.{none-before}
-
-pub four-sets : (l : List ℕ) (at a b c d : ℕ) → set (set (set (set l at a) (at + 1) b) (at + 2) c) (at + 3) d ≡ sets l at (a ∷ b ∷ c ∷ d ∷ [])
-four-sets l at a b c d =
-    let one : at + 1 ≡ suc at = omega arith in
-    let two : at + 2 ≡ suc (suc at) = omega arith in
-    let three : at + 3 ≡ suc (suc (suc at)) = omega arith in
-    rw (one, two, three)
 
 -- A box that is the same in other boxes.
 holds-as : {bs bs′ : List ℕ} {j : ℕ} {s : Span} → getD bs′ (4 * j) 0 ≡ getD bs (4 * j) 0 → getD bs′ (4 * j + 1) 0 ≡ getD bs (4 * j + 1) 0

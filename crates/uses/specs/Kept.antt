@@ -2,7 +2,7 @@
 use mathlib.Core.Path.{_≡_}
 use mathlib.Core.Bool.{Bool, cond}
 use mathlib.Core.List.{List, [], _∷_}
-use Prim.Native.Nat.{ℕ, _+_, _*_, _≤_, _<_}
+use Prim.Native.Nat.{ℕ, _+_, _*_, _/_, _%_, _≤_, _<_}
 use lib.Dec.{eqb}
 use lib.ListN.{length, getD}
 use Rattle.rules.specs.Outcome.{done, refused}
@@ -20,7 +20,7 @@ use Rattle.uses.specs.declared.kept.Decoded.the-variants.{Uses, Refused}
 
 -- How many numbers are kept of a use: what it is, and what it says.
 abbrev pub numbers-kept : ℕ
-numbers-kept = 10
+numbers-kept = 4
 
 -- An element takes so many bytes of a format at least, with what ends it.
 abbrev pub element-bytes : ℕ
@@ -45,19 +45,44 @@ stored-kept = 4
 abbrev pub in-effect-kept : ℕ
 in-effect-kept = 5
 
--- The span whose numbers are kept at a place.
+-- Two numbers below this are kept as one, a pair.
+abbrev pub pair-base : ℕ
+pair-base = 256
+
+abbrev pub pair : ℕ → ℕ → ℕ
+pair a b = pair-base * a + b
+
+-- The first number of a use is its kind, which is below `bare-weight`. That of a span has more: to its kind is added whether its name
+-- is bare, its format and its size, each times its weight. A format's number is below `formats-kept`.
+abbrev pub bare-weight : ℕ
+bare-weight = 8
+
+abbrev pub format-weight : ℕ
+format-weight = 16
+
+abbrev pub size-weight : ℕ
+size-weight = 128
+
+abbrev pub formats-kept : ℕ
+formats-kept = 8
+
+-- The kind of the use whose numbers are kept at a place.
+abbrev pub kind-at : List ℕ → ℕ → ℕ
+kind-at kept at = getD kept at 0 % bare-weight
+
+-- The span whose numbers are kept at a place: what it is, then its entries, its occurrences and its values, each as a pair.
 abbrev pub span-at : List ℕ → ℕ → Span
 span-at kept at = record {
-  first = getD kept (at + 1) 0;
-  end = getD kept (at + 2) 0;
-  from = getD kept (at + 3) 0;
-  upto = getD kept (at + 4) 0;
-  «value_from» = getD kept (at + 5) 0;
-  «value_upto» = getD kept (at + 6) 0;
-  standard = eqb (getD kept at 0) stored-kept;
-  format = getD kept (at + 7) 0;
-  size = getD kept (at + 8) 0;
-  bare = eqb (getD kept (at + 9) 0) 1;
+  first = getD kept (at + 1) 0 / pair-base;
+  end = getD kept (at + 1) 0 % pair-base;
+  from = getD kept (at + 2) 0 / pair-base;
+  upto = getD kept (at + 2) 0 % pair-base;
+  «value_from» = getD kept (at + 3) 0 / pair-base;
+  «value_upto» = getD kept (at + 3) 0 % pair-base;
+  standard = eqb (kind-at kept at) stored-kept;
+  format = getD kept at 0 / format-weight % formats-kept;
+  size = getD kept at 0 / size-weight;
+  bare = eqb (getD kept at 0 / bare-weight % 2) 1;
 }
 
 -- The use of a kind, with its first two numbers, or its span.
@@ -70,18 +95,22 @@ use-of-kind kind a b s =
 unfoldable pub use-at : List ℕ → ℕ → Use
 use-at kept n =
     let at = numbers-kept * n in
-    use-of-kind (getD kept at 0) (getD kept (at + 1) 0) (getD kept (at + 2) 0) (span-at kept at)
+    use-of-kind (kind-at kept at) (getD kept (at + 1) 0) (getD kept (at + 2) 0) (span-at kept at)
 
--- The numbers of a use, which are small.
+-- The numbers of a use, which are small. Those of a span are packed; any other use has its kind and its own numbers, since the places
+-- of a text are larger than one of a pair.
 abbrev pub span-kind : Bool → ℕ
 span-kind standard = cond standard stored-kept in-effect-kept
 
 abbrev pub flag : Bool → ℕ
 flag b = cond b 1 0
 
+-- What a span is, in one number.
+abbrev pub span-what : Span → ℕ
+span-what s = span-kind (s .standard) + bare-weight * flag (s .bare) + format-weight * s .format + size-weight * s .size
+
 abbrev pub span-numbers : Span → List ℕ
-span-numbers s =
-    span-kind (s .standard) ∷ s .first ∷ s .end ∷ s .from ∷ s .upto ∷ s .«value_from» ∷ s .«value_upto» ∷ s .format ∷ s .size ∷ flag (s .bare) ∷ []
+span-numbers s = span-what s ∷ pair (s .first) (s .end) ∷ pair (s .from) (s .upto) ∷ pair (s .«value_from») (s .«value_upto») ∷ []
 
 abbrev pub numbers : Use → List ℕ
 numbers (code.Blanks n) = blanks-kept ∷ n ∷ 0 ∷ []
@@ -92,8 +121,8 @@ numbers (code.Values s) = span-numbers s
 
 abbrev pub Small-span : Span → Type 0
 Small-span s =
-    (s .first < index-bound) × (s .end < index-bound) × (s .from < index-bound) × (s .upto < index-bound) × (s .«value_from» < index-bound)
-    × (s .«value_upto» < index-bound) × (s .format < index-bound) × (s .size < index-bound)
+    (s .first < pair-base) × (s .end < pair-base) × (s .from < pair-base) × (s .upto < pair-base) × (s .«value_from» < pair-base)
+    × (s .«value_upto» < pair-base) × (s .format < formats-kept) × (s .size < pair-base)
 
 abbrev pub small : Use → Type 0
 small (code.Blanks n) = n < index-bound

@@ -22,11 +22,11 @@ ghost use Rattle.tables.specs.Entries.{Valid, entries-of};
 ghost use Rattle.format_buffer.specs.Elements.{sound};
 ghost use Rattle.uses.specs.Spread.{index-bound};
 ghost use Rattle.uses.specs.Meanings.{indexes-kept};
-ghost use Rattle.uses.specs.Kept.{numbers-kept, element-bytes, span-at, use-at, span-kind, flag, span-numbers, numbers, Small-span, small, Decodes};
+ghost use Rattle.uses.specs.Kept.{numbers-kept, element-bytes, pair-base, pair, bare-weight, span-at, use-at, span-kind, flag, span-what, span-numbers, numbers, Small-span, small, Decodes};
 ghost use Rattle.uses.specs.Decoding.{uses-so-far, Keeps-element};
 
 // How many numbers are kept of a use: what it is, and what it says.
-pub const NUMBERS: usize = 10;
+pub const NUMBERS: usize = 4;
 
 // What a use is. Of the values that it names the fields are as they are stored, or one is at a format and a length in effect.
 const BLANKS: Index = 0;
@@ -40,6 +40,20 @@ const VALUE_COUNT: Index = 3;
 const STORED: Index = 4;
 
 const IN_EFFECT: Index = 5;
+
+// The first number of a use is its kind, which is below BARE. That of a span has more: to its kind is added whether its name is bare,
+// its format and its size, each times its weight. A format's number is below FORMATS.
+const BARE: Index = 8;
+
+const FORMAT: Index = 16;
+
+const SIZE: Index = 128;
+
+const FORMATS: Index = 8;
+
+// The other numbers of a span are pairs of numbers below this: its entries, its occurrences and its values. Any other use has its own
+// numbers after its kind, as they are.
+const PAIR: usize = 256;
 
 // The uses of a format, by how many they are; or why it is refused.
 pub enum Decoded {
@@ -58,31 +72,44 @@ fn put_numbers(kept: &mut [Index], at: usize, kind: Index, a: usize, b: usize)
 }
 
 fn span_kind(standard: bool) -> Index
-    ensures { λ r. ⌜ r ≡ span-kind standard ⌝ }
+    ensures { λ r. ⌜ (r ≡ span-kind standard) × (r < bare-weight) ⌝ }
 {
     if standard { STORED } else { IN_EFFECT }
 }
 
 fn flag(b: bool) -> Index
-    ensures { λ r. ⌜ r ≡ flag b ⌝ }
+    ensures { λ r. ⌜ (r ≡ flag b) × (r < 2) ⌝ }
 {
     if b { 1 } else { 0 }
+}
+
+// What a span is, in one number.
+fn span_what(s: Span) -> Index
+    requires { ⌜ Small-span s ⌝ }
+    ensures { λ r. ⌜ r ≡ span-what s ⌝ }
+{
+    span_kind(s.standard)
+        + BARE * flag(s.bare)
+        + FORMAT * (s.format as Index)
+        + SIZE * (s.size as Index)
+}
+
+// Two numbers as one.
+fn pair(a: usize, b: usize) -> Index
+    requires { ⌜ (a < pair-base) × (b < pair-base) ⌝ }
+    ensures { λ r. ⌜ r ≡ pair a b ⌝ }
+{
+    (PAIR * a + b) as Index
 }
 
 fn put_span(kept: &mut [Index], at: usize, s: Span)
     requires { ⌜ (at + numbers-kept ≤ length (now kept)) × Small-span s ⌝ }
     ensures { λ _. ⌜ now (kept .exit) ≡ sets (now (kept .entry)) at (span-numbers s) ⌝ }
 {
-    kept[at] = span_kind(s.standard);
-    kept[at + 1] = s.first as Index;
-    kept[at + 2] = s.end as Index;
-    kept[at + 3] = s.from as Index;
-    kept[at + 4] = s.upto as Index;
-    kept[at + 5] = s.value_from as Index;
-    kept[at + 6] = s.value_upto as Index;
-    kept[at + 7] = s.format as Index;
-    kept[at + 8] = s.size as Index;
-    kept[at + 9] = flag(s.bare);
+    kept[at] = span_what(s);
+    kept[at + 1] = pair(s.first, s.end);
+    kept[at + 2] = pair(s.from, s.upto);
+    kept[at + 3] = pair(s.value_from, s.value_upto);
 }
 
 // Keeps a use as the one with the number n.
@@ -115,17 +142,21 @@ pub fn span_at(kept: &[Index], at: usize) -> Span
     requires { ⌜ at + numbers-kept ≤ length (now kept) ⌝ }
     ensures { λ r. ⌜ r ≡ span-at (now (kept .entry)) at ⌝ }
 {
+    let what = kept[at];
+    let entries = index(kept[at + 1]);
+    let occurrences = index(kept[at + 2]);
+    let values = index(kept[at + 3]);
     Span {
-        first: index(kept[at + 1]),
-        end: index(kept[at + 2]),
-        from: index(kept[at + 3]),
-        upto: index(kept[at + 4]),
-        value_from: index(kept[at + 5]),
-        value_upto: index(kept[at + 6]),
-        standard: kept[at] == STORED,
-        format: index(kept[at + 7]),
-        size: index(kept[at + 8]),
-        bare: kept[at + 9] == 1,
+        first: entries / PAIR,
+        end: entries % PAIR,
+        from: occurrences / PAIR,
+        upto: occurrences % PAIR,
+        value_from: values / PAIR,
+        value_upto: values % PAIR,
+        standard: what % BARE == STORED,
+        format: index(what / FORMAT % FORMATS),
+        size: index(what / SIZE),
+        bare: what / BARE % 2 == 1,
     }
 }
 
@@ -135,7 +166,7 @@ pub fn get(kept: &[Index], n: usize) -> Use
     ensures { λ r. ⌜ r ≡ use-at (now (kept .entry)) n ⌝ }
 {
     let at = NUMBERS * n;
-    let kind = kept[at];
+    let kind = kept[at] % BARE;
     if kind == BLANKS {
         return Use::Blanks(index(kept[at + 1]));
     }

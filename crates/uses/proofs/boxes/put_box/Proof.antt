@@ -1,5 +1,5 @@
 -- `uses::boxes::put_box` meets its contract: four numbers are set, one after the other.
-use Rattle.uses.proofs.Marking.{four-sets}
+use Rattle.uses.proofs.Numbers.{four-sets}
 use borrow.Author.Needs.{needs}
 use Rattle.uses.proofs.boxes.put_box.Statement.{statement}
 use Rattle.uses.proofs.boxes.put_box.Tie as tie

@@ -6,6 +6,7 @@ use lib.ListN.{length}
 use Rattle.tables.specs.Entries.{entries-of}
 use Rattle.tables.proofs.Tables.{valid-most}
 use Rattle.uses.specs.Meant.{Good-use}
+use Rattle.uses.specs.Kept.{numbers-kept, small}
 use Rattle.uses.specs.Decoding.{uses-so-far}
 use Rattle.uses.specs.declared.Use.{Use}
 use Rattle.uses.specs.declared.kept.Decoded.{Decoded}
@@ -17,7 +18,7 @@ use borrow.Author.Needs.{needs}
 use Rattle.uses.proofs.kept.keep_element.Statement.{statement}
 use Rattle.uses.proofs.kept.keep_element.Tie as tie
 
--- Where the function starts, before what the element means; where the use that was found stands in the count; that it is good; and that there is room.
+-- Where the function starts, before what the element means; where the use that was found stands in the count; that it is good and small; and that there is room.
 abbrev start : tie.After-use-of → tie.Start
 start c = c .before .before .before .before .before .before .before
 
@@ -33,8 +34,13 @@ used c = c .before .before .meant2 .given .0 .0
 held : (c : tie.After-is-written) → (let s = start (asked c) in Good-use (entries-of (s .args .t .now)) (s .pre .3 .0) (used c))
 held c = let s = start (asked c) in use-held _ (asked c .use-of .ensures) _ (c .before .before .meant2 .given .1) (s .pre .3 .0) (s .pre .3 .1)
 
-room : (c : tie.After-use-of) → (let d = c .before .before .before in 10 * (d .d2 .given .0 .0) + 10 ≤ length (start c .args .kept .now))
-room c = subst (λ (d : Decoded). 10 * uses-so-far d + 10 ≤ length (start c .args .kept .now)) (number c) (start c .pre .2)
+small-used : (c : tie.After-is-written) → small (used c)
+small-used c =
+    let s = start (asked c) in
+    use-small (entries-of (s .args .t .now)) (valid-most (s .args .t .now) (s .pre .0)) (s .pre .3 .0) (s .pre .3 .2) (used c) (held c)
+
+room : (c : tie.After-use-of) → (let d = c .before .before .before in numbers-kept * (d .d2 .given .0 .0) + numbers-kept ≤ length (start c .args .kept .now))
+room c = subst (λ (d : Decoded). numbers-kept * uses-so-far d + numbers-kept ≤ length (start c .args .kept .now)) (number c) (start c .pre .2)
 
 enum-known-d : tie.Need-enum-known-d
 enum-known-d c = search needs
@@ -61,10 +67,7 @@ remember-requires c κs =
     (s .pre .0, span-known (entries-of (s .args .t .now)) (s .pre .3 .0) (used w) (held w), s .pre .1)
 
 put-requires : tie.Need-put-requires
-put-requires c κs =
-    let w = c .before .before .before .before in
-    let s = start (asked w) in
-    (room (asked w), use-small (entries-of (s .args .t .now)) (valid-most (s .args .t .now) (s .pre .0)) (s .pre .3 .0) (s .pre .3 .2) (used w) (held w))
+put-requires c κs = let w = c .before .before .before .before in (room (asked w), small-used w)
 
 add-t20 : tie.Need-add-t20
 add-t20 c =
@@ -79,7 +82,7 @@ returns c =
     let r = p .before .before in
     let w = r .before .before .before in
     let u = asked w in
-    keeps-as (number u) (keeps-use _ (u .use-of .ensures) _ (w .before .before .meant2 .given .1) _ _ (room u) (sym (w .is-written .ensures) ∙ r .before .before .if1 .taken) (r .remember .ensures) (p .put .ensures))
+    keeps-as (number u) (keeps-use _ (u .use-of .ensures) _ (w .before .before .meant2 .given .1) _ _ (room u) (small-used w) (sym (w .is-written .ensures) ∙ r .before .before .if1 .taken) (r .remember .ensures) (p .put .ensures))
 
 returns-2 : tie.Need-returns-2
 returns-2 c = keeps-as (c .before .d .given .1) (keeps-passed _ _)
