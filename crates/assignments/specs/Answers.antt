@@ -1,6 +1,7 @@
 -- What the look-ups answer, in the words of `rules`.
 use mathlib.Core.Path.{_≡_}
 use mathlib.Core.Bool.{Bool, true, false, cond, not, _&&_, _||_}
+use mathlib.Core.Logic.{_⊎_}
 use mathlib.Core.List.{List, [], _∷_, _++_, map}
 use Prim.Native.Nat.{ℕ, zero, suc, _+_, _-_, _*_, _≤_, _<_, max}
 use lib.Dec.{T, eqb, leb, ltb}
@@ -19,37 +20,42 @@ use Rattle.uses.specs.Kept.{numbers-kept, span-at, use-at, uses-kept}
 use Rattle.uses.specs.declared.Span.{Span}
 use Rattle.uses.specs.declared.Use.{Use}
 use Rattle.uses.specs.declared.Use.the-variants as code
-use Rattle.assignments.specs.Notes.{cell-chains, field-chains, group-chain, chains, highest-from, firsts-from, widths-from, note-place, highest-noted, first-noted, width-noted, next-noted, cell-chain, span-chain, use-names, use-chain, names-cell, chained, place-at, bytes-given, Stands-in, Takes-at, On-stage, Listed, Chained, Indexed, width-before}
+use Rattle.assignments.specs.Notes.{note-bound, field-chains, group-chain, highest-from, firsts-from, widths-from, note-place, highest-noted, first-noted, width-noted, next-noted, cell-chain, span-chain, use-names, use-chain, names-cell, chained, place-at, bytes-given, Stands-in, Takes-at, On-stage, Listed, Chained, Indexed, width-before}
 use Rattle.assignments.specs.declared.Naming.{Naming}
 
 -- Value 1 of entry i in occurrence 1 is noted to stand at a place, unless one is noted already.
 unfoldable pub first-put : List ℕ → ℕ → ℕ → List ℕ
 first-put list i at = cond (eqb (first-noted list i) 0) (set list (firsts-from + i) (at + 1)) list
 
--- A span's last occurrence is among those of its entries.
-pub record Marked (s : Span) (list list′ : List ℕ) : Type 0 where
-  pub same : length list′ ≡ length list
-  pub inside : (i : ℕ) → s .first ≤ i → i < s .end → getD list′ (highest-from + i) 0 ≡ max (getD list (highest-from + i) 0) (s .upto)
-  pub outside : (j : ℕ) → ((i : ℕ) → s .first ≤ i → i < s .end → j ≡ highest-from + i → ⊥) → getD list′ j 0 ≡ getD list j 0
+-- An occurrence is among those of entry i, where it is a field.
+unfoldable pub entry-marked : List Entry → List ℕ → ℕ → ℕ → List ℕ
+entry-marked es list i upto =
+    cond (is-group (getD es i blank .what)) list (set list (highest-from + i) (max (getD list (highest-from + i) 0) upto))
 
--- A span with the number n is put before those of its chain, and marked.
-pub record Linked (n : ℕ) (s : Span) (list list′ : List ℕ) : Type 0 where
+-- A span's last occurrence is among those of its fields.
+pub record Marked (es : List Entry) (s : Span) (list list′ : List ℕ) : Type 0 where
   pub same : length list′ ≡ length list
-  pub marked : Marked s (set (set list (note-place n + 1) (getD list (span-chain s) 0)) (span-chain s) (n + 1)) list′
+  pub inside : (i : ℕ) → s .first ≤ i → i < s .end → is-group (getD es i blank .what) ≡ false
+      → getD list′ (highest-from + i) 0 ≡ max (getD list (highest-from + i) 0) (s .upto)
+  pub outside : (j : ℕ) → ((i : ℕ) → s .first ≤ i → i < s .end → is-group (getD es i blank .what) ≡ false → j ≡ highest-from + i → ⊥) → getD list′ j 0 ≡ getD list j 0
 
--- The same of a use; one of another kind changes nothing.
-abbrev pub Links : ℕ → Use → List ℕ → List ℕ → Type 0
-Links n (code.Values s) list list′ = Linked n s list list′
-Links n (code.Blanks m) list list′ = list′ ≡ list
-Links n (code.Text from upto) list list′ = list′ ≡ list
-Links n (code.GroupCount i) list list′ = list′ ≡ list
-Links n (code.ValueCount i k) list list′ = list′ ≡ list
+-- A span with the number n is put before those of its chain, and marked. A use of another kind changes nothing.
+abbrev pub linked : ℕ → Span → List ℕ → List ℕ
+linked n s list = set (set list (note-place n + 1) (getD list (span-chain s) 0)) (span-chain s) (n + 1)
+
+abbrev pub Links : List Entry → ℕ → Use → List ℕ → List ℕ → Type 0
+Links es n (code.Values s) list list′ = Marked es s (linked n s list) list′
+Links es n (code.Blanks m) list list′ = list′ ≡ list
+Links es n (code.Text from upto) list list′ = list′ ≡ list
+Links es n (code.GroupCount i) list list′ = list′ ≡ list
+Links es n (code.ValueCount i k) list list′ = list′ ≡ list
 
 -- What a span needs to be put into a chain.
-pub record Can-link (n : ℕ) (s : Span) (list : List ℕ) : Type 0 where
+pub record Can-link (es : List Entry) (n : ℕ) (s : Span) (list : List ℕ) : Type 0 where
   pub room : note-place (n + 1) ≤ length list
-  pub few : n + 1 < 65536
-  pub entries : (s .first < s .end) × (s .end ≤ most-entries)
+  pub few : n + 1 < note-bound
+  pub most : length es ≤ most-entries
+  pub entries : (s .first < s .end) × (s .end ≤ length es)
   pub occurrences : (s .from ≤ s .upto) × (s .upto ≤ highest-index)
 
 -- The widths of the entries are noted.
@@ -63,7 +69,7 @@ pub record Widened (es : List Entry) (list list′ : List ℕ) : Type 0 where
 -- The uses are in their chains, and what was listed still is; and no occurrence is named twice.
 pub record Linked-all (es : List Entry) (f : Bytes) (kept : List ℕ) (count : ℕ) (list : List ℕ) (stage : Bytes) (ws : List Assignment) : Type 0 where
   pub listed : Listed es f kept count list stage ws
-  pub chains : Chained kept count 0 list
+  pub chains : Chained es kept count 0 list
 
 pub record Named-once (f : Bytes) (es : List Entry) (kept : List ℕ) (count : ℕ) : Type 0 where
   pub apart : T (differ (names es))
@@ -115,6 +121,8 @@ pub record Named-by (es : List Entry) (f : Bytes) (kept : List ℕ) (count : ℕ
   pub entry : i < length es
   pub field : is-group (getD es i blank .what) ≡ false
   pub size-is : size ≡ field-at es i .size
+  -- A use of several fields that names such a cell lies in a periodic group, so that its fields are of fixed length.
+  pub inside : (2 ≤ o) ⊎ (is-multiple (getD es i blank .what) ≡ true)
 
 abbrev pub Has-block : List ℕ → List ℕ → Bytes → ℕ → ℕ → ℕ → ℕ → Type 0
 Has-block kept list stage n i o size = (es : List Entry) × (f : Bytes) × (count : ℕ) × (ws : List Assignment) × Named-by es f kept count list stage ws n i o size
@@ -176,11 +184,12 @@ pub record Tally (kept : List ℕ) (es : List Entry) (ws : List Assignment) (i o
   pub long : length by ≡ highest-index + 1
   pub noted : (k : ℕ) → k ≤ highest-index → Noted-by kept es ws i o ns k (getD by k 0)
 
--- Something can be named of entry i, a field of a standard length.
+-- Something can be named of entry i, an MU field of a standard length.
 pub record Can-name (es : List Entry) (f : Bytes) (kept : List ℕ) (count : ℕ) (list : List ℕ) (stage : Bytes) (ws : List Assignment) (i size : ℕ) : Type 0 where
   pub indexed : Indexed es f kept count list stage ws
   pub entry : i < length es
   pub field : is-group (getD es i blank .what) ≡ false
+  pub multiple : is-multiple (getD es i blank .what) ≡ true
   pub size-is : size ≡ field-at es i .size
 
 -- The uses of one chain more.

@@ -181,16 +181,18 @@ width-before es zero = 0
 width-before es (suc n) = width-before es n + size-of (getD es n blank .what)
 
 -- The chains, from use m on: each has the uses that belong to it, in their order.
-pub record Chained (kept : List ℕ) (count m : ℕ) (list : List ℕ) : Type 0 where
+-- Of each field the highest occurrence that they name is noted, and none of a group.
+pub record Chained (es : List Entry) (kept : List ℕ) (count m : ℕ) (list : List ℕ) : Type 0 where
   pub heads : (x : ℕ) → x < chains → getD list x 0 ≤ count
   pub nexts : (n : ℕ) → m ≤ n → n < count → (next-noted list n ≤ count) × (0 < next-noted list n → suc n < next-noted list n)
   pub members : (x : ℕ) → x < chains → chained list count (getD list x 0) ≡ filter (λ n. eqb (use-chain (use-at kept n)) x) (run (λ n. n) m (count - m))
-  pub highest : (i : ℕ) → i < most-entries → highest-noted list i ≡ maximum (run (λ n. use-reach (use-at kept n) i) m (count - m))
+  pub highest : (i : ℕ) → i < length es → is-group (getD es i blank .what) ≡ false → highest-noted list i ≡ maximum (run (λ n. use-reach (use-at kept n) i) m (count - m))
+  pub groups : (i : ℕ) → i < length es → is-group (getD es i blank .what) ≡ true → highest-noted list i ≡ 0
 
 -- The list can be searched.
 pub record Indexed (es : List Entry) (f : Bytes) (kept : List ℕ) (count : ℕ) (list : List ℕ) (stage : Bytes) (ws : List Assignment) : Type 0 where
   pub listed : Listed es f kept count list stage ws
-  pub chains : Chained kept count 0 list
+  pub chains : Chained es kept count 0 list
   pub widths : 0 < getD list group-chain 0 → (i : ℕ) → i ≤ length es → width-noted list i ≡ width-before es i
   -- Names differ, and no occurrence is named twice.
   pub apart : T (differ (names es))

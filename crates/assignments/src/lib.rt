@@ -14,7 +14,7 @@ ghost use Rattle.tables.specs.Entries.{Valid, entries-of, blank, is-group, is-m
 ghost use Rattle.uses.specs.Kept.{numbers-kept, span-at, use-at};
 ghost use Rattle.uses.specs.declared.Span.{Span};
 ghost use Rattle.assignments.specs.Notes.{note-bound, note-place, group-chain, chains, uses-from, cell-chain, span-chain, use-chain, names-cell, place-at, Takes-at, Unindexed, Listed, Indexed};
-ghost use Rattle.assignments.specs.Answers.{first-put, Marked, Linked, Links, Can-link, Widened, Of-each, Has-index, Has-use, Found-in, chain-at, Has-block, Begins-at, Can-fill, Filled, Tallies, Tally, Names-all, Can-name, Linked-all, Named-once, chains-for, Highest};
+ghost use Rattle.assignments.specs.Answers.{first-put, entry-marked, Marked, linked, Links, Can-link, Widened, Of-each, Has-index, Has-use, Found-in, chain-at, Has-block, Begins-at, Can-fill, Filled, Tallies, Tally, Names-all, Can-name, Linked-all, Named-once, chains-for, Highest};
 
 use uses::Index;
 use uses::Span;
@@ -87,39 +87,49 @@ fn chain_of(s: Span) -> usize
     cell_chain(s.first, s.from)
 }
 
-// Marks the last occurrence of a span at its entries.
-fn mark(list: &mut [u16], s: Span)
-    requires { ⌜ (uses-from ≤ length (now list)) × (s .end ≤ most-entries) × (s .upto ≤ highest-index) ⌝ }
-    ensures { λ _. ⌜ Marked s (now (list .entry)) (now (list .exit)) ⌝ }
+// Marks an occurrence of entry i, where it is a field.
+fn mark_entry(t: &[u8], list: &mut [u16], i: usize, upto: usize)
+    requires { ⌜ Valid (now t) × (uses-from ≤ length (now list)) × (i < length (entries-of (now t))) × (upto ≤ highest-index) ⌝ }
+    ensures { λ _. ⌜ now (list .exit) ≡ entry-marked (entries-of (now (t .entry))) (now (list .entry)) i upto ⌝ }
+{
+    if !tables::group_at(t, i) {
+        if (list[HIGHEST + i] as usize) < upto {
+            list[HIGHEST + i] = upto as u16;
+        }
+    }
+}
+
+// Marks the last occurrence of a span at its fields.
+fn mark(t: &[u8], list: &mut [u16], s: Span)
+    requires { ⌜ Valid (now t) × (uses-from ≤ length (now list)) × (s .end ≤ length (entries-of (now t))) × (s .upto ≤ highest-index) ⌝ }
+    ensures { λ _. ⌜ Marked (entries-of (now (t .entry))) s (now (list .entry)) (now (list .exit)) ⌝ }
 {
     let mut i = s.first;
     while i < s.end {
-        if (list[HIGHEST + i] as usize) < s.upto {
-            list[HIGHEST + i] = s.upto as u16;
-        }
+        mark_entry(t, list, i, s.upto);
         i += 1;
     }
 }
 
 // Puts the span with the number n before those of its chain.
-fn link_span(list: &mut [u16], n: usize, s: Span)
-    requires { ⌜ Can-link n s (now list) ⌝ }
-    ensures { λ _. ⌜ Linked n s (now (list .entry)) (now (list .exit)) ⌝ }
+fn link_span(t: &[u8], list: &mut [u16], n: usize, s: Span)
+    requires { ⌜ Valid (now t) × Can-link (entries-of (now t)) n s (now list) ⌝ }
+    ensures { λ _. ⌜ Marked (entries-of (now (t .entry))) s (linked n s (now (list .entry))) (now (list .exit)) ⌝ }
 {
     let chain = chain_of(s);
     list[USES + NUMBERS * n + 1] = list[chain];
     list[chain] = (n + 1) as u16;
-    mark(list, s);
+    mark(t, list, s);
 }
 
 // The same of use n: only values are in a chain.
-fn link(kept: &[Index], list: &mut [u16], n: usize)
-    requires { ⌜ (numbers-kept * n + numbers-kept ≤ length (now kept)) × ((s : Span) → use-at (now kept) n ≡ Use.Values s → Can-link n s (now list)) ⌝ }
-    ensures { λ _. ⌜ Links n (use-at (now (kept .entry)) n) (now (list .entry)) (now (list .exit)) ⌝ }
+fn link(t: &[u8], kept: &[Index], list: &mut [u16], n: usize)
+    requires { ⌜ Valid (now t) × (numbers-kept * n + numbers-kept ≤ length (now kept)) × ((s : Span) → use-at (now kept) n ≡ Use.Values s → Can-link (entries-of (now t)) n s (now list)) ⌝ }
+    ensures { λ _. ⌜ Links (entries-of (now (t .entry))) n (use-at (now (kept .entry)) n) (now (list .entry)) (now (list .exit)) ⌝ }
 {
     match uses::kept::get(kept, n) {
         Use::Values(s) => {
-            link_span(list, n, s);
+            link_span(t, list, n, s);
         }
         Use::Blanks(_) => {}
         Use::Text(_, _) => {}
@@ -145,14 +155,14 @@ fn put_widths(t: &[u8], list: &mut [u16])
 }
 
 // Puts uses in their chains, from the last to the first.
-fn link_all(kept: &[Index], list: &mut [u16], count: usize)
-    requires { ⌜ Unindexed (now list) × ((es : List Entry) × (f : Bytes) × (stage : Bytes) × (ws : List Assignment) × Listed es f (now kept) count (now list) stage ws) ⌝ }
-    ensures { λ _. ⌜ ((es : List Entry) (f : Bytes) (stage : Bytes) (ws : List Assignment) → Listed es f (now (kept .entry)) count (now (list .entry)) stage ws → Linked-all es f (now (kept .entry)) count (now (list .exit)) stage ws) ⌝ }
+fn link_all(t: &[u8], kept: &[Index], list: &mut [u16], count: usize)
+    requires { ⌜ Valid (now t) × Unindexed (now list) × ((f : Bytes) × (stage : Bytes) × (ws : List Assignment) × Listed (entries-of (now t)) f (now kept) count (now list) stage ws) ⌝ }
+    ensures { λ _. ⌜ ((f : Bytes) (stage : Bytes) (ws : List Assignment) → Listed (entries-of (now (t .entry))) f (now (kept .entry)) count (now (list .entry)) stage ws → Linked-all (entries-of (now (t .entry))) f (now (kept .entry)) count (now (list .exit)) stage ws) ⌝ }
 {
     let mut n = count;
     while 0 < n {
         n -= 1;
-        link(kept, list, n);
+        link(t, kept, list, n);
     }
 }
 
@@ -161,7 +171,7 @@ pub fn index(t: &[u8], kept: &[Index], list: &mut [u16], count: usize)
     requires { ⌜ Valid (now t) × Unindexed (now list) × ((f : Bytes) × (stage : Bytes) × (ws : List Assignment) × Listed (entries-of (now t)) f (now kept) count (now list) stage ws) ⌝ }
     ensures { λ _. ⌜ ((f : Bytes) (stage : Bytes) (ws : List Assignment) → Listed (entries-of (now (t .entry))) f (now (kept .entry)) count (now (list .entry)) stage ws → Named-once f (entries-of (now (t .entry))) (now (kept .entry)) count → Indexed (entries-of (now (t .entry))) f (now (kept .entry)) count (now (list .exit)) stage ws) ⌝ }
 {
-    link_all(kept, list, count);
+    link_all(t, kept, list, count);
     if 0 < list[GROUPS] {
         put_widths(t, list);
     }
@@ -305,7 +315,7 @@ fn named_in(
     so_far: Naming,
 ) -> Naming
     requires { ⌜ (chain < chains) × (length (now by) ≡ highest-index + 1) × ((es : List Entry) × (f : Bytes) × (count : ℕ) × (ws : List Assignment) × Can-name es f (now kept) count (now list) (now stage) ws i size) ⌝ }
-    ensures { λ r. ⌜ Tallies (now (kept .entry)) (now (list .entry)) (now (stage .entry)) chain i o size (now (by .entry)) (now (by .exit)) so_far r ⌝ }
+    ensures { λ r. ⌜ Tallies (now (kept .entry)) (now (list .entry)) (now (stage .entry)) chain i o size (now (by .entry)) (now (by .exit)) «so_far» r ⌝ }
 {
     let mut highest = so_far.highest;
     let mut bare = so_far.bare;
