@@ -82,9 +82,9 @@ Of-each kept list P = (es : List Entry) (f : Bytes) (count : ℕ) (stage : Bytes
 abbrev pub Has-index : List ℕ → List ℕ → Type 0
 Has-index kept list = (es : List Entry) × (f : Bytes) × (count : ℕ) × (stage : Bytes) × (ws : List Assignment) × Indexed es f kept count list stage ws
 
--- The number of a use as it is kept, if there is one.
-abbrev pub Has-use : List ℕ → List ℕ → ℕ → Type 0
-Has-use kept list n = (es : List Entry) × (f : Bytes) × (count : ℕ) × (stage : Bytes) × (ws : List Assignment) × Indexed es f kept count list stage ws × (n < count)
+-- The same, and there are so many entries at least.
+abbrev pub Has-entries : List ℕ → List ℕ → ℕ → Type 0
+Has-entries kept list end = (es : List Entry) × (f : Bytes) × (count : ℕ) × (stage : Bytes) × (ws : List Assignment) × Indexed es f kept count list stage ws × (end ≤ length es)
 
 -- One above the number of a use, among some, that names entry i in occurrence o: 0 where none does.
 abbrev pub Found-in : List ℕ → ℕ → (ℕ → Bool) → ℕ → ℕ → ℕ → Type 0

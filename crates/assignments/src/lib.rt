@@ -14,7 +14,7 @@ ghost use Rattle.tables.specs.Entries.{Valid, entries-of, blank, is-group, is-m
 ghost use Rattle.uses.specs.Kept.{numbers-kept, span-at, use-at};
 ghost use Rattle.uses.specs.declared.Span.{Span};
 ghost use Rattle.assignments.specs.Notes.{note-bound, note-place, group-chain, chains, uses-from, cell-chain, span-chain, use-chain, names-cell, place-at, Takes-at, Unindexed, Listed, Indexed};
-ghost use Rattle.assignments.specs.Answers.{first-put, entry-marked, Marked, linked, Links, Can-link, Widened, Of-each, Has-index, Has-use, Found-in, chain-at, Has-block, Begins-at, Can-fill, Filled, Tallies, Tally, Names-all, Can-name, Linked-all, Named-once, chains-for, Highest};
+ghost use Rattle.assignments.specs.Answers.{first-put, entry-marked, Marked, linked, Links, Can-link, Widened, Of-each, Has-index, Has-entries, Found-in, chain-at, Has-block, Begins-at, Can-fill, Filled, Tallies, Tally, Names-all, Can-name, Linked-all, Named-once, chains-for, Highest};
 
 use uses::Index;
 use uses::Span;
@@ -378,7 +378,7 @@ pub fn named(
 
 // The highest occurrence in which a field among the entries from first to end is named: 0 where none is.
 pub fn highest_occurrence(kept: &[Index], list: &[u16], first: usize, end: usize) -> usize
-    requires { ⌜ Has-index (now kept) (now list) × (end ≤ most-entries) ⌝ }
+    requires { ⌜ (first ≤ end) × Has-entries (now kept) (now list) end ⌝ }
     ensures { λ r. ⌜ Highest (now (kept .entry)) (now (list .entry)) first end r × (r ≤ highest-index) ⌝ }
 {
     let mut highest = 0;
