@@ -51,7 +51,7 @@ module _ (es : List Entry) (f : Bytes) (kept : List ℕ) (count : ℕ) where
 abbrev pub at-first : Taking
 at-first = record { at = 0; staged = 0; count = 0; full = false }
 
-pub nothing-held : {es : List Entry} {buffer : Bytes} {list : List ℕ} {stage : Bytes} → length es ≤ most-entries → Room-enough buffer list stage → Unindexed list
+pub nothing-held : {es : List Entry} {buffer : Bytes} {list : List ℕ} {stage : Bytes} → length es ≤ most-entries → Room-enough list stage → Unindexed list
     → Holds es buffer list stage at-first []
 unfolding join
 nothing-held {es} {buffer} {list} {stage} most room u = record {

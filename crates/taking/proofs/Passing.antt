@@ -45,27 +45,30 @@ skips-values n i bs = refl
 
 module _ (es : List Entry) (buffer : Bytes) (n : ℕ) (s : Taking) (list : List ℕ) (stage : Bytes) where
   passed-on : {ws : List Assignment} → s .at + n ≤ length buffer → Holds es buffer list stage s ws
-      → Holds es buffer list stage (record { at = s .at + n; staged = s .staged; count = s .count; full = s .full }) ws
+      → Holds es buffer list stage (record { at = s .at + n; staged = s .staged; full = s .full }) ws
   passed-on l h = record {
+    entries = h .entries;
     place = l;
+    within = h .within;
     unindexed = h .unindexed;
     full = h .full;
-    listed = h .listed;
-    count = h .count;
     staged = h .staged;
-    few = λ e. (omega (arith, h .few e .0), h .few e .1);
+    bytes = h .bytes;
+    firsts = h .firsts;
   }
 
   passes : (xs : List Item) → Skips xs n → (r : Taken) → Passed buffer n s r → Takes es buffer xs s list list stage stage r
   passes xs k (At t) p = record {
     same-list = refl;
     same-stage = refl;
+    same-uses = λ j h. refl;
     moved = λ ws h. subst (λ t. (own : List Assignment) × (taking xs (drop (s .at) buffer) ≡ done (own, drop (t .at) buffer)) × Holds es buffer list stage t (ws ++ own)) (sym (p .1))
         ([], k (drop (s .at) buffer) ∙ rw (cut-enough 7 n (drop (s .at) buffer) (rw length-drop (omega (arith, p .0)))) (rw drop-drop), rw append-nil (passed-on (p .0) h));
   }
   passes xs k (Refused x) p = record {
     same-list = refl;
     same-stage = refl;
+    same-uses = λ j h. refl;
     moved = λ ws h. rw (p .1) (k (drop (s .at) buffer) ∙ rw (cut-short 7 n (drop (s .at) buffer) (rw length-drop (omega (arith, p .0)))));
   }
 

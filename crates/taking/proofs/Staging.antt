@@ -103,7 +103,7 @@ pub record Puts (es : List Entry) (buffer : Bytes) (g : Given) (content : Bytes)
   pub gives : Gives es g
   pub less : s .at < next
   pub within : next ≤ length buffer
-  pub room : Room-enough buffer list stage
+  pub room : Room-enough list stage
   pub begins : Begins s from
 
 module _ {es : List Entry} {buffer : Bytes} {g : Given} {content : Bytes} {next : ℕ} {s : Taking} {list : List ℕ} {stage stage′ : Bytes} {from : ℕ} {r : Next}

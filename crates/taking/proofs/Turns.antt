@@ -2,8 +2,8 @@
 -- far before it. A turn takes some items off the front, a stop is their refusal.
 use mathlib.Core.Path.{_≡_, refl, sym, _∙_}
 use mathlib.Core.List.{List, [], _++_, append-assoc, append-nil}
-use Prim.Native.Nat.{ℕ}
-use lib.ListN.{length, drop}
+use Prim.Native.Nat.{ℕ, _≤_}
+use lib.ListN.{length, drop, getD}
 use Rattle.rules.specs.Outcome.{Outcome, done, refused, _>>=_}
 use Rattle.rules.specs.Lists.{Bytes}
 use Rattle.rules.specs.Numbers.{refusal-number}
@@ -12,6 +12,7 @@ use Rattle.rules.specs.Use.{Item}
 use Rattle.rules.specs.Update.{Assignment}
 use Rattle.rules.specs.declared.Refusal.{Refusal}
 use Rattle.rules.proofs.Ranges.{taking, taking-append}
+use Rattle.assignments.specs.Notes.{uses-from}
 use Rattle.taking.specs.Taking.{Room-enough, Ready, Holds, Takes}
 use Rattle.taking.specs.declared.Taking.{Taking}
 use Rattle.taking.specs.declared.Taken.{Taken}
@@ -43,6 +44,7 @@ taking-stop xs ys bs n e = taking-append xs ys bs ∙ rw e
 pub record Taken-on (es : List Entry) (buffer : Bytes) (whole rest : List Item) (s t : Taking) (list₀ list : List ℕ) (stage₀ stage : Bytes) : Type 0 where
   pub same-list : length list ≡ length list₀
   pub same-stage : length stage ≡ length stage₀
+  pub same-uses : (j : ℕ) → uses-from ≤ j → getD list j 0 ≡ getD list₀ j 0
   pub left : (ws : List Assignment) → Holds es buffer list₀ stage₀ s ws
       → (own : List Assignment) × (taking whole (drop (s .at) buffer) ≡ before own (taking rest (drop (t .at) buffer))) × Holds es buffer list stage t (ws ++ own)
 
@@ -50,12 +52,13 @@ pub turn-start : (es : List Entry) (buffer : Bytes) (xs : List Item) (s : Taking
 turn-start es buffer xs s list stage = record {
   same-list = refl;
   same-stage = refl;
+  same-uses = λ j h. refl;
   left = λ ws h. ([], sym (before-none (taking xs (drop (s .at) buffer))), rw append-nil h);
 }
 
 module _ {es : List Entry} {buffer : Bytes} {whole rest : List Item} {s t : Taking} {list₀ list : List ℕ} {stage₀ stage : Bytes}
     (d : Taken-on es buffer whole rest s t list₀ list stage₀ stage) where
-  pub turn-roomy : Room-enough buffer list₀ stage₀ → Room-enough buffer list stage
+  pub turn-roomy : Room-enough list₀ stage₀ → Room-enough list stage
   turn-roomy r = (rw (d .same-list) (r .0), d .same-stage ∙ r .1)
 
   pub turn-ready : Ready es buffer list₀ stage₀ s → Ready es buffer list stage t
@@ -68,6 +71,7 @@ module _ {es : List Entry} {buffer : Bytes} {whole rest : List Item} {s t : Taki
       record {
         same-list = m .same-list ∙ d .same-list;
         same-stage = m .same-stage ∙ d .same-stage;
+        same-uses = λ j h. m .same-uses j h ∙ d .same-uses j h;
         left = λ ws h.
             let x = d .left ws h in
             let y = m .moved (ws ++ x .0) (x .2) in (
@@ -84,6 +88,7 @@ module _ {es : List Entry} {buffer : Bytes} {whole rest : List Item} {s t : Taki
       record {
         same-list = m .same-list ∙ d .same-list;
         same-stage = m .same-stage ∙ d .same-stage;
+        same-uses = λ j h. m .same-uses j h ∙ d .same-uses j h;
         moved = λ ws h.
             let x = d .left ws h in
             x .1 ∙ rw (e, taking-stop xs ys (drop (t .at) buffer) (refusal-number n) (m .moved (ws ++ x .0) (x .2)));
@@ -93,6 +98,7 @@ module _ {es : List Entry} {buffer : Bytes} {whole rest : List Item} {s t : Taki
   turn-end e = record {
     same-list = d .same-list;
     same-stage = d .same-stage;
+    same-uses = d .same-uses;
     moved = λ ws h. let x = d .left ws h in (x .0, x .1 ∙ rw (e, taking-none (drop (t .at) buffer), append-nil), x .2);
   }
 

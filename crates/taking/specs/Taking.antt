@@ -1,17 +1,18 @@
--- What the record buffer gave so far: the assignments that the list and the stage hold, and the bytes that are left.
+-- What the record buffer gave so far: the assignments whose bytes the stage holds, and the bytes that are left.
 use mathlib.Core.Path.{_≡_}
-use mathlib.Core.Bool.{Bool, true, false}
+use mathlib.Core.Bool.{Bool, true, false, cond, _&&_}
 use mathlib.Core.List.{List, [], _∷_, _++_, map}
-use Prim.Native.Nat.{ℕ, _+_, min, _≤_, _<_}
-use lib.ListN.{length, drop, getD}
+use Prim.Native.Nat.{ℕ, _+_, _≤_, _<_}
+use lib.Dec.{eqb}
+use lib.ListN.{length, take, drop, getD}
 use Rattle.rules.specs.Outcome.{Outcome, done, refused}
-use Rattle.rules.specs.Limits.{formats, longest-new-record}
-use Rattle.rules.specs.Lists.{Bytes, join}
+use Rattle.rules.specs.Limits.{formats, most-entries, longest-new-record}
+use Rattle.rules.specs.Lists.{Bytes}
 use Rattle.rules.specs.Numbers.{refusal-number}
 use Rattle.rules.specs.declared.Refusal.the-variants.{BeyondBuffer}
 use Rattle.rules.specs.Values.{allowed, converts, converted-bytes}
 use Rattle.rules.specs.Table.{Entry, Field}
-use Rattle.rules.specs.Use.{Item, Asked, Use, as-stored, just, value-items, items}
+use Rattle.rules.specs.Use.{Item, Asked, as-stored, just, value-items, items}
 use Rattle.rules.specs.Update.{Assignment, assignments}
 use Rattle.rules.proofs.Ranges.{from-to, taking}
 use Rattle.value_formats.specs.Formats.{format-at}
@@ -19,30 +20,28 @@ use Rattle.tables.specs.Entries.{blank, is-group}
 use Rattle.tables.specs.Groups.{field-at}
 use Rattle.uses.specs.Meant.{fields-from}
 use Rattle.uses.specs.declared.Span.{Span}
-use Rattle.assignments.specs.Notes.{note-place, place-at, Listed, Unindexed}
+use Rattle.uses.specs.Kept.{uses-kept}
+use Rattle.assignments.specs.Notes.{uses-from, place-at, bytes-given, Firsts, Listed, Unindexed}
+use Rattle.assignments.specs.Answers.{first-put}
 use Rattle.taking.specs.declared.value.Given.{Given}
 use Rattle.taking.specs.declared.Taking.{Taking}
 use Rattle.taking.specs.declared.Taken.{Taken}
 use Rattle.taking.specs.declared.Taken.the-variants.{At, Refused}
 
--- The bytes of assignments, one after the other.
-abbrev pub bytes-given : List Assignment → Bytes
-bytes-given ws = join (map (λ a. a .bytes) ws)
+-- The list has room for the numbers of the entries, and the stage for what a new record can hold.
+abbrev pub Room-enough : List ℕ → Bytes → Type 0
+Room-enough list stage = (uses-from ≤ length list) × (length stage ≡ longest-new-record)
 
--- The list and the stage have room for what a record buffer can give to a new record.
-abbrev pub Room-enough : Bytes → List ℕ → Bytes → Type 0
-Room-enough buffer list stage = (note-place (min (length buffer) longest-new-record) ≤ length list) × (length stage ≡ longest-new-record)
-
--- Where the items stand, with the assignments ws so far: all are in the list, or they have more bytes than a new record.
+-- Where the items stand, with the assignments ws so far: their bytes are on the stage, or they have more bytes than a new record.
 pub record Holds (es : List Entry) (buffer : Bytes) (list : List ℕ) (stage : Bytes) (s : Taking) (ws : List Assignment) : Type 0 where
+  pub entries : length es ≤ most-entries
   pub place : s .at ≤ length buffer
+  pub within : s .staged ≤ length stage
   pub unindexed : Unindexed list
   pub full : s .full ≡ true → longest-new-record < length (bytes-given ws)
-  pub listed : s .full ≡ false → Listed es list stage (s .staged) ws
-  pub count : s .full ≡ false → s .count ≡ length ws
   pub staged : s .full ≡ false → s .staged ≡ length (bytes-given ws)
-  -- Each took a byte of the buffer and one of the stage at least.
-  pub few : s .full ≡ false → (length ws ≤ s .at) × (length ws ≤ s .staged)
+  pub bytes : s .full ≡ false → bytes-given ws ≡ take (s .staged) stage
+  pub firsts : s .full ≡ false → Firsts es list ws
 
 -- Items were taken: those assignments came to what was held, or they are refused.
 abbrev pub Moved : List Entry → Bytes → List Item → ℕ → List ℕ → Bytes → List Assignment → Taken → Type 0
@@ -53,21 +52,23 @@ Moved es buffer xs at list stage ws (Refused x) = taking xs (drop at buffer) ≡
 pub record Takes (es : List Entry) (buffer : Bytes) (xs : List Item) (s : Taking) (list list′ : List ℕ) (stage stage′ : Bytes) (r : Taken) : Type 0 where
   pub same-list : length list′ ≡ length list
   pub same-stage : length stage′ ≡ length stage
+  -- What is noted of uses stays.
+  pub same-uses : (j : ℕ) → uses-from ≤ j → getD list′ j 0 ≡ getD list j 0
   pub moved : (ws : List Assignment) → Holds es buffer list stage s ws → Moved es buffer xs (s .at) list′ stage′ ws r
 
 -- So many bytes of the buffer were passed over, or it has fewer.
 abbrev pub Passed : Bytes → ℕ → Taking → Taken → Type 0
 Passed buffer n s (At t) =
-    (s .at + n ≤ length buffer) × (t ≡ record { at = s .at + n; staged = s .staged; count = s .count; full = s .full })
+    (s .at + n ≤ length buffer) × (t ≡ record { at = s .at + n; staged = s .staged; full = s .full })
 Passed buffer n s (Refused x) = (length buffer < s .at + n) × (x ≡ BeyondBuffer)
 
 -- The same, after a value up to a place for which the stage has no room.
 abbrev pub tested-to : ℕ → Taking → Taking
-tested-to next s = record { at = next; staged = s .staged; count = s .count; full = true }
+tested-to next s = record { at = next; staged = s .staged; full = true }
 
 -- There is room, and some assignments are held.
 abbrev pub Ready : List Entry → Bytes → List ℕ → Bytes → Taking → Type 0
-Ready es buffer list stage s = Room-enough buffer list stage × ((ws : List Assignment) × Holds es buffer list stage s ws)
+Ready es buffer list stage s = Room-enough list stage × ((ws : List Assignment) × Holds es buffer list stage s ws)
 
 -- The field whose values are taken, at the format and the length in effect; and what is known of it.
 abbrev pub asked-given : List Entry → Given → Asked
@@ -109,9 +110,16 @@ pub record Stages (es : List Entry) (buffer : Bytes) (g : Given) (o k : ℕ) (co
     (stage stage′ : Bytes) (r : Taken) : Type 0 where
   pub same-list : length list′ ≡ length list
   pub same-stage : length stage′ ≡ length stage
+  pub same-uses : (j : ℕ) → uses-from ≤ j → getD list′ j 0 ≡ getD list j 0
   pub moved : (ws : List Assignment) → Holds es buffer list stage s ws → Staged-value es buffer g o k content next list′ stage′ ws r
 
--- What a record buffer gives to the items of uses: assignments that are held, or a refusal.
-abbrev pub Gave : List Entry → Bytes → List Use → List ℕ → Bytes → Taken → Type 0
-Gave es buffer us list stage (At s) = (ws : List Assignment) × (assignments (items us) buffer ≡ done ws) × Holds es buffer list stage s ws
-Gave es buffer us list stage (Refused x) = assignments (items us) buffer ≡ refused (refusal-number x)
+-- A value is noted, if it is value 1 of occurrence 1.
+abbrev pub noted : List ℕ → ℕ → ℕ → ℕ → ℕ → List ℕ
+noted list i o k at = cond (eqb o 1 && eqb k 1) (first-put list i at) list
+
+-- What a record buffer gives to the items of uses: assignments that are listed, if the stage has room for them, or a refusal.
+abbrev pub Gave : List Entry → Bytes → Bytes → List ℕ → ℕ → List ℕ → Bytes → Taken → Type 0
+Gave es f buffer kept count list stage (At s) =
+    (ws : List Assignment) × (assignments (items (uses-kept es f kept count)) buffer ≡ done ws) × (s .full ≡ true → longest-new-record < length (bytes-given ws))
+    × (s .full ≡ false → Listed es f kept count list stage ws) × Unindexed list
+Gave es f buffer kept count list stage (Refused x) = assignments (items (uses-kept es f kept count)) buffer ≡ refused (refusal-number x)

@@ -1,14 +1,16 @@
 // What the record buffer gives to the occurrences that a format names (7, 8, 9): each value to a stage, in normal form at its field's own
-// format and length, and a note of it to the list of assignments.
-ghost use Prim.Native.Nat.{_*_, _≤_};
-ghost use lib.ListN.{length};
+// format and length. Where the values of each use begin is noted.
+ghost use mathlib.Core.Path.{_≡_};
+ghost use Prim.Native.Nat.{ℕ, _*_, _≤_, _<_};
+ghost use lib.ListN.{length, getD};
+ghost use Rattle.rules.specs.Limits.{longest-new-record};
 ghost use Rattle.rules.specs.Lists.{Bytes};
 ghost use Rattle.rules.specs.Use.{items-of};
 ghost use Rattle.tables.specs.Entries.{Valid, entries-of};
-ghost use Rattle.uses.specs.Kept.{numbers-kept, uses-kept, Good-uses};
+ghost use Rattle.uses.specs.Kept.{numbers-kept, Good-uses};
 ghost use Rattle.uses.specs.Meant.{Good-use, use-meant};
-ghost use Rattle.assignments.specs.Notes.{Unindexed};
-ghost use Rattle.taking.specs.Taking.{Room-enough, Takes, Ready, Gave, Passed};
+ghost use Rattle.assignments.specs.Notes.{note-bound, note-place};
+ghost use Rattle.taking.specs.Taking.{Takes, Ready, Gave, Passed};
 
 mod spans;
 mod value;
@@ -16,12 +18,11 @@ mod value;
 use rules::Refusal;
 use uses::Use;
 
-// Where the items of a call stand: at a place of the record buffer, with so many bytes on the stage and so many notes in the list. Where the
-// stage is full the new record is too long, and the items are only tested.
+// Where the items of a call stand: at a place of the record buffer, with so many bytes on the stage. Where the stage is full the new record
+// is too long, and the items are only tested.
 pub struct Taking {
     pub at: usize,
     pub staged: usize,
-    pub count: usize,
     pub full: bool,
 }
 
@@ -42,7 +43,6 @@ fn pass(buffer: &[u8], n: usize, s: Taking) -> Taken
     Taken::At(Taking {
         at: s.at + n,
         staged: s.staged,
-        count: s.count,
         full: s.full,
     })
 }
@@ -70,17 +70,17 @@ pub fn take(
     list: &mut [u16],
     stage: &mut [u8],
 ) -> Taken
-    requires { ⌜ Valid (now t) × (numbers-kept * count ≤ length (now kept)) × ((f : Bytes) × Good-uses (entries-of (now t)) f (now kept) count) × Room-enough (now buffer) (now list) (now stage) × Unindexed (now list) ⌝ }
-    ensures { λ r. ⌜ ((f : Bytes) → Good-uses (entries-of (now (t .entry))) f (now (kept .entry)) count → Gave (entries-of (now (t .entry))) (now (buffer .entry)) (uses-kept (entries-of (now (t .entry))) f (now (kept .entry)) count) (now (list .exit)) (now (stage .exit)) r) ⌝ }
+    requires { ⌜ Valid (now t) × (numbers-kept * count ≤ length (now kept)) × ((f : Bytes) × Good-uses (entries-of (now t)) f (now kept) count) × (count < note-bound) × (note-place count ≤ length (now list)) × (length (now stage) ≡ longest-new-record) × ((j : ℕ) → getD (now list) j 0 ≡ 0) ⌝ }
+    ensures { λ r. ⌜ ((f : Bytes) → Good-uses (entries-of (now (t .entry))) f (now (kept .entry)) count → Gave (entries-of (now (t .entry))) f (now (buffer .entry)) (now (kept .entry)) count (now (list .exit)) (now (stage .exit)) r) ⌝ }
 {
     let mut state = Taking {
         at: 0,
         staged: 0,
-        count: 0,
         full: false,
     };
     let mut n = 0;
     while n < count {
+        assignments::begin(list, n, state.staged);
         match take_use(t, buffer, uses::kept::get(kept, n), list, stage, state) {
             Taken::Refused(x) => {
                 return Taken::Refused(x);

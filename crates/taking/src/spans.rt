@@ -30,7 +30,7 @@ fn take_values(
     s: Taking,
 ) -> Taken
     requires { ⌜ (1 ≤ o) × (o ≤ highest-index) × (1 ≤ first) × (last ≤ highest-index) × ((es : List Entry) × Gives es g × Ready es (now buffer) (now list) (now stage) s) ⌝ }
-    ensures { λ r. ⌜ ((es : List Entry) → Gives es g → Room-enough (now (buffer .entry)) (now (list .entry)) (now (stage .entry)) → Takes es (now (buffer .entry)) (value-items (asked-given es g ∷ []) (just o) (from-to first last) (g .bare)) s (now (list .entry)) (now (list .exit)) (now (stage .entry)) (now (stage .exit)) r) ⌝ }
+    ensures { λ r. ⌜ ((es : List Entry) → Gives es g → Room-enough (now (list .entry)) (now (stage .entry)) → Takes es (now (buffer .entry)) (value-items (asked-given es g ∷ []) (just o) (from-to first last) (g .bare)) s (now (list .entry)) (now (list .exit)) (now (stage .entry)) (now (stage .exit)) r) ⌝ }
 {
     let mut state = s;
     let mut k = first;

@@ -1,12 +1,12 @@
-// One value of the record buffer: to the stage at its field's own format and length, with a note of it in the list.
+// One value of the record buffer: to the stage at its field's own format and length.
 ghost use mathlib.Core.Path.{_≡_};
 ghost use mathlib.Core.Bool.{true};
 ghost use mathlib.Core.Logic.{_⊎_};
 ghost use mathlib.Core.List.{List, _∷_, []};
-ghost use Prim.Native.Nat.{_-_, _≤_, _<_};
+ghost use Prim.Native.Nat.{_+_, _-_, _≤_, _<_};
 ghost use lib.ListN.{length, take, drop};
 ghost use Rattle.rules.specs.Outcome.{done};
-ghost use Rattle.rules.specs.Limits.{formats, highest-index, longest-alpha};
+ghost use Rattle.rules.specs.Limits.{formats, most-entries, highest-index, longest-alpha};
 ghost use Rattle.rules.specs.Values.{allowed, first-value, with-length-byte};
 ghost use Rattle.rules.specs.Table.{Entry};
 ghost use Rattle.rules.proofs.Ranges.{item-at};
@@ -14,11 +14,11 @@ ghost use Rattle.value_formats.specs.Formats.{format-at};
 ghost use Rattle.values.specs.Places.{Located};
 ghost use Rattle.values.specs.declared.FirstValue.the-variants.{Value};
 ghost use Rattle.filling.specs.Filling.{Filling, in-room};
-ghost use Rattle.taking.specs.Taking.{Room-enough, Takes, Ready, asked-given, given-bytes, Gives, Stages, tested-to};
+ghost use Rattle.taking.specs.Taking.{Room-enough, Takes, Ready, asked-given, given-bytes, Gives, Stages, tested-to, noted};
+ghost use Rattle.assignments.specs.Notes.{note-bound, uses-from};
 ghost use Rattle.taking.specs.declared.Taken.the-variants.{At};
 use crate::Taken;
 use crate::Taking;
-use assignments::Note;
 use filling::Next;
 use rules::Refusal;
 use values::FirstValue;
@@ -40,7 +40,6 @@ fn without_room(next: usize, s: Taking) -> Taken
     Taken::At(Taking {
         at: next,
         staged: s.staged,
-        count: s.count,
         full: true,
     })
 }
@@ -93,6 +92,18 @@ fn put_given(
     Next::Refused(Refusal::BadValue)
 }
 
+// Notes where value k of entry i in occurrence o stands, if it is value 1 of occurrence 1.
+fn note(list: &mut [u16], i: usize, o: usize, k: usize, at: usize)
+    requires { ⌜ (uses-from ≤ length (now list)) × (i < most-entries) × (at + 1 < note-bound) ⌝ }
+    ensures { λ _. ⌜ now (list .exit) ≡ noted (now (list .entry)) i o k at ⌝ }
+{
+    if o == 1 {
+        if k == 1 {
+            assignments::put(list, i, at);
+        }
+    }
+}
+
 // Value k of a field in occurrence o, whose content stands in the buffer from `from` up to `next`: to the stage, or only tested.
 fn stage_value(
     buffer: &[u8],
@@ -106,7 +117,7 @@ fn stage_value(
     s: Taking,
 ) -> Taken
     requires { ⌜ Located (now buffer) (s .at) (first-value (g .size) (drop (s .at) (now buffer))) (Value from next) × (1 ≤ o) × (o ≤ highest-index) × (1 ≤ k) × (k ≤ highest-index) × ((es : List Entry) × Gives es g × Ready es (now buffer) (now list) (now stage) s) ⌝ }
-    ensures { λ r. ⌜ ((es : List Entry) → Gives es g → Room-enough (now (buffer .entry)) (now (list .entry)) (now (stage .entry)) → Stages es (now (buffer .entry)) g o k (take (next - from) (drop from (now (buffer .entry)))) next s (now (list .entry)) (now (list .exit)) (now (stage .entry)) (now (stage .exit)) r) ⌝ }
+    ensures { λ r. ⌜ ((es : List Entry) → Gives es g → Room-enough (now (list .entry)) (now (stage .entry)) → Stages es (now (buffer .entry)) g o k (take (next - from) (drop from (now (buffer .entry)))) next s (now (list .entry)) (now (list .exit)) (now (stage .entry)) (now (stage .exit)) r) ⌝ }
 {
     let to = if s.full { 0 } else { s.staged };
     let put = put_given(buffer, s.at, from, next, g, stage, to, !s.full);
@@ -119,22 +130,10 @@ fn stage_value(
             if s.full {
                 return without_room(next, s);
             }
-            assignments::put(
-                list,
-                s.count,
-                Note {
-                    entry: g.entry,
-                    occurrence: o,
-                    value: k,
-                    bare: g.bare,
-                    from: to,
-                    upto,
-                },
-            );
+            note(list, g.entry, o, k, to);
             Taken::At(Taking {
                 at: next,
                 staged: upto,
-                count: s.count + 1,
                 full: false,
             })
         }
@@ -152,7 +151,7 @@ pub fn take_value(
     s: Taking,
 ) -> Taken
     requires { ⌜ (1 ≤ o) × (o ≤ highest-index) × (1 ≤ k) × (k ≤ highest-index) × ((es : List Entry) × Gives es g × Ready es (now buffer) (now list) (now stage) s) ⌝ }
-    ensures { λ r. ⌜ ((es : List Entry) → Gives es g → Room-enough (now (buffer .entry)) (now (list .entry)) (now (stage .entry)) → Takes es (now (buffer .entry)) (item-at (g .bare) (asked-given es g) o k ∷ []) s (now (list .entry)) (now (list .exit)) (now (stage .entry)) (now (stage .exit)) r) ⌝ }
+    ensures { λ r. ⌜ ((es : List Entry) → Gives es g → Room-enough (now (list .entry)) (now (stage .entry)) → Takes es (now (buffer .entry)) (item-at (g .bare) (asked-given es g) o k ∷ []) s (now (list .entry)) (now (list .exit)) (now (stage .entry)) (now (stage .exit)) r) ⌝ }
 {
     match values::first_value(buffer, s.at, g.size) {
         FirstValue::Refused(x) => Taken::Refused(x),

@@ -14,7 +14,7 @@ use Rattle.taking.proofs.spans.take_values.Tie as tie
 abbrev Inv-loop : tie.InvT-loop
 Inv-loop buffer g o first last list₀ stage₀ state₀ k₀ list stage state k =
     (first ≤ k)
-    × ((es : List Entry) → Gives es g → Room-enough buffer list₀ stage₀
+    × ((es : List Entry) → Gives es g → Room-enough list₀ stage₀
     → Taken-on es buffer (value-items (asked-given es g ∷ []) (just o) (from-to first last) (g .bare))
     (value-items (asked-given es g ∷ []) (just o) (from-to k last) (g .bare)) state₀ state list₀ list stage₀ stage)
 

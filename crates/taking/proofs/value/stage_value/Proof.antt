@@ -25,7 +25,7 @@ begun c = begins-at (⊎-elim (λ w. inl (w .0 .taken, w .1)) (λ w. inr (w .0 .
 
 -- What was put, for whatever entries there are.
 puts : (c : tie.After-put-given) (es : List Entry) → let a = start (joined c) .args in
-    Gives es (a .g) → Room-enough (a .buffer .now) (a .list .now) (a .stage .now)
+    Gives es (a .g) → Room-enough (a .list .now) (a .stage .now)
     → Puts es (a .buffer .now) (a .g) (take (a .next - a .from) (drop (a .from) (a .buffer .now))) (a .next) (a .s) (a .list .now) (a .stage .now) (joined c .if1 .to)
 puts c es gives room =
     let s = start (joined c) in
