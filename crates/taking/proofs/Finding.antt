@@ -104,6 +104,7 @@ module _ (es : List Entry) (buffer : Bytes) (g : Given) (o k : ℕ) (s : Taking)
   value-unfound l list stage x q = record {
     same-list = refl;
     same-stage = refl;
+    same-uses = λ j h. refl;
     moved = λ ws h. taking-one (g .bare) (asked-given es g) o k (drop (s .at) buffer) ∙ rw (← l .answer, q);
   }
 
@@ -118,7 +119,7 @@ module _ (es : List Entry) (buffer : Bytes) (g : Given) (o k : ℕ) (s : Taking)
 
     pub value-staged : {list list′ : List ℕ} {stage stage′ : Bytes} {r : Taken} → Stages es buffer g o k there next s list list′ stage stage′ r
         → Takes es buffer (item-at (g .bare) (asked-given es g) o k ∷ []) s list list′ stage stage′ r
-    value-staged {list′ = list′} {stage′ = stage′} {r = r} t = record { same-list = t .same-list; same-stage = t .same-stage; moved = λ ws h. moved r ws (t .moved ws h) }
+    value-staged {list′ = list′} {stage′ = stage′} {r = r} t = record { same-list = t .same-list; same-stage = t .same-stage; same-uses = t .same-uses; moved = λ ws h. moved r ws (t .moved ws h) }
       where
         moved : (r : Taken) (ws : List Assignment) → Staged-value es buffer g o k there next list′ stage′ ws r
             → Moved es buffer (item-at (g .bare) (asked-given es g) o k ∷ []) (s .at) list′ stage′ ws r

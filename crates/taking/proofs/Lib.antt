@@ -1,3 +1,4 @@
+pub mod Firsts
 pub mod Turns
 pub mod Asking
 pub mod Entries

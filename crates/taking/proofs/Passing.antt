@@ -48,6 +48,7 @@ module _ (es : List Entry) (buffer : Bytes) (n : ℕ) (s : Taking) (list : List 
       → Holds es buffer list stage (record { at = s .at + n; staged = s .staged; full = s .full }) ws
   passed-on l h = record {
     entries = h .entries;
+    apart = h .apart;
     place = l;
     within = h .within;
     unindexed = h .unindexed;

@@ -1,19 +1,19 @@
--- A value comes to the stage where it has room there, with a note of it in the list; else it is only tested, for the new record is too long.
+-- A value comes to the stage where it has room there; else it is only tested, for the new record is too long.
 use mathlib.Core.Path.{_≡_, refl, sym, _∙_, ap, subst}
 use mathlib.Core.Bool.{true, false, not, true≢false}
 use mathlib.Core.Logic.{_⊎_, inl, inr, ⊎-elim}
-use mathlib.Core.List.{List, [], _∷_, _++_, append-nil}
+use mathlib.Core.List.{List, [], _∷_, _++_, append-nil, append-assoc}
 use Prim.Native.Nat.{ℕ, zero, suc, _+_, _-_, _≤_, _<_}
 use native.Mathlib.Omega.{arith}
 use lib.Dec.{leb, leb→le}
-use lib.ListN.{length, length-append}
-use lib.Seq.{sets, length-sets}
+use lib.ListN.{length, take, drop, getD, length-append}
+use lib.Seq.{take-at, length-take-le}
 use types.Run.{OneOf, miss}
 use denote.Enum.Declared.{tagOf}
 use borrow.Author.Tests.{leb-false}
 use Rattle.rules.proofs.Refusal.{the-type}
 use Rattle.rules.specs.Outcome.{Outcome, done, refused, is-done}
-use Rattle.rules.specs.Limits.{highest-index, longest-new-record}
+use Rattle.rules.specs.Limits.{most-entries, longest-new-record}
 use Rattle.rules.specs.Lists.{Bytes, bytes-of, join}
 use Rattle.rules.specs.Numbers.{refusal-number}
 use Rattle.rules.specs.Values.{meaning}
@@ -30,10 +30,9 @@ use Rattle.filling.specs.Filling.{in-room, Filling}
 use Rattle.filling.specs.declared.Next.{Next}
 use Rattle.filling.specs.declared.Next.the-variants as put
 use Rattle.filling.proofs.Continues.{put-on, put-off}
-use Rattle.assignments.specs.Notes.{note-place, note-numbers, place-at, Small-note}
-use Rattle.assignments.specs.declared.Note.{Note}
-use Rattle.assignments.proofs.Listing.{listed-more, unindexed-more}
-use Rattle.taking.specs.Taking.{bytes-given, Room-enough, Holds, given-bytes, Gives, Stages, tested-to}
+use Rattle.assignments.specs.Notes.{note-bound, place-at, bytes-given}
+use Rattle.taking.specs.Taking.{Room-enough, Holds, given-bytes, Gives, Stages, tested-to, noted}
+use Rattle.taking.proofs.Firsts.{noted-length, noted-uses, noted-unindexed, firsts-more}
 use Rattle.taking.specs.declared.value.Given.{Given}
 use Rattle.taking.specs.declared.Taking.{Taking}
 use Rattle.taking.specs.declared.Taken.the-variants.{At, Refused}
@@ -74,6 +73,18 @@ given-more [] a = omega (arith, ap length (append-nil (a .bytes)))
 given-more (w ∷ ws) a =
     length-append (w .bytes) (bytes-given (ws ++ (a ∷ []))) ∙ omega (arith, given-more ws a, length-append (w .bytes) (bytes-given ws))
 
+given-bytes-more : (ws : List Assignment) (a : Assignment) → bytes-given (ws ++ (a ∷ [])) ≡ bytes-given ws ++ a .bytes
+unfolding join
+given-bytes-more [] a = append-nil (a .bytes)
+given-bytes-more (w ∷ ws) a = ap (λ (bs : Bytes). w .bytes ++ bs) (given-bytes-more ws a) ∙ sym (append-assoc (w .bytes) (bytes-given ws) (a .bytes))
+
+-- What is put after the first n bytes stands there.
+take-spliced : (n : ℕ) (b stage : Bytes) → n ≤ length stage → take (n + length b) (splice n b stage) ≡ take n stage ++ b
+unfolding splice
+take-spliced n b stage h =
+    let e : length (take n stage ++ b) ≡ n + length b = length-append (take n stage) b ∙ ap (λ m. m + length b) (length-take-le n stage h) in
+    ap (take (n + length b)) (sym (append-assoc (take n stage) b (drop (length b) (drop n stage)))) ∙ take-at (take n stage ++ b) (drop (length b) (drop n stage)) (n + length b) e
+
 -- A converted value has a byte at least.
 some-length : (n : ℕ) (s : Bytes) → 1 ≤ converted-length n s
 unfolding converted-length
@@ -96,7 +107,7 @@ begins-at w = ⊎-elim
 
 pub begins-inside : {es : List Entry} {buffer : Bytes} {list : List ℕ} {stage : Bytes} {s : Taking} {ws : List Assignment} {from : ℕ}
     → Holds es buffer list stage s ws → Begins s from → from ≤ length stage
-begins-inside {s = s} h g = by-test (s .full) (λ t. omega (arith, g .tested t)) (λ t. omega (arith, g .staged t, h .listed t .long))
+begins-inside {s = s} h g = by-test (s .full) (λ t. omega (arith, g .tested t)) (λ t. omega (arith, g .staged t, h .within))
 
 -- A value that stands in the buffer up to a place is put to the stage, or tested there, from a place on.
 pub record Puts (es : List Entry) (buffer : Bytes) (g : Given) (content : Bytes) (next : ℕ) (s : Taking) (list : List ℕ) (stage : Bytes) (from : ℕ) : Type 0 where
@@ -116,9 +127,6 @@ module _ {es : List Entry} {buffer : Bytes} {g : Given} {content : Bytes} {next 
   abbrev assignment : Bytes → Assignment
   assignment b = record { place = place-at es (g .entry) o k; bare = g .bare; bytes = b }
 
-  abbrev note : ℕ → Note
-  note upto = record { entry = g .entry; occurrence = o; value = k; bare = g .bare; from = from; upto = upto }
-
   some-bytes : (b : Bytes) → there ≡ done b → 1 ≤ length b
   some-bytes b e =
       let q = carried-size-is (format-at (g .format)) (format-at (g .own)) (g .standard) content (p .gives .own-allowed) (ap is-done e) ∙ ap length (bytes-done there b e) in
@@ -128,13 +136,15 @@ module _ {es : List Entry} {buffer : Bytes} {g : Given} {content : Bytes} {next 
   no-more : {ws : List Assignment} → Holds es buffer list stage s ws → (b : Bytes) → longest-new-record < length (bytes-given ws) + length b
       → Holds es buffer list stage′ (tested-to next s) (ws ++ (assignment b ∷ []))
   no-more {ws} h b l = record {
+    entries = h .entries;
+    apart = h .apart;
     place = p .within;
+    within = omega (arith, h .within, f .same);
     unindexed = h .unindexed;
     full = λ e. rw (given-more ws (assignment b)) l;
-    listed = λ e. absurd (true≢false e);
-    count = λ e. absurd (true≢false e);
     staged = λ e. absurd (true≢false e);
-    few = λ e. absurd (true≢false e);
+    bytes = λ e. absurd (true≢false e);
+    firsts = λ e. absurd (true≢false e);
   }
 
   -- Not refused for want of room: what it gives is refused because it means nothing or does not fit.
@@ -148,6 +158,7 @@ module _ {es : List Entry} {buffer : Bytes} {g : Given} {content : Bytes} {next 
   stage-beyond q = record {
     same-list = refl;
     same-stage = f .same;
+    same-uses = λ j h. refl;
     moved = λ ws h.
         ⊎-elim (λ e. absurd (not-short e))
         (λ x. (
@@ -165,6 +176,7 @@ module _ {es : List Entry} {buffer : Bytes} {g : Given} {content : Bytes} {next 
   stage-refused x n q = record {
     same-list = refl;
     same-stage = f .same;
+    same-uses = λ j h. refl;
     moved = λ ws h. ⊎-elim (λ e. e) (λ y. absurd (n (y .3))) (room-refused (length stage - from) there (refusal-number x) (put-off f x q));
   }
 
@@ -172,10 +184,11 @@ module _ {es : List Entry} {buffer : Bytes} {g : Given} {content : Bytes} {next 
   stage-tested upto t q = record {
     same-list = refl;
     same-stage = f .same;
+    same-uses = λ j h. refl;
     moved = λ ws h. put-on f upto q λ b e m w. (b, room-done (length stage - from) there b e .0, refl, no-more h b (omega (arith, h .full t)));
   }
 
-  -- There is room for it, and for a note of it.
+  -- There is room for it.
   module _ (upto : ℕ) (free : s .full ≡ false) (q : r ≡ put.At upto) where
     put-there : {C : Type 0} → ((b : Bytes) → there ≡ done b → upto ≡ s .staged + length b → upto ≤ length stage → stage′ ≡ splice (s .staged) b stage → C) → C
     put-there j = put-on f upto q λ b e m w.
@@ -184,37 +197,29 @@ module _ {es : List Entry} {buffer : Bytes} {g : Given} {content : Bytes} {next 
         let i : 1 ≤ length b = some-bytes b (x .0) in
         j b (x .0) (omega arith) (omega (arith, x .1)) (w ∙ rw (free, n, bytes-done (done b) b refl))
 
-    module _ {ws : List Assignment} (h : Holds es buffer list stage s ws) where
-      enough : (note-place (length ws + 1) ≤ length list) × (length ws + 1 ≤ longest-new-record)
-      enough = put-there λ b e m u w.
-          let i = some-bytes b e in
-          let n = h .few free in
-          (omega (arith, p .room .0, p .room .1, n .0, n .1), omega (arith, p .room .1, n .1))
+    pub note-small : from + 1 < note-bound
+    note-small = put-there λ b e m u w. let n = p .begins .staged free in let i = some-bytes b e in omega (arith, p .room .1)
 
-      pub note-room : note-place (s .count + 1) ≤ length list
-      note-room = rw (h .count free) (enough .0)
-
-      pub note-small : o ≤ highest-index → k ≤ highest-index → Small-note (note upto)
-      note-small lo lk = put-there λ b e m u w. let n = p .begins .staged free in
-          (omega (arith, p .gives .entry, h .listed free .entries), omega arith, omega arith, omega (arith, p .room .1), omega (arith, p .room .1))
-
-    pub stage-on : {list′ : List ℕ} → (1 ≤ o) × (o ≤ highest-index) → (1 ≤ k) × (k ≤ highest-index) → list′ ≡ sets list (note-place (s .count)) (note-numbers (note upto))
-        → Stages es buffer g o k content next s list list′ stage stage′ (At (record { at = next; staged = upto; count = s .count + 1; full = false }))
-    stage-on {list′} bo bk z = record {
-      same-list = ap length z ∙ length-sets list (note-place (s .count)) (note-numbers (note upto));
+    pub stage-on : {list′ : List ℕ} → list′ ≡ noted list (g .entry) o k from → g .entry < most-entries
+        → Stages es buffer g o k content next s list list′ stage stage′ (At (record { at = next; staged = upto; full = false }))
+    stage-on {list′} z less = record {
+      same-list = ap length z ∙ noted-length list (g .entry) o k from;
       same-stage = f .same;
+      same-uses = λ j h. ap (λ (l : List ℕ). getD l j 0) z ∙ noted-uses list (g .entry) o k from less j h;
       moved = λ ws h. put-there λ b e m u w. (
         b,
         e,
         refl,
         record {
+          entries = h .entries;
+          apart = h .apart;
           place = p .within;
-          unindexed = rw z (unindexed-more list (s .count) (note-numbers (note upto)) (h .unindexed));
+          within = omega (arith, u, f .same);
+          unindexed = rw z (noted-unindexed list (g .entry) o k from (h .unindexed));
           full = λ t. absurd (true≢false (sym t));
-          listed = λ _. rw (z, w, h .count free) (listed-more (h .listed free) (note upto) b (enough h .0) (p .begins .staged free) m u (p .gives .entry) (p .gives .field) bo bk (enough h .1));
-          count = λ _. rw (length-append ws (assignment b ∷ []), h .count free);
           staged = λ _. rw (given-more ws (assignment b)) (omega (arith, m, h .staged free));
-          few = λ _. let i = some-bytes b e in rw (length-append ws (assignment b ∷ [])) (omega (arith, h .few free .0, p .less), omega (arith, h .few free .1));
+          bytes = λ _. given-bytes-more ws (assignment b) ∙ ap (λ (bs : Bytes). bs ++ b) (h .bytes free) ∙ sym (rw (w, m) (take-spliced (s .staged) b stage (h .within)));
+          firsts = λ _. rw (z, p .begins .staged free, h .staged free) (firsts-more es (h .apart) list ws (h .firsts free) (h .entries) (p .room .0) (g .entry) o k (p .gives .entry) (g .bare) b);
         },
       );
     }

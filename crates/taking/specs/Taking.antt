@@ -11,7 +11,7 @@ use Rattle.rules.specs.Lists.{Bytes}
 use Rattle.rules.specs.Numbers.{refusal-number}
 use Rattle.rules.specs.declared.Refusal.the-variants.{BeyondBuffer}
 use Rattle.rules.specs.Values.{allowed, converts, converted-bytes}
-use Rattle.rules.specs.Table.{Entry, Field}
+use Rattle.rules.specs.Table.{Entry, Field, differ, names}
 use Rattle.rules.specs.Use.{Item, Asked, as-stored, just, value-items, items}
 use Rattle.rules.specs.Update.{Assignment, assignments}
 use Rattle.rules.proofs.Ranges.{from-to, taking}
@@ -35,6 +35,7 @@ Room-enough list stage = (uses-from ≤ length list) × (length stage ≡ longes
 -- Where the items stand, with the assignments ws so far: their bytes are on the stage, or they have more bytes than a new record.
 pub record Holds (es : List Entry) (buffer : Bytes) (list : List ℕ) (stage : Bytes) (s : Taking) (ws : List Assignment) : Type 0 where
   pub entries : length es ≤ most-entries
+  pub apart : differ (names es) ≡ true
   pub place : s .at ≤ length buffer
   pub within : s .staged ≤ length stage
   pub unindexed : Unindexed list

@@ -1,17 +1,18 @@
 -- `taking::take` meets its contract: the uses that are left give what all of them give from the start.
-use mathlib.Core.Path.{_≡_, sym, subst}
-use mathlib.Core.List.{[], _++_}
+use mathlib.Core.Path.{_≡_, sym, _∙_, subst}
+use mathlib.Core.Bool.{false}
 use Prim.Native.Nat.{_+_, _-_, _≤_}
 use native.Mathlib.Omega.{arith}
+use lib.ListN.{length}
 use Rattle.rules.specs.Lists.{Bytes}
-use Rattle.rules.specs.Use.{items-of}
 use Rattle.tables.specs.Entries.{entries-of}
-use Rattle.tables.proofs.Tables.{valid-most}
+use Rattle.tables.proofs.Tables.{valid-most, valid-names}
 use Rattle.uses.specs.Meant.{use-meant, Good-use}
-use Rattle.uses.specs.Kept.{uses-kept, Good-uses}
-use Rattle.taking.specs.Taking.{Holds}
-use Rattle.taking.proofs.Turns.{Taken-on, turn-start, turn-ready, turn-on, turn-off, turn-end}
-use Rattle.taking.proofs.Kept.{left, left-all, left-none, left-next, at-first, nothing-held, gave}
+use Rattle.uses.specs.Kept.{use-at, Good-uses}
+use Rattle.rules.specs.Use.{items-of}
+use Rattle.assignments.specs.Notes.{note-place, start-noted, bytes-given, given-first}
+use Rattle.taking.specs.Taking.{Takes}
+use Rattle.taking.proofs.Kept.{Gone, gone-start, gone-begin, gone-on, gone-off, gone-end}
 use borrow.Author.Needs.{needs}
 use Rattle.taking.proofs.take.Statement.{statement}
 use Rattle.taking.proofs.take.Tie as tie
@@ -19,8 +20,7 @@ use Rattle.taking.proofs.take.Tie as tie
 abbrev Inv-loop : tie.InvT-loop
 Inv-loop t buffer kept count list₀ stage₀ state₀ n₀ list stage state n =
     (n ≤ count)
-    × ((f : Bytes) → Good-uses (entries-of t) f kept count
-    → Taken-on (entries-of t) buffer (left (entries-of t) f kept count 0) (left (entries-of t) f kept count n) at-first state list₀ list stage₀ stage)
+    × ((f : Bytes) → Good-uses (entries-of t) f kept count → Gone (entries-of t) f buffer kept n list₀ list stage₀ stage state)
 
 abbrev μ-loop : tie.MeasureT-loop
 μ-loop t buffer kept count list₀ stage₀ state₀ n₀ list stage state n = count - n
@@ -28,75 +28,98 @@ abbrev μ-loop : tie.MeasureT-loop
 abbrev start : tie.At-loop Inv-loop μ-loop → tie.Start Inv-loop μ-loop
 start c = c .before .before .before .before .before .before
 
--- The turn in which a use was taken.
-abbrev turn : tie.After-slice-known4 Inv-loop μ-loop → tie.After-take-use Inv-loop μ-loop
+-- The turn in which a use was taken, and where it began.
+abbrev turn : tie.After-slice-known5 Inv-loop μ-loop → tie.After-take-use Inv-loop μ-loop
 turn c = c .before .before .before .before
 
 abbrev got : tie.After-take-use Inv-loop μ-loop → tie.After-get Inv-loop μ-loop
 got c = c .before .before .before
 
-abbrev here : tie.After-get Inv-loop μ-loop → tie.At-loop Inv-loop μ-loop
-here c = c .before .before
+abbrev begun : tie.After-get Inv-loop μ-loop → tie.After-begin Inv-loop μ-loop
+begun c = c .before .before .before
 
--- What is held at the start, and what is known of the use.
-begun : (s : tie.Start Inv-loop μ-loop) → Holds (entries-of (s .args .t .now)) (s .args .buffer .now) (s .args .list .now) (s .args .stage .now) at-first []
-begun s = nothing-held (valid-most (s .args .t .now) (s .pre .0)) (s .pre .3) (s .pre .4)
+abbrev here : tie.After-begin Inv-loop μ-loop → tie.At-loop Inv-loop μ-loop
+here c = c .before .before .before
 
-good : (c : tie.After-get Inv-loop μ-loop) (f : Bytes) → let a = start (here c) .args in
-    Good-uses (entries-of (a .t .now)) f (a .kept .now) (a .count) → Good-use (entries-of (a .t .now)) f (c .get .result)
+-- The uses so far, and that the next one begins where they end.
+abbrev Good : tie.At-loop Inv-loop μ-loop → Bytes → Type 0
+Good c f = let a = start c .args in Good-uses (entries-of (a .t .now)) f (a .kept .now) (a .count)
+
+room : (c : tie.After-begin Inv-loop μ-loop) (f : Bytes) → Good (here c) f → note-place (here c .loop .n + 1) ≤ length (here c .loop .list)
+room c f h = let l = here c in omega (arith, c .before .before .loop-test .taken, start l .pre .4, l .loop .inv .1 f h .same-list)
+
+gone : (c : tie.After-begin Inv-loop μ-loop) (f : Bytes) (h : Good (here c) f) → let l = here c in let a = start l .args in
+    Gone (entries-of (a .t .now)) f (a .buffer .now) (a .kept .now) (l .loop .n) (a .list .now) (c .begin .last .0) (a .stage .now) (l .loop .stage) (l .loop .state)
+gone c f h = let l = here c in gone-begin (l .loop .inv .1 f h) (room c f h) (c .begin .ensures) .0
+
+noted : (c : tie.After-begin Inv-loop μ-loop) (f : Bytes) (h : Good (here c) f) → let l = here c in let a = start l .args in
+    l .loop .state .full ≡ false → start-noted (c .begin .last .0) (l .loop .n) ≡ length (bytes-given (given-first (entries-of (a .t .now)) f (a .kept .now) (a .buffer .now) (l .loop .n)))
+noted c f h = let l = here c in gone-begin (l .loop .inv .1 f h) (room c f h) (c .begin .ensures) .1
+
+-- What is known of the use, and what it gave.
+good : (c : tie.After-get Inv-loop μ-loop) (f : Bytes) → let l = here (begun c) in let a = start l .args in
+    Good l f → Good-use (entries-of (a .t .now)) f (c .get .result)
 good c f h =
-    let a = start (here c) .args in
-    subst (Good-use (entries-of (a .t .now)) f) (sym (c .get .ensures)) (h (here c .loop .n) (c .before .loop-test .taken))
+    let l = here (begun c) in
+    let a = start l .args in
+    subst (Good-use (entries-of (a .t .now)) f) (sym (c .get .ensures)) (h (l .loop .n) (begun c .before .before .loop-test .taken))
 
--- The items that are left, the first use's before the others.
-next-items : (c : tie.After-get Inv-loop μ-loop) (f : Bytes) → let a = start (here c) .args in let es = entries-of (a .t .now) in let n = here c .loop .n in
-    left es f (a .kept .now) (a .count) n ≡ items-of (use-meant es f (c .get .result)) ++ left es f (a .kept .now) (a .count) (n + 1)
-next-items c f =
-    let a = start (here c) .args in
-    left-next (entries-of (a .t .now)) f (a .kept .now) (a .count) (here c .loop .n) (c .get .result) (c .get .ensures) (c .before .loop-test .taken)
+taken : (c : tie.After-take-use Inv-loop μ-loop) (f : Bytes) → let b = begun (got c) in let l = here b in let a = start l .args in let es = entries-of (a .t .now) in
+    Good l f → Takes es (a .buffer .now) (items-of (use-meant es f (use-at (a .kept .now) (l .loop .n)))) (l .loop .state) (b .begin .last .0) (c .take-use .last .1 .1 .1 .0) (l .loop .stage) (c .take-use .last .1 .1 .1 .1 .0) (c .take-use .result)
+taken c f h =
+    let b = begun (got c) in
+    let l = here b in
+    let a = start l .args in
+    let es = entries-of (a .t .now) in
+    rw (← got c .get .ensures) (c .take-use .ensures f (good (got c) f h))
 
 loop-holds : tie.Need-loop-holds Inv-loop μ-loop
 loop-holds c =
-    let a = c .before .before .before .before .before .args in
-    (search needs, λ f h. turn-start (entries-of (a .t .now)) (a .buffer .now) _ at-first (a .list .now) (a .stage .now))
+    let s = c .before .before .before .before .before in
+    (search needs, λ f h. gone-start (valid-most (s .args .t .now) (s .pre .0)) (valid-names (s .args .t .now) (s .pre .0)) (s .pre .6))
+
+begin-requires : tie.Need-begin-requires Inv-loop μ-loop
+begin-requires c κs =
+    let l = c .before .before in
+    let s = start l in
+    let g = l .loop .inv .1 (s .pre .2 .0) (s .pre .2 .1) in
+    (omega (arith, c .before .loop-test .taken, s .pre .4, g .same-list), omega (arith, g .held .within, g .same-stage, s .pre .5))
 
 get-requires : tie.Need-get-requires Inv-loop μ-loop
-get-requires c κs = omega (arith, c .loop-test .taken, start (c .before) .pre .1)
+get-requires c κs = let l = here (c .before .before) in omega (arith, c .before .before .before .before .loop-test .taken, start l .pre .1)
 
 take-use-requires : tie.Need-take-use-requires Inv-loop μ-loop
 take-use-requires c κs =
     let g = c .before .before in
-    let l = here g in
-    let s = start l in
+    let b = begun g in
+    let s = start (here b) in
     let f = s .pre .2 .0 in
-    (s .pre .0, (f, good g f (s .pre .2 .1)), turn-ready (l .loop .inv .1 f (s .pre .2 .1)) (s .pre .3, ([], begun s)))
+    let h = s .pre .2 .1 in
+    let x = gone b f h in
+    (s .pre .0, (f, good g f h), ((omega (arith, s .pre .4, x .same-list), x .same-stage ∙ s .pre .5), (x .own, x .held)))
 
 enum-known-x : tie.Need-enum-known-x Inv-loop μ-loop
 enum-known-x c = search needs
 
-returns : tie.Need-returns Inv-loop μ-loop
-returns c f h =
-    let w = turn (c .before .before .before) in
-    let g = got w in
-    let s = start (here g) in
-    let a = s .args in
-    let es = entries-of (a .t .now) in
-    gave (uses-kept es f (a .kept .now) (a .count)) (left-all es f (a .kept .now) (a .count)) (begun s)
-    (turn-off (here g .loop .inv .1 f h) _ _ _ _ (next-items g f) (c .before .x .given .1) (w .take-use .ensures f (good g f h)))
-
 same-length : tie.Need-same-length Inv-loop μ-loop
 same-length c =
-    let l = here (got (turn (c .before .before .before))) in
-    let p = start l .pre .2 in
-    let e = l .loop .inv .1 (p .0) (p .1) .same-list in
-    omega arith
+    let w = turn (c .before .before .before) in
+    let b = begun (got w) in
+    let p = start (here b) .pre .2 in
+    omega (arith, taken w (p .0) (p .1) .same-list, gone b (p .0) (p .1) .same-list)
 
 same-length-2 : tie.Need-same-length-2 Inv-loop μ-loop
 same-length-2 c =
-    let l = here (got (turn (c .before .before .before))) in
-    let p = start l .pre .2 in
-    let e = l .loop .inv .1 (p .0) (p .1) .same-stage in
-    omega arith
+    let w = turn (c .before .before .before) in
+    let b = begun (got w) in
+    let p = start (here b) .pre .2 in
+    omega (arith, taken w (p .0) (p .1) .same-stage, gone b (p .0) (p .1) .same-stage)
+
+returns : tie.Need-returns Inv-loop μ-loop
+returns c f h =
+    let w = turn (c .before .before .before) in
+    let b = begun (got w) in
+    gone-off (gone b f h) (b .before .before .loop-test .taken) (taken w f h) (c .before .x .given .1)
 
 enum-known-next : tie.Need-enum-known-next Inv-loop μ-loop
 enum-known-next c = search needs
@@ -110,8 +133,9 @@ loop-less c = search needs
 loop-again : tie.Need-loop-again Inv-loop μ-loop
 loop-again c =
     let w = turn (c .before .before .before) in
-    let g = got w in
-    (search needs, λ f h. turn-on (here g .loop .inv .1 f h) _ _ _ _ (next-items g f) (c .before .next .given .1) (w .take-use .ensures f (good g f h)))
+    let b = begun (got w) in
+    let s = start (here b) in
+    (search needs, λ f h. gone-on (gone b f h) (noted b f h) (gone b f h .same-stage ∙ s .pre .5) (taken w f h) (c .before .next .given .1))
 
 same-length-3 : tie.Need-same-length-3 Inv-loop μ-loop
 same-length-3 c = let p = start (c .before) .pre .2 in c .before .loop .inv .1 (p .0) (p .1) .same-list
@@ -123,10 +147,9 @@ returns-2 : tie.Need-returns-2 Inv-loop μ-loop
 returns-2 c f h =
     let l = c .before in
     let s = start l in
-    let a = s .args in
-    let es = entries-of (a .t .now) in
-    gave (uses-kept es f (a .kept .now) (a .count)) (left-all es f (a .kept .now) (a .count)) (begun s)
-    (turn-end (l .loop .inv .1 f h) (left-none es f (a .kept .now) (a .count) (l .loop .n) (c .loop-test .left)))
+    let e : l .loop .n ≡ s .args .count = omega (arith, l .loop .inv .0, c .loop-test .left) in
+    let g = rw e at (l .loop .inv .1 f h) in
+    gone-end g h (s .pre .1) (omega (arith, s .pre .4, g .same-list)) (s .pre .3) (g .same-stage ∙ s .pre .5)
 
 pub take-spec : {M : Type 1} → statement M
 take-spec =
@@ -135,6 +158,7 @@ take-spec =
     Inv-loop
     μ-loop
     loop-holds
+    begin-requires
     get-requires
     take-use-requires
     enum-known-x

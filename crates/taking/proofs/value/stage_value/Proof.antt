@@ -1,4 +1,4 @@
--- `taking::value::stage_value` meets its contract: the value comes to the stage with a note of it, or it is only tested, or it is refused.
+-- `taking::value::stage_value` meets its contract: the value comes to the stage, or it is only tested, or it is refused.
 use mathlib.Core.Path.{ap, _∙_}
 use mathlib.Core.Logic.{inl, inr, ⊎-elim}
 use mathlib.Core.List.{List}
@@ -9,7 +9,7 @@ use Rattle.rules.specs.Table.{Entry}
 use Rattle.filling.specs.declared.Next.the-variants as put
 use Rattle.taking.specs.Taking.{Room-enough, Gives}
 use Rattle.taking.proofs.Finding.{value-place}
-use Rattle.taking.proofs.Staging.{not-beyond, Begins, begins-at, begins-inside, Puts, stage-beyond, stage-refused, stage-tested, note-room, note-small, stage-on}
+use Rattle.taking.proofs.Staging.{not-beyond, Begins, begins-at, begins-inside, Puts, stage-beyond, stage-refused, stage-tested, note-small, stage-on}
 use borrow.Author.Needs.{needs}
 use Rattle.taking.proofs.value.stage_value.Statement.{statement}
 use Rattle.taking.proofs.value.stage_value.Tie as tie
@@ -63,23 +63,15 @@ returns c es gives room =
     let v = k .before .before .before .before .before in
     rw (c .without-room2 .ensures) (stage-tested (puts v es gives room) (v .put-given .ensures) _ _ _ (c .before .if2 .taken) (k .before .put2 .given .1))
 
-put-requires : tie.Need-put-requires
-put-requires c κs =
+note-requires : tie.Need-note-requires
+note-requires c κs =
     let k = c .before .before in
     let v = k .before .before .before .before .before in
     let s = start (joined v) in
     let x = s .pre .5 in
     let p = puts v (x .0) (x .1) (x .2 .0) in
-    let h = x .2 .1 .1 in (
-      note-room p (v .put-given .ensures) (s .args .o) (s .args .k) _ (c .before .if2 .left) (k .before .put2 .given .1) h,
-      note-small p (v .put-given .ensures) (s .args .o) (s .args .k) _ (c .before .if2 .left) (k .before .put2 .given .1) h (s .pre .2) (s .pre .4),
-    )
-
-add-t25 : tie.Need-add-t25
-add-t25 c =
-    let e = c .before .before .before .before .before in
-    let h = start (joined (e .before .before .before .before .before .before)) .pre .5 .2 .1 .1 in
-    omega (arith, h .count (e .if2 .left), h .listed (e .if2 .left) .few)
+    let h = x .2 .1 .1 in
+    (x .2 .0 .0, omega (arith, x .1 .entry, h .entries), note-small p (v .put-given .ensures) (s .args .o) (s .args .k) _ (c .before .if2 .left) (k .before .put2 .given .1))
 
 same-length-2 : tie.Need-same-length-2
 same-length-2 c = search needs
@@ -107,11 +99,11 @@ same-length-5 c = search needs
 
 returns-4 : tie.Need-returns-4
 returns-4 c es gives room =
-    let w = c .before .before .before in
+    let w = c .before .before in
     let k = w .before .before .before in
     let v = k .before .before .before .before .before in
-    let p = start (joined v) .pre in
-    stage-on (puts v es gives room) (v .put-given .ensures) _ _ _ (w .before .before .if2 .left) (k .before .put2 .given .1) (p .1, p .2) (p .3, p .4) (w .put3 .ensures)
+    let x = start (joined v) .pre .5 in
+    stage-on (puts v es gives room) (v .put-given .ensures) _ _ _ (w .before .before .if2 .left) (k .before .put2 .given .1) (w .note .ensures) (omega (arith, x .1 .entry, x .2 .1 .1 .entries))
 
 pub stage-value-spec : {M : Type 1} → statement M
 stage-value-spec =
@@ -125,8 +117,7 @@ stage-value-spec =
     without-room-requires-2
     same-length
     returns
-    put-requires
-    add-t25
+    note-requires
     same-length-2
     returns-2
     same-length-3
