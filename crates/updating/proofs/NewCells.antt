@@ -107,7 +107,7 @@ module _ (es : List Entry) (i : ℕ) (what : is-group (getD es i blank .what) �
           counted-new = rw (field-numbers, multiple) refl
 
           -- By bare names only the count is the number of names, which is the highest value.
-          pub count-bare : Assigns es list stage ws → named .bare ≡ true → update-plan (parts es) r ws .values (field-at es i) o ≡ named .highest
+          pub count-bare : Assigns es kept list stage ws → named .bare ≡ true → update-plan (parts es) r ws .values (field-at es i) o ≡ named .highest
           unfolding new-value-count
           count-bare a t =
               let t₂ = sym (names .bare) ∙ t in

@@ -116,7 +116,7 @@ tabled : (t : Bytes) → Valid t → table t ≡ done (entries-of t)
 unfolding entries-of
 tabled t v = by-outcome (table t) (λ es e. rw e) (λ n e. absurd (true≢false (sym v ∙ ap is-done e)))
 
-module _ (t : Bytes) (valid : Valid t) {b : Bytes} {places list : List ℕ} {stage : Bytes} {r : Record} {ws : List Assignment} (held : Is-record (entries-of t) b places r) (assigns : Assigns (entries-of t) list stage ws) where
+module _ (t : Bytes) (valid : Valid t) {b : Bytes} {places kept list : List ℕ} {stage : Bytes} {r : Record} {ws : List Assignment} (held : Is-record (entries-of t) b places r) (assigns : Assigns (entries-of t) kept list stage ws) where
   standing : Beside (Standing (parts (entries-of t)) r) (parts (entries-of t)) r
   unfolding parts
   standing =

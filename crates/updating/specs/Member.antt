@@ -24,12 +24,12 @@ abbrev pub Celled-member : List Entry → Bytes → ℕ → ℕ → Record → C
 Celled-member es b i o r cell = is-group (getD es i blank .what) ≡ false → Cell-of es b i o r cell
 
 -- Such a record and assignments are there; and what the entry adds was put into room.
-abbrev pub Has-member : List Entry → Bytes → List ℕ → Bytes → ℕ → ℕ → Cell → Type 0
-Has-member es b list stage i o cell = ((r : Record) × Celled-member es b i o r cell) × ((ws : List Assignment) × Assigns es list stage ws)
+abbrev pub Has-member : List Entry → Bytes → List ℕ → List ℕ → Bytes → ℕ → ℕ → Cell → Type 0
+Has-member es b kept list stage i o cell = ((r : Record) × Celled-member es b i o r cell) × ((ws : List Assignment) × Assigns es kept list stage ws)
 
-abbrev pub Puts-member : List Entry → Bytes → List ℕ → Bytes → ℕ → ℕ → Cell → ℕ → ℕ → Bytes → Bytes → Next → Type 0
-Puts-member es b list stage i o cell at end entry exit n =
-    (r : Record) (ws : List Assignment) → Celled-member es b i o r cell → Assigns es list stage ws
+abbrev pub Puts-member : List Entry → Bytes → List ℕ → List ℕ → Bytes → ℕ → ℕ → Cell → ℕ → ℕ → Bytes → Bytes → Next → Type 0
+Puts-member es b kept list stage i o cell at end entry exit n =
+    (r : Record) (ws : List Assignment) → Celled-member es b i o r cell → Assigns es kept list stage ws
     → Filling (in-room (end - at) (done (member-laid (update-plan (parts es) r ws) o (getD es i blank .name) (getD es i blank .what)))) at true entry exit n
 
 -- The cells of the entries from entry i up to `last` stand in occurrence o one after the other, from a cell on: they are the members of a

@@ -3,14 +3,13 @@ use mathlib.Core.Path.{_≡_}
 use mathlib.Core.Bool.{true, false}
 use mathlib.Core.List.{List, [], _++_}
 use mathlib.Core.Option.{Option, none, some}
-use Prim.Native.Nat.{ℕ, pred, _-_, _≤_}
-use lib.Dec.{T}
+use Prim.Native.Nat.{ℕ, zero, suc, pred, _-_, _≤_}
 use lib.ListN.{length, drop, getD}
 use Rattle.rules.specs.Outcome.{done}
-use Rattle.rules.specs.Limits.{record-head-size, greatest-count}
+use Rattle.rules.specs.Limits.{record-head-size, highest-index, greatest-count}
 use Rattle.rules.specs.Lists.{Bytes, join, run}
 use Rattle.rules.specs.Values.{Format, null}
-use Rattle.rules.specs.Table.{Entry, parts, differ, names}
+use Rattle.rules.specs.Table.{Entry, parts}
 use Rattle.rules.specs.Record.{Record, Plan, times, counted, stored-value}
 use Rattle.rules.specs.Update.{Assignment, to-field, bare-only, highest-value, update-plan}
 use Rattle.records.specs.Walk.{start-of}
@@ -18,24 +17,24 @@ use Rattle.records.specs.Places.{Is-record, Cell-of}
 use Rattle.records.specs.declared.places.Cell.{Cell}
 use Rattle.records.specs.declared.places.Cell.the-variants.{At, Nothing}
 use Rattle.assignments.specs.Notes.{Indexed}
-use Rattle.assignments.specs.Answers.{bytes-noted}
 use Rattle.filling.specs.Filling.{in-room, Filling}
 use Rattle.filling.specs.declared.Next.{Next}
 use Rattle.updating.specs.declared.cells.Run.{Run}
 
--- The list and the stage hold the assignments of an update: its bare names number the values of a field from 1 on.
-pub record Assigns (es : List Entry) (list : List ℕ) (stage : Bytes) (ws : List Assignment) : Type 0 where
-  pub staged : ℕ
-  pub indexed : Indexed es list stage staged ws
+-- The stage holds the assignments of an update, and the list finds them: its bare names number the values of a field from 1 on.
+pub record Assigns (es : List Entry) (kept list : List ℕ) (stage : Bytes) (ws : List Assignment) : Type 0 where
+  pub format : Bytes
+  pub count : ℕ
+  pub indexed : Indexed es format kept count list stage ws
   pub bare : (n i : ℕ) → bare-only (to-field ws n i) ≡ true → length (to-field ws n i) ≡ highest-value ws n i
 
 -- A record and assignments are there; and bytes that go by them were put into room.
-abbrev pub Has-both : List Entry → Bytes → List ℕ → List ℕ → Bytes → Type 0
-Has-both es b places list stage = ((r : Record) × Is-record es b places r) × ((ws : List Assignment) × Assigns es list stage ws)
+abbrev pub Has-both : List Entry → Bytes → List ℕ → List ℕ → List ℕ → Bytes → Type 0
+Has-both es b places kept list stage = ((r : Record) × Is-record es b places r) × ((ws : List Assignment) × Assigns es kept list stage ws)
 
-abbrev pub Puts : List Entry → Bytes → List ℕ → List ℕ → Bytes → (Plan → Record → Bytes) → ℕ → ℕ → Bytes → Bytes → Next → Type 0
-Puts es b places list stage new at end entry exit n =
-    (r : Record) (ws : List Assignment) → Is-record es b places r → Assigns es list stage ws
+abbrev pub Puts : List Entry → Bytes → List ℕ → List ℕ → List ℕ → Bytes → (Plan → Record → Bytes) → ℕ → ℕ → Bytes → Bytes → Next → Type 0
+Puts es b places kept list stage new at end entry exit n =
+    (r : Record) (ws : List Assignment) → Is-record es b places r → Assigns es kept list stage ws
     → Filling (in-room (end - at) (done (new (update-plan (parts es) r ws) r))) at true entry exit n
 
 -- Bytes that stand between the part of an entry and that of another.
@@ -43,18 +42,23 @@ abbrev pub Between : List Entry → Bytes → ℕ → ℕ → Bytes → Type 0
 Between es b first next old = start-of false es (drop record-head-size b) first ≡ old ++ start-of false es (drop record-head-size b) next
 
 -- What is put of one cell, which goes by its own values alone.
-abbrev pub Has-cell : List Entry → Bytes → List ℕ → Bytes → ℕ → ℕ → Cell → Type 0
-Has-cell es b list stage i o cell = ((r : Record) × Cell-of es b i o r cell) × ((ws : List Assignment) × Assigns es list stage ws)
+abbrev pub Has-cell : List Entry → Bytes → List ℕ → List ℕ → Bytes → ℕ → ℕ → Cell → Type 0
+Has-cell es b kept list stage i o cell = ((r : Record) × Cell-of es b i o r cell) × ((ws : List Assignment) × Assigns es kept list stage ws)
 
-abbrev pub Puts-cell : List Entry → Bytes → List ℕ → Bytes → ℕ → ℕ → Cell → (Plan → Bytes) → ℕ → ℕ → Bytes → Bytes → Next → Type 0
-Puts-cell es b list stage i o cell new at end entry exit n =
-    (r : Record) (ws : List Assignment) → Cell-of es b i o r cell → Assigns es list stage ws
+abbrev pub Puts-cell : List Entry → Bytes → List ℕ → List ℕ → Bytes → ℕ → ℕ → Cell → (Plan → Bytes) → ℕ → ℕ → Bytes → Bytes → Next → Type 0
+Puts-cell es b kept list stage i o cell new at end entry exit n =
+    (r : Record) (ws : List Assignment) → Cell-of es b i o r cell → Assigns es kept list stage ws
     → Filling (in-room (end - at) (done (new (update-plan (parts es) r ws)))) at true entry exit n
 
 -- A value as it was: it stands at a place, or there is none and it is null.
 abbrev pub Was : Bytes → Format → ℕ → Bytes → Cell → Type 0
 Was b f n v (At q) = (q ≤ length b) × (rest : Bytes) × (stored-value f n (drop q b) ≡ done (v, rest))
 Was b f n v Nothing = v ≡ null f n
+
+-- What a value takes, by one above where it stands on the stage: nothing for 0.
+abbrev pub Stands : Bytes → Format → ℕ → Option Bytes → ℕ → Type 0
+Stands stage f n o zero = o ≡ none
+Stands stage f n o (suc p) = (v : Bytes) × (o ≡ some v) × Was stage f n v (At p)
 
 -- A value that takes bytes, or stays as it was.
 abbrev pub taken : Option Bytes → Bytes → Bytes
@@ -76,14 +80,10 @@ pub record Old (b : Bytes) (f : Format) (n : ℕ) (vs : List Bytes) (run : Run) 
   pub many : run .count ≡ length vs
   pub most : run .count ≤ greatest-count
 
--- The notes of the values of a field, by one above their numbers.
-pub record Notes-by (es : List Entry) (list : List ℕ) (stage : Bytes) (by : List ℕ) : Type 0 where
-  pub staged : ℕ
-  pub assigned : List Assignment
-  pub indexed : Indexed es list stage staged assigned
-  pub named : T (differ (names es))
-  pub few : (k : ℕ) → getD by k 0 ≤ length assigned
+-- What the values of a field take, by one above where each stands on the stage.
+abbrev pub Notes-by : Bytes → Format → ℕ → (ℕ → Option Bytes) → List ℕ → Type 0
+Notes-by stage f size given by = (k : ℕ) → k ≤ highest-index → Stands stage f size (given k) (getD by k 0)
 
--- Values k to k + n - 1 of a field: those that notes give, and else the old ones, or null.
-unfoldable pub new-values : List Entry → List ℕ → Bytes → List ℕ → Format → ℕ → List Bytes → ℕ → ℕ → Bytes
-new-values es list stage by f size vs k n = join (run (λ i. taken (bytes-noted es list stage (getD by i 0)) (getD vs (pred i) (null f size))) k n)
+-- Values k to k + n - 1 of a field: what they take, and else the old ones, or null.
+unfoldable pub new-values : (ℕ → Option Bytes) → Format → ℕ → List Bytes → ℕ → ℕ → Bytes
+new-values given f size vs k n = join (run (λ i. taken (given i) (getD vs (pred i) (null f size))) k n)

@@ -9,19 +9,17 @@ ghost use Rattle.rules.specs.Outcome.{done};
 ghost use Rattle.rules.specs.Limits.{formats, highest-index, greatest-count};
 ghost use Rattle.rules.specs.Lists.{Bytes};
 ghost use Rattle.rules.specs.Values.{Format, allowed};
-ghost use Rattle.rules.specs.Table.{Entry};
 ghost use Rattle.rules.specs.Record.{count-bytes};
 ghost use Rattle.value_formats.specs.Formats.{format-at};
 ghost use Rattle.tables.specs.Entries.{Valid, entries-of, blank, is-group, is-multiple};
 ghost use Rattle.tables.specs.Groups.{field-at};
-ghost use Rattle.assignments.specs.Answers.{Stands};
 ghost use Rattle.filling.specs.Filling.{Roomy, Filling, in-room};
 ghost use Rattle.updating.specs.Laid.{cell-laid};
-ghost use Rattle.updating.specs.New.{Has-cell, Puts-cell, Was, taken, Had, Old, Notes-by, new-values};
-use assignments::Staged;
+ghost use Rattle.updating.specs.New.{Has-cell, Puts-cell, Was, Stands, taken, Had, Old, Notes-by, new-values};
 use filling::Next;
 use records::places::Cell;
 use rules::Refusal;
+use uses::Index;
 
 // The values of an MU field that stand one after the other from a place on.
 pub struct Run {
@@ -46,6 +44,15 @@ pub fn put_count(n: usize, out: &mut [u8], at: usize, end: usize) -> Next
     Next::At(records::counts::put_count(n, out, at))
 }
 
+// A value of a standard length that stands at a place.
+fn put_stored(s: &[u8], from: usize, size: usize, out: &mut [u8], at: usize, end: usize) -> Next
+    requires { ⌜ ((f : Format) × (v : Bytes) × Was (now s) f size v (Cell.At from)) × Roomy at end (now out) ⌝ }
+    ensures { λ r. ⌜ ((f : Format) (v : Bytes) → Was (now (s .entry)) f size v (Cell.At from) → Filling (in-room (end - at) (done v)) at true (now (out .entry)) (now (out .exit)) r) ⌝ }
+{
+    let upto = records::skip::values_end(s, from, 1, size);
+    filling::put_bytes(&s[from..upto], out, at, end, true)
+}
+
 // A value as it was.
 fn put_old(
     b: &[u8],
@@ -60,19 +67,16 @@ fn put_old(
     ensures { λ r. ⌜ ((v : Bytes) → Was (now (b .entry)) (format-at format) size v cell → Filling (in-room (end - at) (done v)) at true (now (out .entry)) (now (out .exit)) r) ⌝ }
 {
     match cell {
-        Cell::At(from) => {
-            let upto = records::skip::values_end(b, from, 1, size);
-            filling::put_bytes(&b[from..upto], out, at, end, true)
-        }
+        Cell::At(from) => put_stored(b, from, size, out, at, end),
         Cell::Nothing => filling::put_nulls(1, format, size, out, at, end, true),
     }
 }
 
-// A value that takes what stands on the stage, or stays as it was.
+// A value that takes what stands on the stage, by one above its place, or stays as it was.
 fn put_value(
     b: &[u8],
     stage: &[u8],
-    s: Staged,
+    staged: usize,
     cell: Cell,
     format: usize,
     size: usize,
@@ -80,19 +84,18 @@ fn put_value(
     at: usize,
     end: usize,
 ) -> Next
-    requires { ⌜ (format < formats) × (allowed (format-at format) size ≡ true) × ((o : Option Bytes) × Stands (now stage) o s) × ((v : Bytes) × Was (now b) (format-at format) size v cell) × Roomy at end (now out) ⌝ }
-    ensures { λ r. ⌜ ((o : Option Bytes) (v : Bytes) → Stands (now (stage .entry)) o s → Was (now (b .entry)) (format-at format) size v cell → Filling (in-room (end - at) (done (taken o v))) at true (now (out .entry)) (now (out .exit)) r) ⌝ }
+    requires { ⌜ (format < formats) × (allowed (format-at format) size ≡ true) × ((o : Option Bytes) × Stands (now stage) (format-at format) size o staged) × ((v : Bytes) × Was (now b) (format-at format) size v cell) × Roomy at end (now out) ⌝ }
+    ensures { λ r. ⌜ ((o : Option Bytes) (v : Bytes) → Stands (now (stage .entry)) (format-at format) size o staged → Was (now (b .entry)) (format-at format) size v cell → Filling (in-room (end - at) (done (taken o v))) at true (now (out .entry)) (now (out .exit)) r) ⌝ }
 {
-    match s {
-        Staged::At(from, upto) => filling::put_bytes(&stage[from..upto], out, at, end, true),
-        Staged::Nothing => put_old(b, cell, format, size, out, at, end),
+    if 0 < staged {
+        return put_stored(stage, staged - 1, size, out, at, end);
     }
+    put_old(b, cell, format, size, out, at, end)
 }
 
-// Values 1 to n of an MU field, by the note of each and the old values.
+// Values 1 to n of an MU field, by where what each takes stands and the old values.
 fn put_values(
     b: &[u8],
-    list: &[u16],
     stage: &[u8],
     by: &[u16; assignments::VALUES],
     old: Run,
@@ -103,8 +106,8 @@ fn put_values(
     at: usize,
     end: usize,
 ) -> Next
-    requires { ⌜ (format < formats) × (allowed (format-at format) size ≡ true) × (n ≤ highest-index) × ((es : List Entry) × Notes-by es (now list) (now stage) (now by)) × ((vs : List Bytes) × Old (now b) (format-at format) size vs old) × Roomy at end (now out) ⌝ }
-    ensures { λ r. ⌜ ((es : List Entry) (vs : List Bytes) → Notes-by es (now (list .entry)) (now (stage .entry)) (now (by .entry)) → Old (now (b .entry)) (format-at format) size vs old → Filling (in-room (end - at) (done (new-values es (now (list .entry)) (now (stage .entry)) (now (by .entry)) (format-at format) size vs 1 n))) at true (now (out .entry)) (now (out .exit)) r) ⌝ }
+    requires { ⌜ (format < formats) × (allowed (format-at format) size ≡ true) × (n ≤ highest-index) × ((given : ℕ → Option Bytes) × Notes-by (now stage) (format-at format) size given (now by)) × ((vs : List Bytes) × Old (now b) (format-at format) size vs old) × Roomy at end (now out) ⌝ }
+    ensures { λ r. ⌜ ((given : ℕ → Option Bytes) (vs : List Bytes) → Notes-by (now (stage .entry)) (format-at format) size given (now (by .entry)) → Old (now (b .entry)) (format-at format) size vs old → Filling (in-room (end - at) (done (new-values given (format-at format) size vs 1 n))) at true (now (out .entry)) (now (out .exit)) r) ⌝ }
 {
     let mut q = old.from;
     let mut p = at;
@@ -112,8 +115,8 @@ fn put_values(
     while k <= n {
         let exists = k <= old.count;
         let cell = if exists { Cell::At(q) } else { Cell::Nothing };
-        let s = assignments::bytes_of(list, by[k] as usize);
-        match put_value(b, stage, s, cell, format, size, out, p, end) {
+        let staged = by[k] as usize;
+        match put_value(b, stage, staged, cell, format, size, out, p, end) {
             Next::Refused(x) => {
                 return Next::Refused(x);
             }
@@ -148,6 +151,7 @@ fn old_values(b: &[u8], cell: Cell) -> Run
 fn put_counted(
     t: &[u8],
     b: &[u8],
+    kept: &[Index],
     list: &[u16],
     stage: &[u8],
     i: usize,
@@ -157,13 +161,13 @@ fn put_counted(
     at: usize,
     end: usize,
 ) -> Next
-    requires { ⌜ Valid (now t) × (i < length (entries-of (now t))) × (is-multiple (getD (entries-of (now t)) i blank .what) ≡ true) × (o ≤ highest-index) × Has-cell (entries-of (now t)) (now b) (now list) (now stage) i o cell × Roomy at end (now out) ⌝ }
-    ensures { λ n. ⌜ Puts-cell (entries-of (now (t .entry))) (now (b .entry)) (now (list .entry)) (now (stage .entry)) i o cell (λ w. cell-laid w o (field-at (entries-of (now (t .entry))) i)) at end (now (out .entry)) (now (out .exit)) n ⌝ }
+    requires { ⌜ Valid (now t) × (i < length (entries-of (now t))) × (is-multiple (getD (entries-of (now t)) i blank .what) ≡ true) × (1 ≤ o) × (o ≤ highest-index) × Has-cell (entries-of (now t)) (now b) (now kept) (now list) (now stage) i o cell × Roomy at end (now out) ⌝ }
+    ensures { λ n. ⌜ Puts-cell (entries-of (now (t .entry))) (now (b .entry)) (now (kept .entry)) (now (list .entry)) (now (stage .entry)) i o cell (λ w. cell-laid w o (field-at (entries-of (now (t .entry))) i)) at end (now (out .entry)) (now (out .exit)) n ⌝ }
 {
     let e = tables::entry_at(t, i);
     let old = old_values(b, cell);
     let mut by = [0u16; assignments::VALUES];
-    let named = assignments::named(list, i, o, &mut by);
+    let named = assignments::named(kept, list, stage, i, o, e.size as usize, &mut by);
     let n = if named.bare {
         named.highest
     } else {
@@ -173,7 +177,6 @@ fn put_counted(
         Next::Refused(x) => Next::Refused(x),
         Next::At(p) => put_values(
             b,
-            list,
             stage,
             &by,
             old,
@@ -191,6 +194,7 @@ fn put_counted(
 fn put_plain(
     t: &[u8],
     b: &[u8],
+    kept: &[Index],
     list: &[u16],
     stage: &[u8],
     i: usize,
@@ -200,23 +204,22 @@ fn put_plain(
     at: usize,
     end: usize,
 ) -> Next
-    requires { ⌜ Valid (now t) × (i < length (entries-of (now t))) × (is-group (getD (entries-of (now t)) i blank .what) ≡ false) × (is-multiple (getD (entries-of (now t)) i blank .what) ≡ false) × (o ≤ highest-index) × Has-cell (entries-of (now t)) (now b) (now list) (now stage) i o cell × Roomy at end (now out) ⌝ }
-    ensures { λ n. ⌜ Puts-cell (entries-of (now (t .entry))) (now (b .entry)) (now (list .entry)) (now (stage .entry)) i o cell (λ w. cell-laid w o (field-at (entries-of (now (t .entry))) i)) at end (now (out .entry)) (now (out .exit)) n ⌝ }
+    requires { ⌜ Valid (now t) × (i < length (entries-of (now t))) × (is-group (getD (entries-of (now t)) i blank .what) ≡ false) × (is-multiple (getD (entries-of (now t)) i blank .what) ≡ false) × (1 ≤ o) × (o ≤ highest-index) × Has-cell (entries-of (now t)) (now b) (now kept) (now list) (now stage) i o cell × Roomy at end (now out) ⌝ }
+    ensures { λ n. ⌜ Puts-cell (entries-of (now (t .entry))) (now (b .entry)) (now (kept .entry)) (now (list .entry)) (now (stage .entry)) i o cell (λ w. cell-laid w o (field-at (entries-of (now (t .entry))) i)) at end (now (out .entry)) (now (out .exit)) n ⌝ }
 {
-    let s = assignments::assigned(list, i, o, 1);
-    match s {
-        Staged::At(from, upto) => filling::put_bytes(&stage[from..upto], out, at, end, true),
-        Staged::Nothing => {
-            let e = tables::entry_at(t, i);
-            put_old(b, cell, e.format as usize, e.size as usize, out, at, end)
-        }
+    let staged = assignments::assigned(t, kept, list, stage, i, o);
+    if 0 < staged {
+        return put_stored(stage, staged - 1, tables::size_at(t, i), out, at, end);
     }
+    let e = tables::entry_at(t, i);
+    put_old(b, cell, e.format as usize, e.size as usize, out, at, end)
 }
 
 // The cell of entry i, a field, in occurrence o.
 pub fn put_cell(
     t: &[u8],
     b: &[u8],
+    kept: &[Index],
     list: &[u16],
     stage: &[u8],
     i: usize,
@@ -226,11 +229,11 @@ pub fn put_cell(
     at: usize,
     end: usize,
 ) -> Next
-    requires { ⌜ Valid (now t) × (i < length (entries-of (now t))) × (is-group (getD (entries-of (now t)) i blank .what) ≡ false) × (o ≤ highest-index) × Has-cell (entries-of (now t)) (now b) (now list) (now stage) i o cell × Roomy at end (now out) ⌝ }
-    ensures { λ n. ⌜ Puts-cell (entries-of (now (t .entry))) (now (b .entry)) (now (list .entry)) (now (stage .entry)) i o cell (λ w. cell-laid w o (field-at (entries-of (now (t .entry))) i)) at end (now (out .entry)) (now (out .exit)) n ⌝ }
+    requires { ⌜ Valid (now t) × (i < length (entries-of (now t))) × (is-group (getD (entries-of (now t)) i blank .what) ≡ false) × (1 ≤ o) × (o ≤ highest-index) × Has-cell (entries-of (now t)) (now b) (now kept) (now list) (now stage) i o cell × Roomy at end (now out) ⌝ }
+    ensures { λ n. ⌜ Puts-cell (entries-of (now (t .entry))) (now (b .entry)) (now (kept .entry)) (now (list .entry)) (now (stage .entry)) i o cell (λ w. cell-laid w o (field-at (entries-of (now (t .entry))) i)) at end (now (out .entry)) (now (out .exit)) n ⌝ }
 {
     if tables::multiple_at(t, i) {
-        return put_counted(t, b, list, stage, i, o, cell, out, at, end);
+        return put_counted(t, b, kept, list, stage, i, o, cell, out, at, end);
     }
-    put_plain(t, b, list, stage, i, o, cell, out, at, end)
+    put_plain(t, b, kept, list, stage, i, o, cell, out, at, end)
 }

@@ -23,11 +23,13 @@ mod cells;
 use filling::Next;
 use records::DIRECTORY;
 use records::places::Cell;
+use uses::Index;
 
 // What entry i adds to occurrence o of the periodic group that it lies in: its cell where it is a field, and else nothing.
 fn put_member(
     t: &[u8],
     b: &[u8],
+    kept: &[Index],
     list: &[u16],
     stage: &[u8],
     i: usize,
@@ -37,13 +39,13 @@ fn put_member(
     at: usize,
     end: usize,
 ) -> Next
-    requires { ⌜ Valid (now t) × (i < length (entries-of (now t))) × (o ≤ highest-index) × Has-member (entries-of (now t)) (now b) (now list) (now stage) i o cell × Roomy at end (now out) ⌝ }
-    ensures { λ n. ⌜ Puts-member (entries-of (now (t .entry))) (now (b .entry)) (now (list .entry)) (now (stage .entry)) i o cell at end (now (out .entry)) (now (out .exit)) n ⌝ }
+    requires { ⌜ Valid (now t) × (i < length (entries-of (now t))) × (1 ≤ o) × (o ≤ highest-index) × Has-member (entries-of (now t)) (now b) (now kept) (now list) (now stage) i o cell × Roomy at end (now out) ⌝ }
+    ensures { λ n. ⌜ Puts-member (entries-of (now (t .entry))) (now (b .entry)) (now (kept .entry)) (now (list .entry)) (now (stage .entry)) i o cell at end (now (out .entry)) (now (out .exit)) n ⌝ }
 {
     if tables::group_at(t, i) {
         return Next::At(at);
     }
-    cells::put_cell(t, b, list, stage, i, o, cell, out, at, end)
+    cells::put_cell(t, b, kept, list, stage, i, o, cell, out, at, end)
 }
 
 // What the entries from first up to last add to occurrence o, one after the other, beside the cells that they had.
@@ -51,6 +53,7 @@ fn put_members(
     t: &[u8],
     b: &[u8],
     places: &[u16; DIRECTORY],
+    kept: &[Index],
     list: &[u16],
     stage: &[u8],
     first: usize,
@@ -61,14 +64,14 @@ fn put_members(
     at: usize,
     end: usize,
 ) -> Next
-    requires { ⌜ Valid (now t) × (last ≤ length (entries-of (now t))) × (o ≤ highest-index) × Has-both (entries-of (now t)) (now b) (now places) (now list) (now stage) × ((r : Record) → Is-record (entries-of (now t)) (now b) (now places) r → first < last → Cells-from (entries-of (now t)) (now b) (now places) first last o r had) × Roomy at end (now out) ⌝ }
-    ensures { λ n. ⌜ Puts (entries-of (now (t .entry))) (now (b .entry)) (now (places .entry)) (now (list .entry)) (now (stage .entry)) (λ w r. members-laid w o (entries-of (now (t .entry))) first (last - first)) at end (now (out .entry)) (now (out .exit)) n ⌝ }
+    requires { ⌜ Valid (now t) × (last ≤ length (entries-of (now t))) × (1 ≤ o) × (o ≤ highest-index) × Has-both (entries-of (now t)) (now b) (now places) (now kept) (now list) (now stage) × ((r : Record) → Is-record (entries-of (now t)) (now b) (now places) r → first < last → Cells-from (entries-of (now t)) (now b) (now places) first last o r had) × Roomy at end (now out) ⌝ }
+    ensures { λ n. ⌜ Puts (entries-of (now (t .entry))) (now (b .entry)) (now (places .entry)) (now (kept .entry)) (now (list .entry)) (now (stage .entry)) (λ w r. members-laid w o (entries-of (now (t .entry))) first (last - first)) at end (now (out .entry)) (now (out .exit)) n ⌝ }
 {
     let mut cell = had;
     let mut p = at;
     let mut i = first;
     while i < last {
-        match put_member(t, b, list, stage, i, o, cell, out, p, end) {
+        match put_member(t, b, kept, list, stage, i, o, cell, out, p, end) {
             Next::Refused(x) => {
                 return Next::Refused(x);
             }
@@ -89,6 +92,7 @@ fn put_occurrence(
     t: &[u8],
     b: &[u8],
     places: &[u16; DIRECTORY],
+    kept: &[Index],
     list: &[u16],
     stage: &[u8],
     g: usize,
@@ -98,11 +102,11 @@ fn put_occurrence(
     at: usize,
     end: usize,
 ) -> Next
-    requires { ⌜ Valid (now t) × (g < length (entries-of (now t))) × (getD (entries-of (now t)) g blank .what ≡ group true) × (last ≡ group-end (entries-of (now t)) g) × (1 ≤ o) × (o ≤ highest-index) × Has-both (entries-of (now t)) (now b) (now places) (now list) (now stage) × Roomy at end (now out) ⌝ }
-    ensures { λ n. ⌜ Puts (entries-of (now (t .entry))) (now (b .entry)) (now (places .entry)) (now (list .entry)) (now (stage .entry)) (λ w r. occurrence-laid w o (drop (g + 1) (entries-of (now (t .entry))))) at end (now (out .entry)) (now (out .exit)) n ⌝ }
+    requires { ⌜ Valid (now t) × (g < length (entries-of (now t))) × (getD (entries-of (now t)) g blank .what ≡ group true) × (last ≡ group-end (entries-of (now t)) g) × (1 ≤ o) × (o ≤ highest-index) × Has-both (entries-of (now t)) (now b) (now places) (now kept) (now list) (now stage) × Roomy at end (now out) ⌝ }
+    ensures { λ n. ⌜ Puts (entries-of (now (t .entry))) (now (b .entry)) (now (places .entry)) (now (kept .entry)) (now (list .entry)) (now (stage .entry)) (λ w r. occurrence-laid w o (drop (g + 1) (entries-of (now (t .entry))))) at end (now (out .entry)) (now (out .exit)) n ⌝ }
 {
     let had = records::places::first_cell(t, b, places, g, o);
-    put_members(t, b, places, list, stage, g + 1, last, o, had, out, at, end)
+    put_members(t, b, places, kept, list, stage, g + 1, last, o, had, out, at, end)
 }
 
 // Occurrences 1 to n of the periodic group that entry g is.
@@ -110,6 +114,7 @@ fn put_occurrences(
     t: &[u8],
     b: &[u8],
     places: &[u16; DIRECTORY],
+    kept: &[Index],
     list: &[u16],
     stage: &[u8],
     g: usize,
@@ -119,13 +124,13 @@ fn put_occurrences(
     at: usize,
     end: usize,
 ) -> Next
-    requires { ⌜ Valid (now t) × (g < length (entries-of (now t))) × (getD (entries-of (now t)) g blank .what ≡ group true) × (last ≡ group-end (entries-of (now t)) g) × (n ≤ highest-index) × Has-both (entries-of (now t)) (now b) (now places) (now list) (now stage) × Roomy at end (now out) ⌝ }
-    ensures { λ r. ⌜ Puts (entries-of (now (t .entry))) (now (b .entry)) (now (places .entry)) (now (list .entry)) (now (stage .entry)) (λ w r. occurrences-laid w (drop (g + 1) (entries-of (now (t .entry)))) 1 n) at end (now (out .entry)) (now (out .exit)) r ⌝ }
+    requires { ⌜ Valid (now t) × (g < length (entries-of (now t))) × (getD (entries-of (now t)) g blank .what ≡ group true) × (last ≡ group-end (entries-of (now t)) g) × (n ≤ highest-index) × Has-both (entries-of (now t)) (now b) (now places) (now kept) (now list) (now stage) × Roomy at end (now out) ⌝ }
+    ensures { λ r. ⌜ Puts (entries-of (now (t .entry))) (now (b .entry)) (now (places .entry)) (now (kept .entry)) (now (list .entry)) (now (stage .entry)) (λ w r. occurrences-laid w (drop (g + 1) (entries-of (now (t .entry)))) 1 n) at end (now (out .entry)) (now (out .exit)) r ⌝ }
 {
     let mut p = at;
     let mut o = 1;
     while o <= n {
-        match put_occurrence(t, b, places, list, stage, g, last, o, out, p, end) {
+        match put_occurrence(t, b, places, kept, list, stage, g, last, o, out, p, end) {
             Next::Refused(x) => {
                 return Next::Refused(x);
             }
@@ -143,6 +148,7 @@ fn put_named_group(
     t: &[u8],
     b: &[u8],
     places: &[u16; DIRECTORY],
+    kept: &[Index],
     list: &[u16],
     stage: &[u8],
     g: usize,
@@ -150,16 +156,16 @@ fn put_named_group(
     at: usize,
     end: usize,
 ) -> Next
-    requires { ⌜ Valid (now t) × (g < length (entries-of (now t))) × (getD (entries-of (now t)) g blank .what ≡ group true) × Has-both (entries-of (now t)) (now b) (now places) (now list) (now stage) × Roomy at end (now out) ⌝ }
-    ensures { λ n. ⌜ Puts (entries-of (now (t .entry))) (now (b .entry)) (now (places .entry)) (now (list .entry)) (now (stage .entry)) (λ w r. entry-laid w (group-count-at (parts (entries-of (now (t .entry)))) r) true (getD (entries-of (now (t .entry))) g blank .name) (group true) (drop (g + 1) (entries-of (now (t .entry))))) at end (now (out .entry)) (now (out .exit)) n ⌝ }
+    requires { ⌜ Valid (now t) × (g < length (entries-of (now t))) × (getD (entries-of (now t)) g blank .what ≡ group true) × Has-both (entries-of (now t)) (now b) (now places) (now kept) (now list) (now stage) × Roomy at end (now out) ⌝ }
+    ensures { λ n. ⌜ Puts (entries-of (now (t .entry))) (now (b .entry)) (now (places .entry)) (now (kept .entry)) (now (list .entry)) (now (stage .entry)) (λ w r. entry-laid w (group-count-at (parts (entries-of (now (t .entry)))) r) true (getD (entries-of (now (t .entry))) g blank .name) (group true) (drop (g + 1) (entries-of (now (t .entry))))) at end (now (out .entry)) (now (out .exit)) n ⌝ }
 {
     let old = records::places::group_count(t, b, places, g);
     let last = tables::group_end(t, g);
-    let highest = assignments::highest_occurrence(list, g + 1, last);
+    let highest = assignments::highest_occurrence(kept, list, g + 1, last);
     let n = cells::larger(old, highest);
     match cells::put_count(n, out, at, end) {
         Next::Refused(x) => Next::Refused(x),
-        Next::At(p) => put_occurrences(t, b, places, list, stage, g, last, n, out, p, end),
+        Next::At(p) => put_occurrences(t, b, places, kept, list, stage, g, last, n, out, p, end),
     }
 }
 
@@ -187,6 +193,7 @@ fn put_group(
     t: &[u8],
     b: &[u8],
     places: &[u16; DIRECTORY],
+    kept: &[Index],
     list: &[u16],
     stage: &[u8],
     g: usize,
@@ -194,14 +201,14 @@ fn put_group(
     at: usize,
     end: usize,
 ) -> Next
-    requires { ⌜ Valid (now t) × (g < length (entries-of (now t))) × (getD (entries-of (now t)) g blank .what ≡ group true) × Has-both (entries-of (now t)) (now b) (now places) (now list) (now stage) × Roomy at end (now out) ⌝ }
-    ensures { λ n. ⌜ Puts (entries-of (now (t .entry))) (now (b .entry)) (now (places .entry)) (now (list .entry)) (now (stage .entry)) (λ w r. entry-laid w (group-count-at (parts (entries-of (now (t .entry)))) r) true (getD (entries-of (now (t .entry))) g blank .name) (group true) (drop (g + 1) (entries-of (now (t .entry))))) at end (now (out .entry)) (now (out .exit)) n ⌝ }
+    requires { ⌜ Valid (now t) × (g < length (entries-of (now t))) × (getD (entries-of (now t)) g blank .what ≡ group true) × Has-both (entries-of (now t)) (now b) (now places) (now kept) (now list) (now stage) × Roomy at end (now out) ⌝ }
+    ensures { λ n. ⌜ Puts (entries-of (now (t .entry))) (now (b .entry)) (now (places .entry)) (now (kept .entry)) (now (list .entry)) (now (stage .entry)) (λ w r. entry-laid w (group-count-at (parts (entries-of (now (t .entry)))) r) true (getD (entries-of (now (t .entry))) g blank .name) (group true) (drop (g + 1) (entries-of (now (t .entry))))) at end (now (out .entry)) (now (out .exit)) n ⌝ }
 {
     let last = tables::group_end(t, g);
-    if assignments::highest_occurrence(list, g + 1, last) == 0 {
+    if assignments::highest_occurrence(kept, list, g + 1, last) == 0 {
         return put_kept(t, b, places, g, last, out, at, end);
     }
-    put_named_group(t, b, places, list, stage, g, out, at, end)
+    put_named_group(t, b, places, kept, list, stage, g, out, at, end)
 }
 
 // The field outside periodic groups that entry i is: as it was where it is not named.
@@ -209,6 +216,7 @@ fn put_field(
     t: &[u8],
     b: &[u8],
     places: &[u16; DIRECTORY],
+    kept: &[Index],
     list: &[u16],
     stage: &[u8],
     i: usize,
@@ -216,14 +224,14 @@ fn put_field(
     at: usize,
     end: usize,
 ) -> Next
-    requires { ⌜ Valid (now t) × (i < length (entries-of (now t))) × (is-group (getD (entries-of (now t)) i blank .what) ≡ false) × (inside-at (entries-of (now t)) i ≡ false) × Has-both (entries-of (now t)) (now b) (now places) (now list) (now stage) × Roomy at end (now out) ⌝ }
-    ensures { λ n. ⌜ Puts (entries-of (now (t .entry))) (now (b .entry)) (now (places .entry)) (now (list .entry)) (now (stage .entry)) (λ w r. cell-laid w 1 (field-at (entries-of (now (t .entry))) i)) at end (now (out .entry)) (now (out .exit)) n ⌝ }
+    requires { ⌜ Valid (now t) × (i < length (entries-of (now t))) × (is-group (getD (entries-of (now t)) i blank .what) ≡ false) × (inside-at (entries-of (now t)) i ≡ false) × Has-both (entries-of (now t)) (now b) (now places) (now kept) (now list) (now stage) × Roomy at end (now out) ⌝ }
+    ensures { λ n. ⌜ Puts (entries-of (now (t .entry))) (now (b .entry)) (now (places .entry)) (now (kept .entry)) (now (list .entry)) (now (stage .entry)) (λ w r. cell-laid w 1 (field-at (entries-of (now (t .entry))) i)) at end (now (out .entry)) (now (out .exit)) n ⌝ }
 {
-    if assignments::highest_occurrence(list, i, i + 1) == 0 {
+    if assignments::highest_occurrence(kept, list, i, i + 1) == 0 {
         return put_kept(t, b, places, i, i + 1, out, at, end);
     }
     let had = records::places::outside_cell(t, b, places, i);
-    put_members(t, b, places, list, stage, i, i + 1, 1, had, out, at, end)
+    put_members(t, b, places, kept, list, stage, i, i + 1, 1, had, out, at, end)
 }
 
 // What entry i adds to the new record.
@@ -231,6 +239,7 @@ fn put_entry(
     t: &[u8],
     b: &[u8],
     places: &[u16; DIRECTORY],
+    kept: &[Index],
     list: &[u16],
     stage: &[u8],
     i: usize,
@@ -239,11 +248,11 @@ fn put_entry(
     at: usize,
     end: usize,
 ) -> Next
-    requires { ⌜ Valid (now t) × (i < length (entries-of (now t))) × (inside ≡ inside-at (entries-of (now t)) i) × Has-both (entries-of (now t)) (now b) (now places) (now list) (now stage) × Roomy at end (now out) ⌝ }
-    ensures { λ n. ⌜ Puts (entries-of (now (t .entry))) (now (b .entry)) (now (places .entry)) (now (list .entry)) (now (stage .entry)) (λ w r. entry-laid w (group-count-at (parts (entries-of (now (t .entry)))) r) inside (getD (entries-of (now (t .entry))) i blank .name) (getD (entries-of (now (t .entry))) i blank .what) (drop (i + 1) (entries-of (now (t .entry))))) at end (now (out .entry)) (now (out .exit)) n ⌝ }
+    requires { ⌜ Valid (now t) × (i < length (entries-of (now t))) × (inside ≡ inside-at (entries-of (now t)) i) × Has-both (entries-of (now t)) (now b) (now places) (now kept) (now list) (now stage) × Roomy at end (now out) ⌝ }
+    ensures { λ n. ⌜ Puts (entries-of (now (t .entry))) (now (b .entry)) (now (places .entry)) (now (kept .entry)) (now (list .entry)) (now (stage .entry)) (λ w r. entry-laid w (group-count-at (parts (entries-of (now (t .entry)))) r) inside (getD (entries-of (now (t .entry))) i blank .name) (getD (entries-of (now (t .entry))) i blank .what) (drop (i + 1) (entries-of (now (t .entry))))) at end (now (out .entry)) (now (out .exit)) n ⌝ }
 {
     if tables::periodic_at(t, i) {
-        return put_group(t, b, places, list, stage, i, out, at, end);
+        return put_group(t, b, places, kept, list, stage, i, out, at, end);
     }
     if inside {
         return Next::At(at);
@@ -251,7 +260,7 @@ fn put_entry(
     if tables::group_at(t, i) {
         return Next::At(at);
     }
-    put_field(t, b, places, list, stage, i, out, at, end)
+    put_field(t, b, places, kept, list, stage, i, out, at, end)
 }
 
 // The new record, to the front of out.
@@ -259,12 +268,13 @@ pub fn put_record(
     t: &[u8],
     b: &[u8],
     places: &[u16; DIRECTORY],
+    kept: &[Index],
     list: &[u16],
     stage: &[u8],
     out: &mut [u8],
 ) -> Next
-    requires { ⌜ Valid (now t) × Has-both (entries-of (now t)) (now b) (now places) (now list) (now stage) × (length (now out) ≡ longest-new-record) ⌝ }
-    ensures { λ n. ⌜ Puts (entries-of (now (t .entry))) (now (b .entry)) (now (places .entry)) (now (list .entry)) (now (stage .entry)) (λ w r. record-head ++ laid-from w (group-count-at (parts (entries-of (now (t .entry)))) r) false (entries-of (now (t .entry)))) 0 longest-new-record (now (out .entry)) (now (out .exit)) n ⌝ }
+    requires { ⌜ Valid (now t) × Has-both (entries-of (now t)) (now b) (now places) (now kept) (now list) (now stage) × (length (now out) ≡ longest-new-record) ⌝ }
+    ensures { λ n. ⌜ Puts (entries-of (now (t .entry))) (now (b .entry)) (now (places .entry)) (now (kept .entry)) (now (list .entry)) (now (stage .entry)) (λ w r. record-head ++ laid-from w (group-count-at (parts (entries-of (now (t .entry)))) r) false (entries-of (now (t .entry)))) 0 longest-new-record (now (out .entry)) (now (out .exit)) n ⌝ }
 {
     let n = tables::count(t);
     let end = out.len();
@@ -273,7 +283,7 @@ pub fn put_record(
     let mut i = 0;
     while i < n {
         inside = records::inside_next(t, i, inside);
-        match put_entry(t, b, places, list, stage, i, inside, out, p, end) {
+        match put_entry(t, b, places, kept, list, stage, i, inside, out, p, end) {
             Next::Refused(x) => {
                 return Next::Refused(x);
             }

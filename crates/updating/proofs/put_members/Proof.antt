@@ -20,12 +20,12 @@ use Rattle.updating.proofs.put_members.Statement.{statement}
 use Rattle.updating.proofs.put_members.Tie as tie
 
 abbrev Inv-loop : tie.InvT-loop
-Inv-loop t b places list stage first last o out₀ at end cell₀ p₀ i₀ out cell p i =
+Inv-loop t b places kept list stage first last o out₀ at end cell₀ p₀ i₀ out cell p i =
     ((r : Record) → Is-record (entries-of t) b places r → i < last → Cells-from (entries-of t) b places i last o r cell)
-    × Laying (entries-of t) b places list stage (λ w r. members-laid w o (entries-of t) first (last - first)) (λ w r. members-laid w o (entries-of t) i (last - i)) at p end out₀ out
+    × Laying (entries-of t) b places kept list stage (λ w r. members-laid w o (entries-of t) first (last - first)) (λ w r. members-laid w o (entries-of t) i (last - i)) at p end out₀ out
 
 abbrev μ-loop : tie.MeasureT-loop
-μ-loop t b places list stage first last o out₀ at end cell₀ p₀ i₀ out cell p i = last - i
+μ-loop t b places kept list stage first last o out₀ at end cell₀ p₀ i₀ out cell p i = last - i
 
 -- Where the function begins, seen from a turn of the loop; and the turn, seen from where a member is put and from where it is told.
 abbrev start : tie.At-loop Inv-loop μ-loop → tie.Start Inv-loop μ-loop

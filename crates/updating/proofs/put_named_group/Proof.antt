@@ -62,7 +62,7 @@ members c =
     ∙ ap (λ n. fields-in (slice (a .g + 1) n es)) (sym (c .before .before .group-end .ensures))
 
 count : (c : tie.After-larger) (r : Record) (ws : List Assignment) → Is-record (entries-of (start c .args .t .now)) (start c .args .b .now) (start c .args .places .now) r
-    → Assigns (entries-of (start c .args .t .now)) (start c .args .list .now) (start c .args .stage .now) ws → c .larger .result ≡ new c (update-plan (parts (entries-of (start c .args .t .now))) r ws) r
+    → Assigns (entries-of (start c .args .t .now)) (start c .args .kept .now) (start c .args .list .now) (start c .args .stage .now) ws → c .larger .result ≡ new c (update-plan (parts (entries-of (start c .args .t .now))) r ws) r
 count c r ws p a =
     let s = start c in
     let es = entries-of (s .args .t .now) in
@@ -92,7 +92,7 @@ first c w r =
     adds-group w (group-count-at (parts es) r) (getD es (s .args .g) blank .name) (drop (s .args .g + 1) es) true (group true) refl
 
 begun : (c : tie.After-larger)
-    → Laying (entries-of (start c .args .t .now)) (start c .args .b .now) (start c .args .places .now) (start c .args .list .now) (start c .args .stage .now) (whole c) (whole c) (start c .args .at) (start c .args .at) (start c .args .end) (start c .args .out .now) (start c .args .out .now)
+    → Laying (entries-of (start c .args .t .now)) (start c .args .b .now) (start c .args .places .now) (start c .args .kept .now) (start c .args .list .now) (start c .args .stage .now) (whole c) (whole c) (start c .args .at) (start c .args .at) (start c .args .end) (start c .args .out .now) (start c .args .out .now)
 begun c = let s = start c in lay-start (whole c) (s .pre .3) (s .pre .4 .0) (s .pre .4 .1)
 
 group-count-requires : tie.Need-group-count-requires

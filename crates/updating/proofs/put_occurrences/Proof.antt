@@ -16,12 +16,12 @@ use Rattle.updating.proofs.put_occurrences.Statement.{statement}
 use Rattle.updating.proofs.put_occurrences.Tie as tie
 
 abbrev Inv-loop : tie.InvT-loop
-Inv-loop t b places list stage g last n out₀ at end p₀ o₀ out p o =
+Inv-loop t b places kept list stage g last n out₀ at end p₀ o₀ out p o =
     (1 ≤ o)
-    × Laying (entries-of t) b places list stage (λ w r. occurrences-laid w (drop (g + 1) (entries-of t)) 1 n) (λ w r. occurrences-laid w (drop (g + 1) (entries-of t)) o (suc n - o)) at p end out₀ out
+    × Laying (entries-of t) b places kept list stage (λ w r. occurrences-laid w (drop (g + 1) (entries-of t)) 1 n) (λ w r. occurrences-laid w (drop (g + 1) (entries-of t)) o (suc n - o)) at p end out₀ out
 
 abbrev μ-loop : tie.MeasureT-loop
-μ-loop t b places list stage g last n out₀ at end p₀ o₀ out p o = suc n - o
+μ-loop t b places kept list stage g last n out₀ at end p₀ o₀ out p o = suc n - o
 
 -- Where the function begins; and the occurrence that the loop is at, before the others.
 abbrev start : tie.At-loop Inv-loop μ-loop → tie.Start Inv-loop μ-loop

@@ -20,13 +20,13 @@ use Rattle.updating.proofs.put_record.Statement.{statement}
 use Rattle.updating.proofs.put_record.Tie as tie
 
 abbrev Inv-loop : tie.InvT-loop
-Inv-loop t b places list stage out₀ n end p₀ inside₀ i₀ out p inside i =
+Inv-loop t b places kept list stage out₀ n end p₀ inside₀ i₀ out p inside i =
     Insides (entries-of t) i inside
-    × Laying (entries-of t) b places list stage (λ w r. laid-from w (group-count-at (parts (entries-of t)) r) false (entries-of t))
+    × Laying (entries-of t) b places kept list stage (λ w r. laid-from w (group-count-at (parts (entries-of t)) r) false (entries-of t))
     (λ w r. laid-from w (group-count-at (parts (entries-of t)) r) inside (drop i (entries-of t))) p₀ p end out₀ out
 
 abbrev μ-loop : tie.MeasureT-loop
-μ-loop t b places list stage out₀ n end p₀ inside₀ i₀ out p inside i = n - i
+μ-loop t b places kept list stage out₀ n end p₀ inside₀ i₀ out p inside i = n - i
 
 -- Where the function begins; and the entry that the loop is at, before the others.
 abbrev start : tie.At-loop Inv-loop μ-loop → tie.Start Inv-loop μ-loop
@@ -39,7 +39,7 @@ body c w r =
     laid-from w (group-count-at (parts es) r) false es
 
 headed : (c : tie.After-put-head Inv-loop μ-loop) → let s = c .before .before .before .before .before .before .before .before in
-    Laying (entries-of (s .args .t .now)) (s .args .b .now) (s .args .places .now) (s .args .list .now) (s .args .stage .now) (λ w r. record-head ++ body c w r) (body c) 0 (c .put-head .result)
+    Laying (entries-of (s .args .t .now)) (s .args .b .now) (s .args .places .now) (s .args .kept .now) (s .args .list .now) (s .args .stage .now) (λ w r. record-head ++ body c w r) (body c) 0 (c .put-head .result)
     (length (s .args .out .now)) (s .args .out .now) (c .put-head .last .0)
 unfolding record-head
 headed c =

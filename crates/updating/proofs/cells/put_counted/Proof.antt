@@ -52,15 +52,15 @@ abbrev Held : tie.After-named → Record → Type 0
 Held c r = Cell-of (entries c) (start c .args .b .now) (start c .args .i) (start c .args .o) r (start c .args .cell)
 
 abbrev Assigned : tie.After-named → List Assignment → Type 0
-Assigned c ws = Assigns (entries c) (start c .args .list .now) (start c .args .stage .now) ws
+Assigned c ws = Assigns (entries c) (start c .args .kept .now) (start c .args .list .now) (start c .args .stage .now) ws
 
 what : (c : tie.After-named) → is-group (getD (entries c) (start c .args .i) blank .what) ≡ false
 what c = multiple-field (getD (entries c) (start c .args .i) blank .what) (start c .pre .2)
 
-names : (c : tie.After-named) (ws : List Assignment) → Assigned c ws → Names (entries c) (start c .args .list .now) (start c .args .stage .now) ws (start c .args .i) (start c .args .o) (by c) (c .named .result)
+names : (c : tie.After-named) (ws : List Assignment) → Assigned c ws → Names (entries c) (start c .args .kept .now) (start c .args .list .now) (start c .args .stage .now) ws (start c .args .i) (start c .args .o) (by c) (c .named .result)
 names c ws a = let s = start c in c .named .ensures (entries c) (s .args .stage .now) (a .staged) ws (a .indexed) (true-T (valid-names (s .args .t .now) (s .pre .0))) (s .pre .1)
 
-notes : (c : tie.After-named) (ws : List Assignment) → Assigned c ws → Notes-by (entries c) (start c .args .list .now) (start c .args .stage .now) (by c)
+notes : (c : tie.After-named) (ws : List Assignment) → Assigned c ws → Notes-by (entries c) (start c .args .kept .now) (start c .args .list .now) (start c .args .stage .now) (by c)
 notes c ws a = record {
   staged = a .staged;
   assigned = ws;
@@ -88,11 +88,11 @@ count c r ws x a =
     let k = names d ws a in
     ⊎-elim
     (λ w. (
-      count-bare (entries d) (s .args .i) (what d) (e .result) (e .ensures) r (s .args .o) (s .args .b .now) (s .pre .2) (s .args .list .now) (s .args .stage .now) ws (by d) (d .named .result) k a (w .0 .taken) ∙ sym (w .1),
+      count-bare (entries d) (s .args .i) (what d) (e .result) (e .ensures) r (s .args .o) (s .args .b .now) (s .pre .2) (s .args .kept .now) (s .args .list .now) (s .args .stage .now) ws (by d) (d .named .result) k a (w .0 .taken) ∙ sym (w .1),
       omega (arith, w .1, k .most),
     ))
     (λ w. (
-      count-larger (entries d) (s .args .i) (what d) (e .result) (e .ensures) r (s .args .o) (s .args .b .now) (s .pre .2) (s .args .list .now) (s .args .stage .now) ws (by d) (d .named .result) k (w .0 .left)
+      count-larger (entries d) (s .args .i) (what d) (e .result) (e .ensures) r (s .args .o) (s .args .b .now) (s .pre .2) (s .args .kept .now) (s .args .list .now) (s .args .stage .now) ws (by d) (d .named .result) k (w .0 .left)
           ∙ ap (λ (m : ℕ). max m (d .named .result .highest)) (sym (o .many)) ∙ sym (w .2 ∙ w .1 .ensures),
       omega (arith, w .2, w .1 .ensures, larger-index (d .before .before .old-values .result .count) (d .named .result .highest) (o .most) (k .most)),
     ))
@@ -106,7 +106,7 @@ laid c r ws x a =
     let s = start d in
     let e = d .before .before .before .entry-at in
     let n = count c r ws x a in
-    multiple-laid (entries d) (s .args .i) (what d) (e .result) (e .ensures) r (s .args .o) (s .args .b .now) (s .pre .2) (s .args .list .now) (s .args .stage .now) ws (by d) (d .named .result) (names d ws a) (c .if1 .n) (n .0) (n .1)
+    multiple-laid (entries d) (s .args .i) (what d) (e .result) (e .ensures) r (s .args .o) (s .args .b .now) (s .pre .2) (s .args .kept .now) (s .args .list .now) (s .args .stage .now) ws (by d) (d .named .result) (names d ws a) (c .if1 .n) (n .0) (n .1)
 
 entry-at-requires : tie.Need-entry-at-requires
 entry-at-requires c κs = search needs

@@ -39,7 +39,7 @@ abbrev takes : tie.After-assigned → List Assignment → Option Bytes
 takes c ws = assigned ws (place-at (entries-of (start c .args .t .now)) (start c .args .i) (start c .args .o) 1)
 
 abbrev Assigned : tie.After-assigned → List Assignment → Type 0
-Assigned c ws = Assigns (entries-of (start c .args .t .now)) (start c .args .list .now) (start c .args .stage .now) ws
+Assigned c ws = Assigns (entries-of (start c .args .t .now)) (start c .args .kept .now) (start c .args .list .now) (start c .args .stage .now) ws
 
 staged : (c : tie.After-assigned) (ws : List Assignment) → Assigned c ws → Stands (start c .args .stage .now) (takes c ws) (c .assigned .result)
 staged c ws a =

@@ -38,7 +38,7 @@ noted c = c .before .before .before .before .before .before .before
 
 -- What a note gives, and the value as it was.
 abbrev Notes : tie.At-loop Inv-loop μ-loop → List Entry → Type 0
-Notes c es = Notes-by es (start c .args .list .now) (start c .args .stage .now) (start c .args .by .now)
+Notes c es = Notes-by es (start c .args .kept .now) (start c .args .list .now) (start c .args .stage .now) (start c .args .by .now)
 
 abbrev Olds : tie.At-loop Inv-loop μ-loop → List Bytes → Type 0
 Olds c vs = Old (start c .args .b .now) (format-at (start c .args .format)) (start c .args .size) vs (start c .args .old)
@@ -55,15 +55,15 @@ was c es vs x y =
     let f = format-at (a .format) in
     let g = l .loop .inv es vs x y in
     let W = Was (a .b .now) f (a .size) (getD vs (g .put) (null f (a .size))) in
-    ⊎-elim (λ w. subst W (sym (w .1)) (stands-next es (a .list .now) (a .stage .now) (a .by .now) f (a .size) vs g y (leb-true _ _ (w .0 .taken))))
-    (λ w. subst W (sym (w .1)) (missing-next es (a .list .now) (a .stage .now) (a .by .now) f (a .size) vs g y (leb-false _ _ (w .0 .left))))
+    ⊎-elim (λ w. subst W (sym (w .1)) (stands-next es (a .kept .now) (a .list .now) (a .stage .now) (a .by .now) f (a .size) vs g y (leb-true _ _ (w .0 .taken))))
+    (λ w. subst W (sym (w .1)) (missing-next es (a .kept .now) (a .list .now) (a .stage .now) (a .by .now) f (a .size) vs g y (leb-false _ _ (w .0 .left))))
     (c .before .before .if1 .came)
 
 loop-holds : tie.Need-loop-holds Inv-loop μ-loop
 loop-holds c es vs x y =
     let s = c .before .before .before .before in
     let a = s .args in
-    putting-start es (a .list .now) (a .stage .now) (a .by .now) (format-at (a .format)) (a .size) vs (a .b .now) (a .old) y (a .n) (a .end) (a .at) (a .out .now) (s .pre .5 .0) (s .pre .5 .1)
+    putting-start es (a .kept .now) (a .list .now) (a .stage .now) (a .by .now) (format-at (a .format)) (a .size) vs (a .b .now) (a .old) y (a .n) (a .end) (a .at) (a .out .now) (s .pre .5 .0) (s .pre .5 .1)
 
 mul-bytes-of : tie.Need-mul-bytes-of Inv-loop μ-loop
 mul-bytes-of c = search needs
@@ -107,7 +107,7 @@ returns c es vs x y =
     let d = c .before .before .before .before .before .before .before in
     let l = turn d in
     let a = start l .args in
-    putting-off es (a .list .now) (a .stage .now) (a .by .now) (format-at (a .format)) (a .size) vs (l .loop .inv es vs x y) (d .before .before .before .before .loop-test .taken)
+    putting-off es (a .kept .now) (a .list .now) (a .stage .now) (a .by .now) (format-at (a .format)) (a .size) vs (l .loop .inv es vs x y) (d .before .before .before .before .loop-test .taken)
     (c .before .before .before .before .before .put-value .ensures _ _ (stands d es x) (was d es vs x y)) _ (c .before .x .given .1)
 
 enum-known-next : tie.Need-enum-known-next Inv-loop μ-loop
@@ -121,7 +121,7 @@ values-end-requires c κs =
     let f = format-at (a .format) in
     let v = s .pre .4 in
     let g = l .loop .inv (s .pre .3 .0) (v .0) (s .pre .3 .1) (v .1) in
-    let w = stands-next (s .pre .3 .0) (a .list .now) (a .stage .now) (a .by .now) f (a .size) (v .0) g (v .1) (leb-true _ _ (c .if2 .taken)) in
+    let w = stands-next (s .pre .3 .0) (a .kept .now) (a .list .now) (a .stage .now) (a .by .now) f (a .size) (v .0) g (v .1) (leb-true _ _ (c .if2 .taken)) in
     (g .were .0, (f, was-ends (a .b .now) f (a .size) (getD (v .0) (g .put) (null f (a .size))) (l .loop .q) w))
 
 add-k : tie.Need-add-k Inv-loop μ-loop
@@ -141,8 +141,8 @@ were c es vs x y =
     let g = l .loop .inv es vs x y in
     let W : ℕ → Type 0 = λ q. Were (a .b .now) f (a .size) q (a .old .count - suc (g .put)) (drop (suc (g .put)) vs) in
     ⊎-elim
-    (λ w. subst W (sym (w .2)) (were-after es (a .list .now) (a .stage .now) (a .by .now) f (a .size) vs g y (leb-true _ _ (w .0 .taken)) (w .1 .result) (w .1 .ensures f)))
-    (λ w. subst W (sym (w .1)) (were-none es (a .list .now) (a .stage .now) (a .by .now) f (a .size) vs g y (leb-false _ _ (w .0 .left))))
+    (λ w. subst W (sym (w .2)) (were-after es (a .kept .now) (a .list .now) (a .stage .now) (a .by .now) f (a .size) vs g y (leb-true _ _ (w .0 .taken)) (w .1 .result) (w .1 .ensures f)))
+    (λ w. subst W (sym (w .1)) (were-none es (a .kept .now) (a .list .now) (a .stage .now) (a .by .now) f (a .size) vs g y (leb-false _ _ (w .0 .left))))
     (c .if2 .came)
 
 loop-again : tie.Need-loop-again Inv-loop μ-loop
@@ -150,7 +150,7 @@ loop-again c es vs x y =
     let d = noted (c .before) in
     let l = turn d in
     let a = start l .args in
-    putting-on es (a .list .now) (a .stage .now) (a .by .now) (format-at (a .format)) (a .size) vs (l .loop .inv es vs x y) (d .before .before .before .before .loop-test .taken)
+    putting-on es (a .kept .now) (a .list .now) (a .stage .now) (a .by .now) (format-at (a .format)) (a .size) vs (l .loop .inv es vs x y) (d .before .before .before .before .loop-test .taken)
     (c .before .before .before .before .before .before .put-value .ensures _ _ (stands d es x) (was d es vs x y)) _ (c .before .before .next .given .1) _ (were c es vs x y)
 
 same-length-2 : tie.Need-same-length-2 Inv-loop μ-loop
@@ -159,7 +159,7 @@ same-length-2 c = let s = start (c .before) in c .before .loop .inv (s .pre .3 .
 returns-2 : tie.Need-returns-2 Inv-loop μ-loop
 returns-2 c es vs x y =
     let a = start (c .before) .args in
-    putting-end es (a .list .now) (a .stage .now) (a .by .now) (format-at (a .format)) (a .size) vs (c .before .loop .inv es vs x y) (c .loop-test .left)
+    putting-end es (a .kept .now) (a .list .now) (a .stage .now) (a .by .now) (format-at (a .format)) (a .size) vs (c .before .loop .inv es vs x y) (c .loop-test .left)
 
 pub put-values-spec : {M : Type 1} → statement M
 put-values-spec =
