@@ -1,30 +1,29 @@
 -- Uses are put before their chains from the last to the first: of those that were put, each chain has the uses that belong to it in their order,
 -- and the highest occurrence noted of a field is that of its uses.
 use mathlib.Core.Path.{_≡_, refl, sym, ap, subst, _∙_}
-use mathlib.Core.Bool.{Bool, true, false, _&&_}
+use mathlib.Core.Bool.{Bool, true, false}
 use mathlib.Core.List.{List, [], _∷_}
-use Prim.Native.Nat.{ℕ, zero, suc, _+_, _-_, _*_, _<_, _≤_, max}
+use Prim.Native.Nat.{ℕ, zero, suc, _+_, _-_, _<_, _≤_, max}
 use native.Mathlib.Omega.{arith}
 use native.Mathlib.Numerals.{add-one}
-use lib.Dec.{eqb, leb, ltb}
+use lib.Dec.{eqb, ltb}
 use lib.ListN.{length, getD, set, length-set}
 use lib.Seq.{getD-set-same, getD-set-other}
-use borrow.Author.Tests.{eqb-true, eqb-false, eq-eqb, ne-eqb, lt-ltb, le-ltb, ltb-true, ltb-false, le-leb, lt-leb}
+use borrow.Author.Tests.{eqb-true, eqb-false, lt-ltb, le-ltb, ltb-true, ltb-false, le-leb, lt-leb}
 use Rattle.rules.specs.Limits.{most-entries}
 use Rattle.rules.specs.Lists.{Bytes, filter, maximum, run}
 use Rattle.rules.specs.Table.{Entry}
 use Rattle.rules.specs.Update.{Assignment}
 use Rattle.rules.proofs.Steps.{by-test, not-both}
-use Rattle.rules.proofs.Bools.{and-both}
 use Rattle.tables.specs.Entries.{blank, is-group}
-use Rattle.uses.specs.Kept.{numbers-kept, use-at}
+use Rattle.uses.specs.Kept.{use-at}
 use Rattle.uses.specs.Meant.{Good-use}
 use Rattle.uses.specs.declared.Span.{Span}
 use Rattle.uses.specs.declared.Use.{Use}
 use Rattle.uses.specs.declared.Use.the-variants as code
 use Rattle.format_buffer.specs.Elements.{range}
 use Rattle.uses.proofs.Spreading.{ordered-within}
-use Rattle.assignments.specs.Notes.{cell-chains, field-chains, group-chain, chains, highest-from, firsts-from, uses-from, note-place, highest-noted, first-noted, start-noted, next-noted, cell-chain, span-chain, use-chain, use-reach, chained, place-at, Takes-at, Unindexed, Listed, Chained, Indexed}
+use Rattle.assignments.specs.Notes.{cell-chains, field-chains, group-chain, chains, highest-from, firsts-from, note-place, highest-noted, first-noted, start-noted, next-noted, cell-chain, span-chain, use-chain, use-reach, chained, place-at, Takes-at, Unindexed, Listed, Chained, Indexed}
 use Rattle.assignments.specs.Answers.{Marked, linked, Links, Can-link, Widened, Linked-all, Named-once}
 
 -- The chain of a span, by the tests that lead to it.
@@ -143,9 +142,10 @@ module _ {es : List Entry} {n : ℕ} {s : Span} {list after : List ℕ} (c : Can
     firsts = λ i h. kept-elsewhere (firsts-from + i) (λ e. absurd (omega (arith, low))) (λ e. absurd (omega arith)) (λ k a b g e. absurd (omega (arith, heights-end k b)));
     nexts = λ k d. kept-elsewhere (note-place k + 1) (λ e. absurd (omega (arith, low))) (λ e. d (omega arith)) (λ i a b g e. absurd (omega (arith, heights-end i b)));
     own = λ x h e.
-        let q : span-chain s ≡ x = sym (chain-used s) ∙ e in
-        (rw (← q) (m .outside (span-chain s) (λ i a b g r. absurd (omega (arith, low))) ∙ linked-head list n s (omega (arith, low, c .room)) ∙ add-one n),
-          rw (← q) (m .outside (note-place n + 1) (λ i a b g r. absurd (omega (arith, heights-end i b))) ∙ linked-next list n s low (omega (arith, c .room))));
+        let q : span-chain s ≡ x = sym (chain-used s) ∙ e in (
+          rw (← q) (m .outside (span-chain s) (λ i a b g r. absurd (omega (arith, low))) ∙ linked-head list n s (omega (arith, low, c .room)) ∙ add-one n),
+          rw (← q) (m .outside (note-place n + 1) (λ i a b g r. absurd (omega (arith, heights-end i b))) ∙ linked-next list n s low (omega (arith, c .room))),
+        );
     other = λ x h d. kept-elsewhere x (λ e. d (chain-used s ∙ sym e)) (λ e. absurd (omega arith)) (λ i a b g e. absurd (omega arith));
     alone = λ h. absurd (omega (arith, low, chain-used s));
     reach = put-reach;
@@ -278,9 +278,6 @@ linking-start es kept count list most u z =
 module _ {es : List Entry} {kept : List ℕ} {count k : ℕ} {list mid after : List ℕ} (l : Linking es kept count list mid (suc k)) (p : Put-before es k (use-at kept k) mid after) where
   left-more : count - k ≡ suc (count - suc k)
   left-more = omega (arith, l .upto)
-
-  in-chain : ℕ → ℕ → Bool
-  in-chain x n = eqb (use-chain (use-at kept n)) x
 
   own-chain : ℕ
   own-chain = use-chain (use-at kept k)

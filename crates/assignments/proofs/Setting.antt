@@ -2,7 +2,7 @@
 use mathlib.Core.Path.{_≡_, refl, sym, ap, _∙_}
 use mathlib.Core.Bool.{true, false}
 use mathlib.Core.List.{List}
-use Prim.Native.Nat.{ℕ, zero, suc, _+_, _*_, _<_, _≤_, max}
+use Prim.Native.Nat.{ℕ, suc, _+_, _*_, _<_, _≤_, max}
 use native.Mathlib.Omega.{arith}
 use native.Mathlib.Numerals.{add-one}
 use lib.Dec.{eqb}
@@ -11,7 +11,7 @@ use lib.Seq.{getD-set-same, getD-set-other, set-getD}
 use borrow.Author.Tests.{eqb-true, eqb-false, eq-eqb, ne-eqb}
 use Rattle.rules.specs.Limits.{most-entries}
 use Rattle.rules.specs.Table.{Entry}
-use Rattle.rules.proofs.Steps.{by-test, not-both}
+use Rattle.rules.proofs.Steps.{by-test}
 use Rattle.tables.specs.Entries.{blank, is-group, size-of}
 use Rattle.uses.specs.declared.Span.{Span}
 use Rattle.assignments.specs.Notes.{highest-from, widths-from, uses-from, note-place, first-noted, firsts-from, width-noted, width-before}

@@ -22,9 +22,10 @@ cell-chain-requires : tie.Need-cell-chain-requires
 cell-chain-requires c κs = search needs
 
 returns-3 : tie.Need-returns-3
-returns-3 c = let s = c .before .before .before .before .before .before in
-    (c .cell-chain .ensures ∙ chain-cell (s .args .s) (c .before .before .before .if1 .left) (c .before .if2 .left),
-      omega (arith, c .cell-chain .ensures, cell-low (s .args .s .first) (s .args .s .from)))
+returns-3 c = let s = c .before .before .before .before .before .before in (
+  c .cell-chain .ensures ∙ chain-cell (s .args .s) (c .before .before .before .if1 .left) (c .before .if2 .left),
+  omega (arith, c .cell-chain .ensures, cell-low (s .args .s .first) (s .args .s .from)),
+)
 
 pub chain-of-spec : {M : Type 1} → statement M
 chain-of-spec =
