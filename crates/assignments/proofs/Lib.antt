@@ -1,3 +1,5 @@
 pub mod Giving
 pub mod Blocks
 pub mod Cells
+pub mod Setting
+pub mod Linking
