@@ -252,7 +252,7 @@ pub record Linking (es : List Entry) (kept : List ℕ) (count : ℕ) (list after
   pub above : (x : ℕ) → x < chains → 0 < getD after x 0 → m < getD after x 0
   pub chains : Chained es kept count m after
 
-pub linking-start : (es : List Entry) (kept : List ℕ) (count : ℕ) (list : List ℕ) → length es ≤ most-entries → Unindexed list → ((k : ℕ) → k < count → next-noted list k ≡ 0)
+pub linking-start : (es : List Entry) (kept : List ℕ) (count : ℕ) (list : List ℕ) → length es ≤ most-entries → ((j : ℕ) → j < firsts-from → getD list j 0 ≡ 0) → ((k : ℕ) → k < count → next-noted list k ≡ 0)
     → Linking es kept count list list count
 linking-start es kept count list most u z =
     let none : count - count ≡ 0 = omega arith in
@@ -372,12 +372,16 @@ pub listed-again : {es : List Entry} {f : Bytes} {kept : List ℕ} {count : ℕ}
     → Listed es f kept count list stage ws → Listed es f kept count after stage ws
 listed-again {es} {ws = ws} after e s t x = record {
   entries = x .entries;
+  table = x .table;
+  valid = x .valid;
+  entries-are = x .entries-are;
   uses = x .uses;
   kept-room = x .kept-room;
   room = omega (arith, x .room);
   few = x .few;
   buffer = x .buffer;
   rest = x .rest;
+  small = x .small;
   given = x .given;
   starts = λ n h. s n ∙ x .starts n h;
   stands = x .stands;

@@ -15,7 +15,8 @@ use Rattle.rules.specs.Table.{Entry, differ, names}
 use Rattle.rules.specs.Use.{Place, items}
 use Rattle.rules.specs.Update.{Assignment, assigned, named-twice}
 use Rattle.rules.proofs.Ranges.{taking}
-use Rattle.tables.specs.Entries.{blank, is-group, size-of}
+use Rattle.rules.proofs.Digits.{Below}
+use Rattle.tables.specs.Entries.{Valid, entries-of, blank, is-group, size-of}
 use Rattle.tables.specs.Groups.{field-at}
 use Rattle.uses.specs.Kept.{numbers-kept, span-at, use-at, uses-kept, Good-uses}
 use Rattle.uses.specs.declared.Span.{Span}
@@ -117,20 +118,25 @@ pub record On-stage (stage : Bytes) (ws : List Assignment) : Type 0 where
 -- The assignments ws are what the first `count` uses give, their bytes stand on the stage, and where those of each use begin is noted.
 pub record Listed (es : List Entry) (f : Bytes) (kept : List ℕ) (count : ℕ) (list : List ℕ) (stage : Bytes) (ws : List Assignment) : Type 0 where
   pub entries : length es ≤ most-entries
+  -- The entries are those of a table.
+  pub table : Bytes
+  pub valid : Valid table
+  pub entries-are : es ≡ entries-of table
   pub uses : Good-uses es f kept count
   pub kept-room : numbers-kept * count ≤ length kept
   pub room : note-place count ≤ length list
   pub few : count < note-bound
   pub buffer : Bytes
   pub rest : Bytes
+  pub small : Below 256 buffer
   pub given : taking (items (uses-kept es f kept count)) buffer ≡ done (ws, rest)
   pub starts : (n : ℕ) → n < count → start-noted list n ≡ length (bytes-given (given-first es f kept buffer n))
   pub stands : On-stage stage ws
   pub firsts : Firsts es list ws
 
--- No chain has a head, and no occurrence is the highest of its entry.
+-- No chain has a head, no occurrence is the highest of its entry, and no use has a next one.
 abbrev pub Unindexed : List ℕ → Type 0
-Unindexed list = (j : ℕ) → j < firsts-from → getD list j 0 ≡ 0
+Unindexed list = ((j : ℕ) → j < firsts-from → getD list j 0 ≡ 0) × ((n : ℕ) → next-noted list n ≡ 0)
 
 -- The chain of entry i in occurrence o; that of a span; and that of a use, which names nothing where it is of another kind.
 unfoldable pub cell-chain : ℕ → ℕ → ℕ

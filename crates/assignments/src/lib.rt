@@ -13,7 +13,7 @@ ghost use Rattle.rules.specs.Update.{Assignment};
 ghost use Rattle.tables.specs.Entries.{Valid, entries-of, blank, is-group, is-multiple};
 ghost use Rattle.uses.specs.Kept.{numbers-kept, span-at, use-at};
 ghost use Rattle.uses.specs.declared.Span.{Span};
-ghost use Rattle.assignments.specs.Notes.{note-bound, note-place, group-chain, chains, uses-from, next-noted, cell-chain, span-chain, use-chain, names-cell, place-at, Takes-at, Unindexed, Listed, Indexed};
+ghost use Rattle.assignments.specs.Notes.{note-bound, note-place, group-chain, chains, uses-from, cell-chain, span-chain, use-chain, names-cell, place-at, Takes-at, Unindexed, Listed, Indexed};
 ghost use Rattle.assignments.specs.Answers.{first-put, entry-marked, Marked, linked, Links, Can-link, Widened, Of-each, Has-index, Has-entries, Found-in, chain-at, Has-block, Begins-at, Can-fill, Filled, Tallies, Tally, Names-all, Can-name, Linked-all, Named-once, chains-for, Highest};
 
 use uses::Index;
@@ -156,7 +156,7 @@ fn put_widths(t: &[u8], list: &mut [u16])
 
 // Puts uses in their chains, from the last to the first.
 fn link_all(t: &[u8], kept: &[Index], list: &mut [u16], count: usize)
-    requires { ⌜ Valid (now t) × Unindexed (now list) × ((n : ℕ) → n < count → next-noted (now list) n ≡ 0) × ((f : Bytes) × (stage : Bytes) × (ws : List Assignment) × Listed (entries-of (now t)) f (now kept) count (now list) stage ws) ⌝ }
+    requires { ⌜ Valid (now t) × Unindexed (now list) × ((f : Bytes) × (stage : Bytes) × (ws : List Assignment) × Listed (entries-of (now t)) f (now kept) count (now list) stage ws) ⌝ }
     ensures { λ _. ⌜ ((f : Bytes) (stage : Bytes) (ws : List Assignment) → Listed (entries-of (now (t .entry))) f (now (kept .entry)) count (now (list .entry)) stage ws → Linked-all (entries-of (now (t .entry))) f (now (kept .entry)) count (now (list .exit)) stage ws) ⌝ }
 {
     let mut n = count;

@@ -23,7 +23,7 @@ use Rattle.rules.proofs.Assigned.{same-place-eq, same-self}
 use Rattle.tables.specs.Entries.{blank, is-group}
 use Rattle.tables.specs.Groups.{field-at, field-by}
 use Rattle.tables.proofs.Names.{one-name}
-use Rattle.assignments.specs.Notes.{firsts-from, uses-from, first-noted, place-at, bytes-given, Stands-in, Takes-at, Firsts, Unindexed}
+use Rattle.assignments.specs.Notes.{firsts-from, uses-from, note-place, first-noted, place-at, bytes-given, Stands-in, Takes-at, Firsts, Unindexed}
 use Rattle.assignments.specs.Answers.{first-put}
 use Rattle.taking.specs.Taking.{noted}
 
@@ -84,8 +84,11 @@ noted-length list i o k at = by-test (eqb o 1 && eqb k 1) (λ t. rw t (put-lengt
 pub noted-uses : (list : List ℕ) (i o k at : ℕ) → i < most-entries → (j : ℕ) → uses-from ≤ j → getD (noted list i o k at) j 0 ≡ getD list j 0
 noted-uses list i o k at h j l = by-test (eqb o 1 && eqb k 1) (λ t. rw t (put-other list i at j (λ e. omega (arith, e)))) (λ t. rw t)
 
-pub noted-unindexed : (list : List ℕ) (i o k at : ℕ) → Unindexed list → Unindexed (noted list i o k at)
-noted-unindexed list i o k at u j l = by-test (eqb o 1 && eqb k 1) (λ t. rw t (put-other list i at j (λ e. omega (arith, e)) ∙ u j l)) (λ t. rw t (u j l))
+pub noted-unindexed : (list : List ℕ) (i o k at : ℕ) → i < most-entries → Unindexed list → Unindexed (noted list i o k at)
+noted-unindexed list i o k at h u = (
+  (λ j l. by-test (eqb o 1 && eqb k 1) (λ t. rw t (put-other list i at j (λ e. omega (arith, e)) ∙ u .0 j l)) (λ t. rw t (u .0 j l))),
+  (λ n. noted-uses list i o k at h (note-place n + 1) (omega arith) ∙ u .1 n),
+)
 
 by-number : {C : Type 0} (m : ℕ) → (m ≡ 0 → C) → ((p : ℕ) → m ≡ suc p → C) → C
 by-number zero z s = z refl

@@ -20,6 +20,8 @@ use Rattle.rules.specs.Update.{Assignment, assigned}
 use Rattle.rules.specs.declared.Refusal.{Refusal}
 use Rattle.rules.proofs.Steps.{by-test}
 use Rattle.rules.proofs.Ranges.{run-first, taking, taking-append, assignments-taking}
+use Rattle.rules.proofs.Digits.{Below}
+use Rattle.tables.specs.Entries.{Valid, entries-of}
 use Rattle.uses.specs.Meant.{use-meant}
 use Rattle.uses.specs.Kept.{numbers-kept, use-at, uses-kept, Good-uses}
 use Rattle.uses.specs.declared.Use.{Use}
@@ -128,7 +130,7 @@ module _ {es : List Entry} {f buffer : Bytes} {kept : List ℕ} where
       apart = d;
       place = omega arith;
       within = omega arith;
-      unindexed = λ j h. z j;
+      unindexed = ((λ j h. z j), (λ n. z (note-place n + 1)));
       full = λ e. absurd (true≢false (sym e));
       staged = λ _. refl;
       bytes = λ _. refl;
@@ -152,7 +154,7 @@ module _ {es : List Entry} {f buffer : Bytes} {kept : List ℕ} where
             apart = k .apart;
             place = k .place;
             within = k .within;
-            unindexed = λ j l. other j (λ z. omega (arith, z, l)) ∙ k .unindexed j l;
+            unindexed = ((λ j l. other j (λ z. omega (arith, z, l)) ∙ k .unindexed .0 j l), (λ m. other (note-place m + 1) (λ z. omega (arith, z)) ∙ k .unindexed .1 m));
             full = k .full;
             staged = k .staged;
             bytes = k .bytes;
@@ -189,19 +191,23 @@ module _ {es : List Entry} {f buffer : Bytes} {kept : List ℕ} where
       ∙ rw (uses-all es f kept count n h, taking-stops _ _ (left es f kept count (n + 1)) buffer _ (g .own) (refusal-number x) (g .given) (m .moved (g .own) (g .held)))
 
   pub gone-end : {count : ℕ} {list₀ list : List ℕ} {stage₀ stage : Bytes} {s : Taking} → Gone es f buffer kept count list₀ list stage₀ stage s → Good-uses es f kept count
-      → numbers-kept * count ≤ length kept → note-place count ≤ length list → count < note-bound → length stage ≡ longest-new-record → Gave es f buffer kept count list stage (At s)
-  gone-end {count} {s = s} g u k l c m = (
+      → (t : Bytes) → Valid t → es ≡ entries-of t → Below 256 buffer → numbers-kept * count ≤ length kept → note-place count ≤ length list → count < note-bound → length stage ≡ longest-new-record → Gave es f buffer kept count list stage (At s)
+  gone-end {count} {s = s} g u t v w x k l c m = (
     g .own,
     assignments-taking (items (uses-kept es f kept count)) buffer ∙ rw (g .given),
     g .held .full,
     (λ free. record {
       entries = g .held .entries;
+      table = t;
+      valid = v;
+      entries-are = w;
       uses = u;
       kept-room = k;
       room = l;
       few = c;
       buffer = buffer;
       rest = drop (s .at) buffer;
+      small = x;
       given = g .given;
       starts = g .starts free;
       stands = record { staged = s .staged; long = g .held .within; most = omega (arith, m); bytes = g .held .bytes free };

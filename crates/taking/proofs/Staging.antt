@@ -215,7 +215,7 @@ module _ {es : List Entry} {buffer : Bytes} {g : Given} {content : Bytes} {next 
           apart = h .apart;
           place = p .within;
           within = omega (arith, u, f .same);
-          unindexed = rw z (noted-unindexed list (g .entry) o k from (h .unindexed));
+          unindexed = rw z (noted-unindexed list (g .entry) o k from less (h .unindexed));
           full = λ t. absurd (true≢false (sym t));
           staged = λ _. rw (given-more ws (assignment b)) (omega (arith, m, h .staged free));
           bytes = λ _. given-bytes-more ws (assignment b) ∙ ap (λ (bs : Bytes). bs ++ b) (h .bytes free) ∙ sym (rw (w, m) (take-spliced (s .staged) b stage (h .within)));

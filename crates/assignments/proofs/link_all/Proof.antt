@@ -23,12 +23,12 @@ abbrev μ-loop : tie.MeasureT-loop
 can : (c : tie.In-loop Inv-loop μ-loop) (s : Span)
     → use-at (c .before .before .before .before .before .args .kept .now) (c .before .loop .n - 1) ≡ code.Values s
     → Can-link (entries-of (c .before .before .before .before .before .args .t .now)) (c .before .loop .n - 1) s (c .before .loop .list)
-can c = can-link (c .before .loop .inv) (c .loop-test .taken) (c .before .before .before .before .before .pre .3 .3)
+can c = can-link (c .before .loop .inv) (c .loop-test .taken) (c .before .before .before .before .before .pre .2 .3)
 
 loop-holds : tie.Need-loop-holds Inv-loop μ-loop
 loop-holds c =
     let s = c .before .before .before in
-    linking-start (entries-of (s .args .t .now)) (s .args .kept .now) (s .args .count) (s .args .list .now) (valid-most (s .args .t .now) (s .pre .0)) (s .pre .1) (s .pre .2)
+    linking-start (entries-of (s .args .t .now)) (s .args .kept .now) (s .args .count) (s .args .list .now) (valid-most (s .args .t .now) (s .pre .0)) (s .pre .1 .0) (λ n h. s .pre .1 .1 n)
 
 sub-n : tie.Need-sub-n Inv-loop μ-loop
 sub-n c = search needs
@@ -37,7 +37,7 @@ link-requires : tie.Need-link-requires Inv-loop μ-loop
 link-requires c κs =
     let i = c .before in
     let s = i .before .before .before .before .before in
-    let x = s .pre .3 .3 in
+    let x = s .pre .2 .3 in
     (s .pre .0, omega (arith, x .kept-room, i .before .loop .inv .upto, i .loop-test .taken), can i)
 
 loop-less : tie.Need-loop-less Inv-loop μ-loop

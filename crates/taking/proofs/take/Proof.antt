@@ -1,5 +1,5 @@
 -- `taking::take` meets its contract: the uses that are left give what all of them give from the start.
-use mathlib.Core.Path.{_≡_, sym, _∙_, subst}
+use mathlib.Core.Path.{_≡_, refl, sym, _∙_, subst}
 use mathlib.Core.Bool.{false}
 use Prim.Native.Nat.{_+_, _-_, _≤_}
 use native.Mathlib.Omega.{arith}
@@ -149,7 +149,7 @@ returns-2 c f h =
     let s = start l in
     let e : l .loop .n ≡ s .args .count = omega (arith, l .loop .inv .0, c .loop-test .left) in
     let g = rw e at (l .loop .inv .1 f h) in
-    gone-end g h (s .pre .1) (omega (arith, s .pre .4, g .same-list)) (s .pre .3) (g .same-stage ∙ s .pre .5)
+    gone-end g h (s .args .t .now) (s .pre .0) refl (λ i. l .before .before .before .before .shared-slice-known2 .given i .fits) (s .pre .1) (omega (arith, s .pre .4, g .same-list)) (s .pre .3) (g .same-stage ∙ s .pre .5)
 
 pub take-spec : {M : Type 1} → statement M
 take-spec =
