@@ -74,8 +74,7 @@ cell-inside s i o e =
     let d = ltb i (s .end) in
     let t = true-T e in
     let u = and-left (a && b && c) d t in
-    let v = and-left (a && b) c u in
-    (
+    let v = and-left (a && b) c u in (
       leb-true (s .from) o (T-true a (and-left a b v)),
       leb-true o (s .upto) (T-true b (and-right a b v)),
       leb-true (s .first) i (T-true c (and-right (a && b) c u)),
@@ -310,8 +309,7 @@ module _ {es : List Entry} {f : Bytes} {kept : List ℕ} {count : ℕ} {list : L
     pub several-widths : (width-before es (span .first) ≤ width-before es i) × (width-before es i ≤ width-before es (span .end))
     several-widths =
         let h = block-inside in
-        let l = block-span .upto in
-        (
+        let l = block-span .upto in (
           omega (arith, width-between es (span .first) i (h .2) (omega (arith, h .3, l))),
           omega (arith, width-between es i (span .end) (omega (arith, h .3)) l),
         )

@@ -327,11 +327,10 @@ module _ (vs : Range) (bare : Bool) where
       ap (λ (gs : List Asked). occurrence-items gs vs bare o ++ rest) e
       ∙ ap (λ (zs : List Item). zs ++ rest) (fields-about o xs a ys)
       ∙ append-assoc (occurrence-items xs vs bare o) (field-items bare vs o a ++ occurrence-items ys vs bare o) rest
-      ∙ ap (λ (zs : List Item). occurrence-items xs vs bare o ++ zs) (append-assoc (field-items bare vs o a) (occurrence-items ys vs bare o) rest) in
-      (
+      ∙ ap (λ (zs : List Item). occurrence-items xs vs bare o ++ zs) (append-assoc (field-items bare vs o a) (occurrence-items ys vs bare o) rest) in (
         occurrence-items ys vs bare o ++ rest,
         run-about (occurrence-items fs vs bare) from o (upto - o) (suc upto - from) (omega arith) h
-        ∙ ap (λ (zs : List Item). earlier-occurrences fs from o ++ zs) one,
+            ∙ ap (λ (zs : List Item). earlier-occurrences fs from o ++ zs) one,
       )
 
 -- ---- what places weigh, by their fields
