@@ -1,26 +1,179 @@
 -- Where the values that a use gives to one field in one occurrence stand: after those of the occurrences before, and of the fields before in
 -- that occurrence. A use of one field has as many values of that field before them as (o - from) times its values; one of several fields lies
 -- in a periodic group and has fields of fixed length, so that the bytes before are counted by widths.
-use mathlib.Core.Path.{_≡_}
-use mathlib.Core.List.{List}
-use Prim.Native.Nat.{ℕ, suc, _+_, _-_, _*_, _≤_, _<_}
-use lib.ListN.{length, drop, getD}
-use Rattle.rules.specs.Lists.{Bytes}
-use Rattle.rules.specs.Table.{Entry}
+use mathlib.Core.Path.{_≡_, refl, sym, _∙_, ap, subst}
+use mathlib.Core.Bool.{Bool, true, false, cond, not, true≢false, false≢true, _&&_}
+use mathlib.Core.Logic.{⊎-elim}
+use mathlib.Core.List.{List, [], _∷_, _++_, map, append-assoc}
+use Prim.Native.Nat.{ℕ, zero, suc, _+_, _-_, _*_, _≤_, _<_}
+use native.Mathlib.Omega.{arith}
+use native.Mathlib.Nat.{add-assoc, mul-one, one-mul}
+use borrow.Author.Tests.{leb-true, ltb-true, lt-ltb, eq-eqb, eqb-true, eqb-false}
+use lib.Dec.{T, eqb, leb, ltb, leb→le}
+use lib.ListN.{length, drop, getD, length-drop, length-map}
+use Rattle.rules.specs.Outcome.{done}
+use Rattle.rules.specs.Lists.{Bytes, all, filter, run, join}
+use Rattle.rules.specs.Values.{allowed}
+use Rattle.rules.specs.Table.{Field, Entry}
 use Rattle.rules.specs.Record.{times, stored-value}
+use Rattle.rules.specs.Format.{Range}
+use Rattle.rules.specs.Use.{Item, Asked, as-stored, plain, in-order, items, items-of}
 use Rattle.rules.specs.Update.{Assignment}
+use Rattle.rules.proofs.Steps.{by-test, done-inj, true-T, T-true, and-left, and-right}
+use Rattle.rules.proofs.Back.{All, all-map}
+use Rattle.rules.proofs.Alls.{all-parts, all-of-map}
+use Rattle.rules.proofs.Digits.{Below}
+use Rattle.rules.proofs.Places.{places-of, range-length}
+use Rattle.rules.proofs.Ranges.{taking, item-at, field-items, occurrence-items}
+use Rattle.buffer.proofs.Cases.{by-order}
+use Rattle.tables.specs.Entries.{blank, is-group, is-multiple, is-periodic}
 use Rattle.tables.specs.Groups.{field-at}
-use Rattle.records.specs.Walk.{rest-of, Ends, Behind}
-use Rattle.uses.specs.Kept.{numbers-kept, span-at, use-at}
-use Rattle.uses.specs.Meant.{Good-span}
+use Rattle.tables.specs.Places.{inside-at}
+use Rattle.format_buffer.specs.Elements.{range}
+use Rattle.records.specs.Walk.{rest-of, Walked, Ends, Behind}
+use Rattle.uses.specs.Kept.{numbers-kept, kind-at, span-at, use-of-kind, use-at, uses-kept}
+use Rattle.uses.specs.Meant.{fields-from, asked-of, use-meant, Good-span, Good-use}
 use Rattle.uses.specs.declared.Span.{Span}
+use Rattle.uses.specs.declared.Use.{Use}
 use Rattle.uses.specs.declared.Use.the-variants as code
-use Rattle.assignments.specs.Notes.{start-noted, group-chain, width-before, Indexed}
-use Rattle.assignments.specs.Answers.{Named-by, Block}
+use Rattle.uses.proofs.Fields.{multiple-at}
+use Rattle.uses.proofs.SpanFields.{span-items}
+use Rattle.assignments.specs.Notes.{start-noted, group-chain, chains, width-before, use-names, names-cell, span-chain, use-chain, chained, place-at, bytes-given, given-first, assignments-of, Listed, Indexed}
+use Rattle.assignments.specs.Answers.{Named-by, Block, Reads-back}
+use Rattle.assignments.proofs.Splitting.{Allowed-fields, Periodic-top, As-long, taking-long, taking-places, from-taking, items-about, later, earlier-occurrences, value-items-about, weight, weight-asked, weight-fields, weight-earlier, fields-of-places, earlier-of-places, span-fields, Asked-about, asked-about, size-field, width-between, given-append, given-length, given-weight, weight-number, times-given, stage-after, stage-length, home-of}
+use Rattle.assignments.proofs.Giving.{all-read-back}
 
 -- The number of values before the cell.
 abbrev pub values-before : Span → ℕ → ℕ
 values-before s o = (o - s .from) * (s .«value_upto» + 1 - s .«value_from»)
+
+-- A use that names a cell is one of values.
+names-values : (t : Bool) (u v : Use) (s : Span) (i o : ℕ) → use-names u i o ≡ false → (use-names v i o ≡ true → v ≡ code.Values s) → use-names (cond t u v) i o ≡ true
+    → cond t u v ≡ code.Values s
+names-values true u v s i o n h e = absurd (false≢true (sym n ∙ e))
+names-values false u v s i o n h e = h e
+
+kind-names : (kind a b : ℕ) (s : Span) (i o : ℕ) → use-names (use-of-kind kind a b s) i o ≡ true → use-of-kind kind a b s ≡ code.Values s
+unfolding use-of-kind use-names
+kind-names kind a b s i o =
+    names-values (eqb kind 0) (code.Blanks a) _ s i o refl
+    (names-values (eqb kind 1) (code.Text a b) _ s i o refl
+    (names-values (eqb kind 2) (code.GroupCount a) _ s i o refl
+    (names-values (eqb kind 3) (code.ValueCount a b) (code.Values s) s i o refl (λ _. refl))))
+
+use-named : (kept : List ℕ) (n i o : ℕ) → use-names (use-at kept n) i o ≡ true → use-at kept n ≡ code.Values (span-at kept (numbers-kept * n))
+unfolding use-at
+use-named kept n i o e = kind-names (kind-at kept (numbers-kept * n)) (getD kept (numbers-kept * n + 1) 0) (getD kept (numbers-kept * n + 2) 0) (span-at kept (numbers-kept * n)) i o e
+
+cell-inside : (s : Span) (i o : ℕ) → use-names (code.Values s) i o ≡ true → (s .from ≤ o) × (o ≤ s .upto) × (s .first ≤ i) × (i < s .end)
+unfolding use-names names-cell
+cell-inside s i o e =
+    let a = leb (s .from) o in
+    let b = leb o (s .upto) in
+    let c = leb (s .first) i in
+    let d = ltb i (s .end) in
+    let t = true-T e in
+    let u = and-left (a && b && c) d t in
+    let v = and-left (a && b) c u in (
+      leb-true (s .from) o (T-true a (and-left a b v)),
+      leb-true o (s .upto) (T-true b (and-right a b v)),
+      leb-true (s .first) i (T-true c (and-right (a && b) c u)),
+      ltb-true i (s .end) (T-true d (and-right (a && b && c) d t)),
+    )
+
+-- The assignments about those that a span gives to a cell: the uses before, the occurrences before, and the fields before in that occurrence.
+record Parted (es : List Entry) (ws : List Assignment) (i o : ℕ) (s : Span) (start : ℕ) (about : Asked-about es s i) : Type 0 where
+  before : List Assignment
+  occurrences : List Assignment
+  fields : List Assignment
+  block : List Assignment
+  after : List Assignment
+  is : ws ≡ before ++ (occurrences ++ (fields ++ (block ++ after)))
+  bytes : start ≡ length (bytes-given before)
+  of-occurrences : map (λ a. a .place) occurrences ≡ places-of (earlier-occurrences (range (s .«value_from») (s .«value_upto»)) (s .bare) (asked-of es s) (s .from) o)
+  of-fields : map (λ a. a .place) fields ≡ places-of (occurrence-items (about .before) (range (s .«value_from») (s .«value_upto»)) (s .bare) o)
+  places : map (λ a. a .place) block ≡ run (place-at es i o) (s .«value_from») (suc (s .«value_upto») - s .«value_from»)
+
+places-own : (bare : Bool) (a : Asked) (g : Field) (o k m : ℕ) → a .field ≡ g → places-of (run (item-at bare a o) k m) ≡ run (λ v. record { field = g; occurrence = o; value = v }) k m
+unfolding places-of run
+places-own bare a g o k zero e = refl
+places-own bare a g o k (suc m) e =
+    ap (λ (h : Field). record { field = h; occurrence = o; value = k } ∷ places-of (run (item-at bare a o) (suc k) m)) e
+    ∙ ap (λ ps. record { field = g; occurrence = o; value = k } ∷ ps) (places-own bare a g o (suc k) m e)
+
+-- What is given to five parts of the items.
+from-parts : {C : Type 0} (xs ps qs rs zs : List Item) (buffer : Bytes) (ws : List Assignment) (rest : Bytes) → taking (xs ++ (ps ++ (qs ++ (rs ++ zs)))) buffer ≡ done (ws, rest)
+    → ((a p q r z : List Assignment) (mid : Bytes) → taking xs buffer ≡ done (a, mid) → ws ≡ a ++ (p ++ (q ++ (r ++ z)))
+    → map (λ x. x .place) p ≡ places-of ps → map (λ x. x .place) q ≡ places-of qs → map (λ x. x .place) r ≡ places-of rs → C) → C
+from-parts xs ps qs rs zs buffer ws rest t c =
+    from-taking xs (ps ++ (qs ++ (rs ++ zs))) buffer ws rest t λ a a′ m₀ ta ta′ ea.
+    from-taking ps (qs ++ (rs ++ zs)) m₀ a′ rest ta′ λ p p′ m₁ tp tp′ ep.
+    from-taking qs (rs ++ zs) m₁ p′ rest tp′ λ q q′ m₂ tq tq′ eq.
+    from-taking rs zs m₂ q′ rest tq′ λ r z m₃ tr tz er.
+    c a p q r z m₀ ta (ea ∙ ap (λ (l : List Assignment). a ++ l) (ep ∙ ap (λ (l : List Assignment). p ++ l) (eq ∙ ap (λ (l : List Assignment). q ++ l) er)))
+    (taking-places ps m₀ p m₁ tp) (taking-places qs m₁ q m₂ tq) (taking-places rs m₂ r m₃ tr)
+
+first-given : (es : List Entry) (f : Bytes) (kept : List ℕ) (buffer : Bytes) (n : ℕ) (a : List Assignment) (mid : Bytes) → taking (items (uses-kept es f kept n)) buffer ≡ done (a, mid)
+    → given-first es f kept buffer n ≡ a
+unfolding given-first
+first-given es f kept buffer n a mid e = ap assignments-of e
+
+regroup : (p q r s l : List Item) → (p ++ (q ++ (r ++ s))) ++ l ≡ p ++ (q ++ (r ++ (s ++ l)))
+regroup p q r s l =
+    append-assoc p (q ++ (r ++ s)) l
+    ∙ ap (λ (x : List Item). p ++ x) (append-assoc q (r ++ s) l ∙ ap (λ (x : List Item). q ++ x) (append-assoc r s l))
+
+grouped : (a p q r : List Assignment) → (a ++ (p ++ q)) ++ r ≡ a ++ (p ++ (q ++ r))
+grouped a p q r = append-assoc a (p ++ q) r ∙ ap (λ (x : List Assignment). a ++ x) (append-assoc p q r)
+
+nothing-mapped : {A B : Type 0} (g : A → B) (xs : List A) → map g xs ≡ [] → xs ≡ []
+nothing-mapped g [] e = refl
+nothing-mapped g (x ∷ xs) e = let z = ap length e in absurd (omega arith)
+
+no-places : (vs : Range) (bare : Bool) (o : ℕ) → places-of (occurrence-items [] vs bare o) ≡ []
+unfolding join places-of
+no-places vs bare o = refl
+
+nothing-given : length (bytes-given []) ≡ 0
+unfolding join
+nothing-given = refl
+
+one-weight : (a : Asked) (m : ℕ) → m * weight-asked (λ f. 1) (a ∷ []) ≡ m
+unfolding weight-asked
+one-weight a m = mul-one m
+
+chained-none : (list : List ℕ) (count : ℕ) → chained list count 0 ≡ []
+unfolding chained
+chained-none list zero = refl
+chained-none list (suc count) = refl
+
+several-chain : (s : Span) → s .first + 1 < s .end → use-chain (code.Values s) ≡ group-chain
+unfolding use-chain span-chain
+several-chain s h = rw (lt-ltb (s .first + 1) (s .end) h)
+
+-- What a test takes is left by it.
+not-filtered : (p : ℕ → Bool) (s m k : ℕ) → s ≤ k → k < s + m → p k ≡ true → filter p (run (λ n. n) s m) ≡ [] → ⊥
+unfolding filter run
+not-filtered p s zero k h l t e = omega arith
+not-filtered p s (suc m) k h l t e =
+    by-test (p s)
+    (λ q. let z = ap length (rw q at e) in omega arith)
+    (λ q. by-test (eqb s k)
+    (λ u. let v = eqb-true s k u in true≢false (sym t ∙ ap p (sym v) ∙ q))
+    (λ u. let v = eqb-false s k u in not-filtered p (suc s) m k (omega arith) (omega arith) t (rw q at e)))
+
+not-filtered-of : {A : Type 0} (p : A → Bool) (xs : List A) (a : A) (ys : List A) → p a ≡ true → filter p (xs ++ (a ∷ ys)) ≡ [] → ⊥
+unfolding filter
+not-filtered-of p [] a ys t e = let z = ap length (rw t at e) in omega arith
+not-filtered-of p (x ∷ xs) a ys t e =
+    by-test (p x) (λ q. let z = ap length (rw q at e) in omega arith) (λ q. not-filtered-of p xs a ys t (rw q at e))
+
+-- Plain fields have a length of their own.
+plain-sized : (fs : List Field) → T (all plain fs) → All (λ f. 0 < f .size) fs
+unfolding all plain
+plain-sized [] t = tt
+plain-sized (f ∷ fs) t =
+    (leb→le 1 (f .size) (and-right (not (f .multiple)) (leb 1 (f .size)) (and-left (plain f) (all plain fs) t)), plain-sized fs (and-right (plain f) (all plain fs) t))
 
 module _ {es : List Entry} {f : Bytes} {kept : List ℕ} {count : ℕ} {list : List ℕ} {stage : Bytes} {ws : List Assignment} {n i o size : ℕ}
     (b : Named-by es f kept count list stage ws n i o size) where
@@ -29,32 +182,200 @@ module _ {es : List Entry} {f : Bytes} {kept : List ℕ} {count : ℕ} {list : L
 
   -- It is a use of values, whose span is good and has the entry and the occurrence.
   pub block-use : use-at kept n ≡ code.Values span
-  block-use = ?
+  block-use = use-named kept n i o (b .names)
 
   pub block-span : Good-span es span
-  block-span = ?
+  block-span = subst (Good-use es f) block-use (b .indexed .listed .uses n (b .known))
 
   pub block-inside : (span .from ≤ o) × (o ≤ span .upto) × (span .first ≤ i) × (i < span .end)
-  block-inside = ?
+  block-inside = cell-inside span i o (subst (λ u. use-names u i o ≡ true) block-use (b .names))
+
+  abbrev about : Asked-about es span i
+  about = asked-about es span block-span i (block-inside .2) (block-inside .3) (b .field)
+
+  abbrev values : Range
+  values = range (span .«value_from») (span .«value_upto»)
+
+  parted : Parted es ws i o span (start-noted list n) about
+  parted =
+      let l = b .indexed .listed in
+      let earlier = earlier-occurrences values (span .bare) (asked-of es span) (span .from) o in
+      let others = occurrence-items (about .before) values (span .bare) o in
+      let own = field-items (span .bare) values o (about .own) in
+      let (after, e) = value-items-about values (span .bare) (asked-of es span) (span .from) (span .upto) o (block-inside .0) (block-inside .1) (about .before) (about .own) (about .after) (about .is) in
+      let whole : items (uses-kept es f kept count) ≡ items (uses-kept es f kept n) ++ (earlier ++ (others ++ (own ++ (after ++ later es f kept n count)))) =
+      items-about es f kept n count (b .known)
+      ∙ ap (λ (xs : List Item). items (uses-kept es f kept n) ++ xs)
+      (ap (λ u. items-of (use-meant es f u) ++ later es f kept n count) block-use
+      ∙ ap (λ (xs : List Item). xs ++ later es f kept n count) (span-items es f span ∙ e)
+      ∙ regroup earlier others own after (later es f kept n count)) in
+      from-parts (items (uses-kept es f kept n)) earlier others own (after ++ later es f kept n count) (l .buffer) ws (l .rest)
+      (ap (λ xs. taking xs (l .buffer)) (sym whole) ∙ l .given) λ a p q r z mid t w ep eq er.
+      record {
+        before = a;
+        occurrences = p;
+        fields = q;
+        block = r;
+        after = z;
+        is = w;
+        bytes = l .starts n (b .known) ∙ ap (λ x. length (bytes-given x)) (first-given es f kept (l .buffer) n a mid t);
+        of-occurrences = ep;
+        of-fields = eq;
+        places = er ∙ places-own (span .bare) (about .own) (field-at es i) o (span .«value_from») (suc (span .«value_upto») - span .«value_from») (about .field);
+      }
 
   -- A use of one field: the values before are passed over one by one.
   pub single-starts : start-noted list n ≤ length stage
-  single-starts = ?
+  single-starts = omega (arith, parted .bytes, stage-length (b .indexed .listed .stands) (parted .before) (parted .occurrences ++ (parted .fields ++ (parted .block ++ parted .after))) (parted .is))
 
-  pub single-ends : span .first + 1 ≡ span .end → Ends (rest-of (times (values-before span o) (stored-value (field-at es i .format) size) (drop (start-noted list n) stage)))
-  single-ends e = ?
+  -- Fields have a length that their format allows, and the record buffer consists of bytes.
+  module _ (allowed-fields : (i : ℕ) → i < length es → is-group (getD es i blank .what) ≡ false → allowed (field-at es i .format) (field-at es i .size) ≡ true)
+      (small-bytes : Below 256 (b .indexed .listed .buffer)) where
+    reads : All Reads-back (parted .before) × All Reads-back (parted .occurrences) × All Reads-back (parted .fields) × All Reads-back (parted .block)
+    reads =
+        let x = all-parts Reads-back (parted .before) _ (subst (All Reads-back) (parted .is) (all-read-back (b .indexed .listed) allowed-fields small-bytes)) in
+        let y = all-parts Reads-back (parted .occurrences) _ (x .1) in
+        let z = all-parts Reads-back (parted .fields) _ (y .1) in
+        (x .0, y .0, z .0, all-parts Reads-back (parted .block) (parted .after) (z .1) .0)
 
-  pub single-block : span .first + 1 ≡ span .end → (r : ℕ)
-      → Behind stage (rest-of (times (values-before span o) (stored-value (field-at es i .format) size) (drop (start-noted list n) stage))) r → Block es ws i o span r
-  single-block e r h = ?
+    -- The block, after the bytes before it.
+    block-there : (r : ℕ) → r ≡ start-noted list n + (length (bytes-given (parted .occurrences)) + length (bytes-given (parted .fields))) → Block es ws i o span r
+    block-there r e = record {
+      before = parted .before ++ (parted .occurrences ++ parted .fields);
+      block = parted .block;
+      after = parted .after;
+      is = parted .is ∙ sym (grouped (parted .before) (parted .occurrences) (parted .fields) (parted .block ++ parted .after));
+      bytes = omega (arith, e, parted .bytes, given-length (parted .before) (parted .occurrences ++ parted .fields), given-length (parted .occurrences) (parted .fields));
+      places = parted .places;
+      reads = reads .3;
+    }
+
+    module _ (e : span .first + 1 ≡ span .end) where
+      no-fields-before : parted .fields ≡ []
+      no-fields-before = nothing-mapped (λ a. a .place) (parted .fields) (parted .of-fields ∙ ap (λ fs. places-of (occurrence-items fs values (span .bare) o)) (about .single e .0) ∙ no-places values (span .bare) o)
+
+      occurrences-number : length (parted .occurrences) ≡ values-before span o
+      occurrences-number =
+          sym (length-map (parted .occurrences) (λ a. a .place))
+          ∙ sym (weight-number (map (λ a. a .place) (parted .occurrences)))
+          ∙ ap (weight (λ f. 1)) (parted .of-occurrences)
+          ∙ weight-earlier (λ f. 1) values (span .bare) (asked-of es span) (span .from) o
+          ∙ ap (λ x. (o - span .from) * x) (ap (λ fs. range-length values * weight-asked (λ f. 1) fs) (about .single e .1) ∙ one-weight (about .own) (range-length values) ∙ omega arith)
+
+      occurrences-field : All (λ p. p .field ≡ field-at es i) (map (λ a. a .place) (parted .occurrences))
+      occurrences-field = subst (All (λ p. p .field ≡ field-at es i)) (sym (parted .of-occurrences))
+          (earlier-of-places (λ g. g ≡ field-at es i) values (span .bare) (asked-of es span) (span .from) o
+          (subst (All (λ a. a .field ≡ field-at es i)) (sym (about .single e .1)) (about .field, tt)))
+
+      abbrev left : Bytes
+      left = bytes-given (parted .fields ++ (parted .block ++ parted .after)) ++ drop (b .indexed .listed .stands .staged) stage
+
+      passed : times (values-before span o) (stored-value (field-at es i .format) size) (drop (start-noted list n) stage) ≡ done (map (λ a. a .bytes) (parted .occurrences), left)
+      passed =
+          let there : drop (start-noted list n) stage ≡ bytes-given (parted .occurrences) ++ left =
+          ap (λ k. drop k stage) (parted .bytes)
+          ∙ stage-after (b .indexed .listed .stands) (parted .before) (parted .occurrences ++ (parted .fields ++ (parted .block ++ parted .after))) (parted .is)
+          ∙ ap (λ (xs : Bytes). xs ++ drop (b .indexed .listed .stands .staged) stage) (given-append (parted .occurrences) (parted .fields ++ (parted .block ++ parted .after)))
+          ∙ append-assoc (bytes-given (parted .occurrences)) (bytes-given (parted .fields ++ (parted .block ++ parted .after))) (drop (b .indexed .listed .stands .staged) stage) in
+          ap (λ k. times (values-before span o) (stored-value (field-at es i .format) k) (drop (start-noted list n) stage)) (b .size-is)
+          ∙ ap (times (values-before span o) (stored-value (field-at es i .format) (field-at es i .size))) there
+          ∙ ap (λ k. times k (stored-value (field-at es i .format) (field-at es i .size)) (bytes-given (parted .occurrences) ++ left)) (sym occurrences-number)
+          ∙ times-given (field-at es i) (parted .occurrences) left occurrences-field (reads .1)
+
+    pub single-ends : span .first + 1 ≡ span .end → Ends (rest-of (times (values-before span o) (stored-value (field-at es i .format) size) (drop (start-noted list n) stage)))
+    single-ends e = (left e, ap rest-of (passed e))
+
+    pub single-block : span .first + 1 ≡ span .end → (r : ℕ)
+        → Behind stage (rest-of (times (values-before span o) (stored-value (field-at es i .format) size) (drop (start-noted list n) stage))) r → Block es ws i o span r
+    single-block e r h =
+        let w = h (single-ends e) in
+        let d : drop r stage ≡ left e = done-inj (w .answer ∙ ap rest-of (passed e)) in
+        let c = ap length d in
+        let x = stage-length (b .indexed .listed .stands) (parted .before ++ parted .occurrences) (parted .fields ++ (parted .block ++ parted .after))
+        (parted .is ∙ sym (append-assoc (parted .before) (parted .occurrences) (parted .fields ++ (parted .block ++ parted .after)))) in
+        let z = ap (λ xs. length (bytes-given xs)) (no-fields-before e) ∙ nothing-given in
+        block-there r (omega (arith, w .place, c, length-drop r stage, x, z, parted .bytes, given-length (parted .before) (parted .occurrences)))
 
   -- A use of several fields: they are counted by widths.
   module _ (e : span .first + 1 < span .end) where
     pub group-headed : 0 < getD list group-chain 0
-    group-headed = ?
+    group-headed = by-order 0 (getD list group-chain 0) (λ h. h) (λ h.
+        let z : getD list group-chain 0 ≡ 0 = omega arith in
+        let none : chained list count (getD list group-chain 0) ≡ [] = ap (chained list count) z ∙ chained-none list count in
+        let chain : use-chain (use-at kept n) ≡ group-chain = ap use-chain block-use ∙ several-chain span e in
+        absurd (not-filtered (λ m. eqb (use-chain (use-at kept m)) group-chain) 0 (count - 0) n (omega arith) (omega (arith, b .known)) (eq-eqb (use-chain (use-at kept n)) group-chain chain)
+        (sym (b .indexed .chains .members group-chain (omega arith)) ∙ none)))
 
     pub several-widths : (width-before es (span .first) ≤ width-before es i) × (width-before es i ≤ width-before es (span .end))
-    several-widths = ?
+    several-widths =
+        let h = block-inside in
+        let l = block-span .upto in (
+          omega (arith, width-between es (span .first) i (h .2) (omega (arith, h .3, l))),
+          omega (arith, width-between es i (span .end) (omega (arith, h .3)) l),
+        )
 
-    pub several-block : Block es ws i o span (start-noted list n + values-before span o * (width-before es (span .end) - width-before es (span .first)) + (width-before es i - width-before es (span .first)))
-    several-block = ?
+    -- Each periodic group has level 1, as in a table; so fields of fixed length are meant.
+    module _ (allowed-fields : (i : ℕ) → i < length es → is-group (getD es i blank .what) ≡ false → allowed (field-at es i .format) (field-at es i .size) ≡ true)
+        (small-bytes : Below 256 (b .indexed .listed .buffer))
+        (periodic-top : (i : ℕ) → i < length es → is-periodic (getD es i blank .what) ≡ true → getD es i blank .level ≡ 1) where
+      stored : span .standard ≡ true
+      stored = by-test (span .standard) (λ q. q) (λ q. absurd (omega (arith, e, block-span .alone q .next)))
+
+      not-multiple : is-multiple (getD es i blank .what) ≡ true → ⊥
+      not-multiple h =
+          not-filtered-of (λ a. a .field .multiple) (about .before) (about .own) (about .after) (ap (λ g. g .multiple) (about .field) ∙ multiple-at es i ∙ h)
+          (ap (filter (λ a. a .field .multiple)) (sym (about .is) ∙ about .several e .1) ∙ block-span .single stored)
+
+      inside-group : inside-at es (span .first) ≡ true
+      inside-group = by-test (inside-at es (span .first)) (λ q. q) (λ q.
+          let u : span .upto ≡ 1 = block-span .only (span .first) (omega arith) (block-span .ordered) q in
+          absurd (⊎-elim (λ two. omega (arith, two, u, block-inside .1)) not-multiple (b .inside)))
+
+      sized : All (λ a. 0 < a .field .size) (asked-of es span)
+      unfolding as-stored
+      sized =
+          let (g, home) = home-of es allowed-fields periodic-top (span .first) (omega (arith, block-span .ordered, block-span .upto)) inside-group in
+          subst (All (λ a. 0 < a .field .size)) (sym (about .several e .1))
+          (all-of-map (λ a. 0 < a .field .size) as-stored (fields-from es (span .first) (span .end))
+          (plain-sized (fields-from es (span .first) (span .end)) (true-T (block-span .one-group stored g home .1))))
+
+      long : All As-long (parted .occurrences) × All As-long (parted .fields)
+      long =
+          let l = b .indexed .listed in
+          let w = subst (All As-long) (parted .is) (taking-long (items (uses-kept es f kept count)) (l .buffer) ws (l .rest) (l .given)) in
+          let y = all-parts As-long (parted .occurrences) _ (all-parts As-long (parted .before) _ w .1) in
+          (y .0, all-parts As-long (parted .fields) _ (y .1) .0)
+
+      occurrences-width : length (bytes-given (parted .occurrences)) ≡ (o - span .from) * (range-length values * weight-asked size-field (asked-of es span))
+      occurrences-width =
+          given-weight (parted .occurrences) (long .0)
+          (subst (All (λ p. 0 < p .field .size)) (sym (parted .of-occurrences)) (earlier-of-places (λ g. 0 < g .size) values (span .bare) (asked-of es span) (span .from) o sized))
+          ∙ ap (weight size-field) (parted .of-occurrences)
+          ∙ weight-earlier size-field values (span .bare) (asked-of es span) (span .from) o
+
+      fields-width : length (bytes-given (parted .fields)) ≡ range-length values * weight-asked size-field (about .before)
+      fields-width =
+          given-weight (parted .fields) (long .1)
+          (subst (All (λ p. 0 < p .field .size)) (sym (parted .of-fields)) (fields-of-places (λ g. 0 < g .size) values (span .bare) (about .before) o
+          (all-parts (λ a. 0 < a .field .size) (about .before) _ (subst (All (λ a. 0 < a .field .size)) (about .is) sized) .0)))
+          ∙ ap (weight size-field) (parted .of-fields)
+          ∙ weight-fields size-field values (span .bare) (about .before) o
+
+      pub several-block : Block es ws i o span (start-noted list n + values-before span o * (width-before es (span .end) - width-before es (span .first)) + (width-before es i - width-before es (span .first)))
+      several-block =
+          let once = block-span .once stored in
+          let one : range-length values ≡ 1 = omega (arith, once .0, once .1) in
+          let one′ : span .«value_upto» + 1 - span .«value_from» ≡ 1 = omega (arith, once .0, once .1) in
+          let h = block-inside in
+          let all-width : weight-asked size-field (asked-of es span) ≡ width-before es (span .end) - width-before es (span .first) =
+          ap (weight-asked size-field) (about .several e .1) ∙ omega (arith, width-between es (span .first) (span .end) (omega (arith, e)) (block-span .upto)) in
+          let some-width : weight-asked size-field (about .before) ≡ width-before es i - width-before es (span .first) =
+          ap (weight-asked size-field) (about .several e .0) ∙ omega (arith, width-between es (span .first) i (h .2) (omega (arith, h .3, block-span .upto))) in
+          let p : length (bytes-given (parted .occurrences)) ≡ values-before span o * (width-before es (span .end) - width-before es (span .first)) =
+          occurrences-width
+          ∙ ap (λ x. (o - span .from) * (x * weight-asked size-field (asked-of es span))) one
+          ∙ ap (λ x. (o - span .from) * x) (one-mul (weight-asked size-field (asked-of es span)) ∙ all-width)
+          ∙ ap (λ x. x * (width-before es (span .end) - width-before es (span .first))) (sym (ap (λ x. (o - span .from) * x) one′ ∙ mul-one (o - span .from))) in
+          let q : length (bytes-given (parted .fields)) ≡ width-before es i - width-before es (span .first) =
+          fields-width ∙ ap (λ x. x * weight-asked size-field (about .before)) one ∙ one-mul (weight-asked size-field (about .before)) ∙ some-width in
+          block-there allowed-fields small-bytes _ (rw (p, q) (add-assoc (start-noted list n) _ _))

@@ -1,3 +1,4 @@
+pub mod Splitting
 pub mod Giving
 pub mod Blocks
 pub mod Cells
