@@ -1,4 +1,5 @@
 pub mod Heights
+pub mod UseNames
 pub mod Giving
 pub mod Blocks
 pub mod Cells
