@@ -6,10 +6,18 @@ use mathlib.Core.List.{List, [], _∷_, _++_, map, append-nil}
 use Prim.Native.Nat.{ℕ, zero, suc, _+_, _-_, _<_, _≤_, max}
 use native.Mathlib.Omega.{arith}
 use lib.Dec.{eqb}
-use Rattle.rules.specs.Lists.{all, any, filter, join, maximum, run}
-use Rattle.rules.proofs.Steps.{by-test}
+use Rattle.rules.specs.Lists.{absent, all, any, filter, join, maximum, run}
+use Rattle.rules.specs.Table.{What, field, group, Field, Entry, Part, member}
+use Rattle.rules.specs.Update.{Assignment, to-field, to-part, highest-occurrence}
+use Rattle.rules.proofs.Steps.{by-test, eqb-same}
 use Rattle.buffer.proofs.Cases.{by-order}
+use Rattle.tables.specs.Entries.{is-group}
+use Rattle.tables.specs.Groups.{with-field, fields-in}
+use Rattle.tables.proofs.EntryFields.{no-fields, first-field}
 use borrow.Author.Tests.{eqb-true, eqb-false, eq-eqb, ne-eqb}
+
+cons-not-nil : {A : Type 0} {x : A} {xs : List A} → _≡_ {A = List A} (x ∷ xs) [] → ⊥
+cons-not-nil e = let z : _≡_ {A = ℕ} 0 1 = cc in omega arith
 
 -- Joined lists of which at most one has something.
 module _ {A : Type 0} (g : ℕ → List A) where
@@ -173,3 +181,114 @@ any-greatest p (x ∷ xs) e =
     let z : met (p x) ≡ 0 = rw t in
     let rest = any-greatest p xs (rw t at e) in
     omega arith)
+
+-- The highest occurrence of the assignments that meet a test.
+unfoldable pub height : (Assignment → Bool) → List Assignment → ℕ
+height p ws = greatest (λ a. a .place .occurrence) (filter p ws)
+
+module _ (p : Assignment → Bool) where
+  height-nil : height p [] ≡ 0
+  unfolding height filter
+  height-nil = greatest-none _
+
+  height-in : (a : Assignment) (ws : List Assignment) → p a ≡ true → height p (a ∷ ws) ≡ max (a .place .occurrence) (height p ws)
+  unfolding height
+  height-in a ws e = ap (greatest _) (filter-in p a ws e) ∙ greatest-more (λ b. b .place .occurrence) a (filter p ws)
+
+  height-out : (a : Assignment) (ws : List Assignment) → p a ≡ false → height p (a ∷ ws) ≡ height p ws
+  unfolding height
+  height-out a ws e = ap (greatest _) (filter-out p a ws e)
+
+  height-none : (ws : List Assignment) → ((a : Assignment) → p a ≡ false) → height p ws ≡ 0
+  height-none [] h = height-nil
+  height-none (a ∷ ws) h = height-out a ws (h a) ∙ height-none ws h
+
+height-or : (p q r : Assignment → Bool) → ((a : Assignment) → r a ≡ (p a || q a)) → (ws : List Assignment) → height r ws ≡ max (height p ws) (height q ws)
+height-or p q r h [] = omega (arith, height-nil p, height-nil q, height-nil r)
+height-or p q r h (a ∷ ws) =
+    let rest = height-or p q r h ws in
+    by-test (p a)
+    (λ t.
+    let u = height-in r a ws (h a ∙ rw t) in
+    let v = height-in p a ws t in
+    by-test (q a)
+    (λ s. let w = height-in q a ws s in omega arith)
+    (λ s. let w = height-out q a ws s in omega arith))
+    (λ t.
+    let v = height-out p a ws t in
+    by-test (q a)
+    (λ s. let u = height-in r a ws (h a ∙ rw (t, s)) in let w = height-in q a ws s in omega arith)
+    (λ s. let u = height-out r a ws (h a ∙ rw (t, s)) in let w = height-out q a ws s in omega arith))
+
+-- That of a field is the highest occurrence in which something is assigned to it.
+abbrev pub to-name : ℕ → Assignment → Bool
+to-name n a = eqb (a .place .field .name) n
+
+module _ (n : ℕ) where
+  abbrev to-cell : ℕ → Assignment → Bool
+  to-cell o a = eqb (a .place .field .name) n && eqb (a .place .occurrence) o
+
+  pub height-within : (most : ℕ) (ws : List Assignment) → ((o : ℕ) → most < o → to-field ws n o ≡ []) → height (to-name n) ws ≤ most
+  unfolding to-field
+  height-within most [] h = omega (arith, height-nil (to-name n))
+  height-within most (a ∷ ws) h =
+      let rest = height-within most ws (λ o l. by-test (to-cell o a) (λ t. absurd (cons-not-nil (sym (filter-in (to-cell o) a ws t) ∙ h o l))) (λ t. sym (filter-out (to-cell o) a ws t) ∙ h o l)) in
+      by-test (to-name n a)
+      (λ t. by-order most (a .place .occurrence)
+      (λ l. absurd (cons-not-nil (sym (filter-in (to-cell (a .place .occurrence)) a ws (rw (t, eqb-same (a .place .occurrence)))) ∙ h (a .place .occurrence) l)))
+      (λ l. omega (arith, height-in (to-name n) a ws t)))
+      (λ t. omega (arith, height-out (to-name n) a ws t))
+
+  pub height-above : (o : ℕ) (ws : List Assignment) → (to-field ws n o ≡ [] → ⊥) → o ≤ height (to-name n) ws
+  unfolding to-field filter
+  height-above o [] h = absurd (h refl)
+  height-above o (a ∷ ws) h =
+      by-test (to-name n a)
+      (λ t. by-test (eqb (a .place .occurrence) o)
+      (λ s. omega (arith, height-in (to-name n) a ws t, eqb-true (a .place .occurrence) o s))
+      (λ s. omega (arith, height-in (to-name n) a ws t, height-above o ws (λ e. h (filter-out (to-cell o) a ws (rw (t, s)) ∙ e)))))
+      (λ t. omega (arith, height-out (to-name n) a ws t, height-above o ws (λ e. h (filter-out (to-cell o) a ws (rw t) ∙ e))))
+
+-- The fields among some entries: the higher of that of the first entry and that of the others.
+unfoldable pub among : List Field → Assignment → Bool
+among fs a = not (absent (member (a .place .field .name) fs))
+
+abbrev pub fields-height : List Entry → List Assignment → ℕ
+fields-height es ws = height (among (fields-in es)) ws
+
+among-none : (a : Assignment) → among [] a ≡ false
+unfolding among member absent
+among-none a = refl
+
+eqb-swap : (a b : ℕ) → eqb a b ≡ eqb b a
+eqb-swap a b =
+    by-test (eqb a b) (λ t. t ∙ sym (eq-eqb b a (sym (eqb-true a b t)))) (λ f. f ∙ sym (ne-eqb b a (λ e. eqb-false a b f (sym e))))
+
+among-more : (f : Field) (fs : List Field) (a : Assignment) → among (f ∷ fs) a ≡ (to-name (f .name) a || among fs a)
+unfolding among member absent
+among-more f fs a =
+    rw (eqb-swap (a .place .field .name) (f .name)) (by-test (eqb (f .name) (a .place .field .name)) (λ t. rw (t, member)) (λ t. rw (t, member)))
+
+pub no-height : (ws : List Assignment) → fields-height [] ws ≡ 0
+no-height ws = rw no-fields (height-none (among []) ws among-none)
+
+field-height : (n : ℕ) (w : What) (fs : List Field) (ws : List Assignment) → is-group w ≡ false
+    → height (among (with-field n w fs)) ws ≡ max (height (to-name n) ws) (height (among fs) ws)
+field-height n (field f s m) fs ws e =
+    height-or (to-name n) (among fs) (among (record { name = n; format = f; size = s; multiple = m } ∷ fs)) (among-more (record { name = n; format = f; size = s; multiple = m }) fs) ws
+field-height n (group p) fs ws e = absurd (true≢false e)
+
+group-height : (n : ℕ) (w : What) (fs : List Field) (ws : List Assignment) → is-group w ≡ true → height (among (with-field n w fs)) ws ≡ height (among fs) ws
+group-height n (field f s m) fs ws e = absurd (true≢false (sym e))
+group-height n (group p) fs ws e = refl
+
+module _ (e : Entry) (es : List Entry) (ws : List Assignment) where
+  pub first-field-height : is-group (e .what) ≡ false → fields-height (e ∷ es) ws ≡ max (height (to-name (e .name)) ws) (fields-height es ws)
+  first-field-height g = ap (λ fs. height (among fs) ws) (first-field e es) ∙ field-height (e .name) (e .what) (fields-in es) ws g
+
+  pub first-group-height : is-group (e .what) ≡ true → fields-height (e ∷ es) ws ≡ fields-height es ws
+  first-group-height g = ap (λ fs. height (among fs) ws) (first-field e es) ∙ group-height (e .name) (e .what) (fields-in es) ws g
+
+pub part-height : (ws : List Assignment) (p : Part) → height (among (p .members)) ws ≡ highest-occurrence ws p
+unfolding height greatest among highest-occurrence to-part
+part-height ws p = refl

@@ -352,6 +352,25 @@ module _ (es : List Entry) (f : Bytes) where
   use-met (code.GroupCount j) good i = λ h. absurd (omega arith)
   use-met (code.ValueCount j k) good i = λ h. absurd (omega arith)
 
+  -- Values have indexes from 1 up.
+  pub use-some : (u : Use) → Good-use es f u → (i o : ℕ) → use-names u i o ≡ true → 1 ≤ highest-by u i o
+  unfolding use-names highest-by
+  use-some (code.Values s) good i o e = let (a, b, c) = span-values es s good in rw e (omega arith)
+  use-some (code.Blanks n) good i o e = absurd (true≢false (sym e))
+  use-some (code.Text from upto) good i o e = absurd (true≢false (sym e))
+  use-some (code.GroupCount j) good i o e = absurd (true≢false (sym e))
+  use-some (code.ValueCount j k) good i o e = absurd (true≢false (sym e))
+
+  pub use-most : (u : Use) → Good-use es f u → (i o : ℕ) → highest-by u i o ≤ highest-index
+  unfolding highest-by
+  use-most (code.Values s) good i o =
+      let (a, b, c) = span-values es s good in
+      by-test (names-cell s i o) (λ t. rw t c) (λ t. rw t (omega arith))
+  use-most (code.Blanks n) good i o = omega arith
+  use-most (code.Text from upto) good i o = omega arith
+  use-most (code.GroupCount j) good i o = omega arith
+  use-most (code.ValueCount j k) good i o = omega arith
+
   -- The chain of a use that names a cell is one of the cell's three.
   span-in : (s : Span) → Good-span es s → (i o : ℕ) → names-cell s i o ≡ true → (x : ℕ) × (x < 3) × (span-chain s ≡ chain-at x i o)
   unfolding span-chain chain-at
