@@ -1,10 +1,10 @@
 -- What the uses say of one field in one occurrence, said of the assignments that they give: nothing is assigned where no use names the cell; and
 -- what the uses of its chains were tallied to is what is named of it.
-use mathlib.Core.Path.{_≡_, refl, sym, ap, subst, _∙_}
+use mathlib.Core.Path.{_≡_, refl, sym, ap, _∙_}
 use mathlib.Core.Bool.{Bool, true, false, cond, _&&_}
 use mathlib.Core.List.{List, [], _∷_, _++_, map}
 use mathlib.Core.Option.{none}
-use Prim.Native.Nat.{ℕ, zero, suc, _+_, _-_, _*_, _≤_, _<_, max}
+use Prim.Native.Nat.{ℕ, zero, suc, _+_, _-_, _≤_, _<_, max}
 use native.Mathlib.Omega.{arith}
 use borrow.Author.Tests.{eqb-true, eqb-false, ltb-true}
 use lib.Dec.{eqb, ltb}
@@ -26,7 +26,7 @@ use Rattle.tables.specs.Groups.{fields-in}
 use Rattle.tables.proofs.EntryFields.{name-at}
 use Rattle.uses.specs.Kept.{use-at, uses-kept}
 use Rattle.uses.specs.Meant.{use-meant}
-use Rattle.assignments.specs.Notes.{chains, cell-chains, cell-chain, chained, highest-noted, use-names, use-chain, use-reach, place-at, Takes-at, Indexed}
+use Rattle.assignments.specs.Notes.{chains, cell-chain, chained, highest-noted, use-names, use-chain, use-reach, place-at, Takes-at, Indexed}
 use Rattle.assignments.specs.Answers.{chain-at, chains-for, highest-by, bare-by, value-by, Noted-by, Can-name, Tally, Names}
 use Rattle.assignments.specs.declared.Naming.{Naming}
 use Rattle.assignments.proofs.Giving.{places-once, takes-there}

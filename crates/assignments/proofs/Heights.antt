@@ -1,9 +1,9 @@
 -- The greatest of what a list has, by its parts: joined lists, and what three tests leave of numbers. Tests that hold of all or of some
--- are such greatest numbers too.
+-- are such greatest numbers too, and so is the highest occurrence that is assigned of the fields among some entries.
 use mathlib.Core.Path.{_≡_, refl, sym, ap, _∙_}
 use mathlib.Core.Bool.{Bool, true, false, cond, not, _&&_, _||_, true≢false}
 use mathlib.Core.List.{List, [], _∷_, _++_, map, append-nil}
-use Prim.Native.Nat.{ℕ, zero, suc, _+_, _-_, _<_, _≤_, max}
+use Prim.Native.Nat.{ℕ, zero, suc, _+_, _<_, _≤_, max}
 use native.Mathlib.Omega.{arith}
 use lib.Dec.{eqb}
 use Rattle.rules.specs.Lists.{absent, all, any, filter, join, maximum, run}

@@ -3,17 +3,17 @@
 use mathlib.Core.Path.{_≡_, refl, sym, ap, subst, _∙_}
 use mathlib.Core.Bool.{Bool, true, false, cond, not, _&&_, _||_, and-false, true≢false}
 use mathlib.Core.List.{List, [], _∷_, _++_, map, append-nil}
-use Prim.Native.Nat.{ℕ, zero, suc, _+_, _-_, _<_, _≤_, max}
+use Prim.Native.Nat.{ℕ, zero, suc, _+_, _-_, _<_, _≤_}
 use native.Mathlib.Omega.{arith}
 use lib.Dec.{T, eqb, leb, ltb}
 use lib.ListN.{length, getD}
-use borrow.Author.Tests.{eqb-true, eqb-false, eq-eqb, ne-eqb, leb-true, leb-false, le-leb, lt-leb, ltb-true, ltb-false, lt-ltb, le-ltb}
+use borrow.Author.Tests.{eqb-true, eqb-false, ne-eqb, leb-true, le-leb, lt-leb, ltb-true, lt-ltb, le-ltb}
 use Rattle.rules.specs.Limits.{highest-index}
 use Rattle.rules.specs.Lists.{Bytes, join, run}
 use Rattle.rules.specs.Table.{Entry, differ, names}
 use Rattle.rules.specs.Use.{Item, Asked, as-stored, value-items, items-of, in-order}
 use Rattle.rules.specs.Format.{Range}
-use Rattle.rules.proofs.Steps.{by-test, true-T, T-true, eqb-same}
+use Rattle.rules.proofs.Steps.{by-test, T-true, eqb-same}
 use Rattle.rules.proofs.Bools.{and-both, and-four}
 use Rattle.rules.proofs.Named.{values-named, named-append}
 use Rattle.rules.proofs.Places.{names-asked}
@@ -24,7 +24,7 @@ use Rattle.tables.specs.Groups.{field-at}
 use Rattle.tables.proofs.EntryFields.{name-at}
 use Rattle.tables.proofs.Names.{one-name}
 use Rattle.format_buffer.specs.Elements.{range}
-use Rattle.uses.specs.Meant.{fields-from, asked-by, asked-of, use-meant, Good-span, Good-use}
+use Rattle.uses.specs.Meant.{fields-from, asked-of, use-meant, Good-span, Good-use}
 use Rattle.uses.specs.Twice.{stored-fields}
 use Rattle.uses.specs.declared.Span.{Span}
 use Rattle.uses.specs.declared.Use.{Use}
