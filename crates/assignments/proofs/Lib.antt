@@ -1,4 +1,6 @@
 pub mod Splitting
+pub mod Heights
+pub mod UseNames
 pub mod Giving
 pub mod Blocks
 pub mod Cells
