@@ -9,7 +9,6 @@ use lib.Dec.{T}
 use lib.ListN.{length, getD, take, drop}
 use Rattle.rules.specs.Outcome.{done}
 use Rattle.rules.specs.Lists.{Bytes, all, join}
-use Rattle.rules.specs.Values.{allowed}
 use Rattle.rules.specs.Table.{What, field, group, Entry, Field, differ, names}
 use Rattle.rules.specs.Record.{stored-value}
 use Rattle.rules.specs.Use.{Item, Place, as-stored, items}
@@ -17,7 +16,6 @@ use Rattle.rules.specs.Update.{Assignment, same-place, assigned}
 use Rattle.rules.proofs.Steps.{true-T}
 use Rattle.rules.proofs.Back.{All}
 use Rattle.rules.proofs.Alls.{all-parts, all-run}
-use Rattle.rules.proofs.Digits.{Below}
 use Rattle.rules.proofs.Places.{repeats, places-of, names-asked}
 use Rattle.rules.proofs.Uses.{Picked, nothing-left, taken, left-out, picked-differ, field-names, Once}
 use Rattle.rules.proofs.Twice.{named-twice-repeats}
@@ -31,15 +29,14 @@ use Rattle.uses.specs.declared.Use.{Use}
 use Rattle.uses.specs.declared.Use.the-variants as code
 use Rattle.assignments.specs.Notes.{bytes-given, Stands-in, Takes-at, On-stage, Listed, Indexed}
 use Rattle.assignments.specs.Answers.{Reads-back}
+use Rattle.assignments.proofs.Tabled.{listed-allowed}
 use Rattle.assignments.proofs.Splitting.{taking-reads, taking-places, uses-allowed, stage-after, stage-length}
 
--- Each value that is given is read back. Fields have a length that their format allows, and the record buffer consists of bytes.
+-- Each value that is given is read back.
 pub all-read-back : {es : List Entry} {f : Bytes} {kept : List ℕ} {count : ℕ} {list : List ℕ} {stage : Bytes} {ws : List Assignment}
-    → (l : Listed es f kept count list stage ws)
-    → (allowed-fields : (i : ℕ) → i < length es → is-group (getD es i blank .what) ≡ false → allowed (field-at es i .format) (field-at es i .size) ≡ true)
-    → (small-bytes : Below 256 (l .buffer)) → All Reads-back ws
-all-read-back {es} {f} {kept} {count} {ws = ws} l allowed-fields small-bytes =
-    taking-reads (items (uses-kept es f kept count)) (l .buffer) ws (l .rest) (uses-allowed es allowed-fields f kept count (l .uses)) small-bytes (l .given)
+    → Listed es f kept count list stage ws → All Reads-back ws
+all-read-back {es} {f} {kept} {count} {ws = ws} l =
+    taking-reads (items (uses-kept es f kept count)) (l .buffer) ws (l .rest) (uses-allowed es (listed-allowed l) f kept count (l .uses)) (l .small) (l .given)
 
 -- An assignment that stands after so many bytes is read back from that place of the stage, and ends within it.
 pub read-there : {stage : Bytes} {ws : List Assignment} {p : ℕ} {a : Assignment} → On-stage stage ws → Stands-in ws p a → Reads-back a

@@ -1,4 +1,5 @@
 pub mod Splitting
+pub mod Tabled
 pub mod Heights
 pub mod UseNames
 pub mod Giving
