@@ -1,3 +1,4 @@
 pub mod Giving
 pub mod Blocks
 pub mod Cells
+pub mod Searching
