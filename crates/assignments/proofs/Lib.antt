@@ -2,3 +2,4 @@ pub mod Giving
 pub mod Blocks
 pub mod Cells
 pub mod Searching
+pub mod Filling

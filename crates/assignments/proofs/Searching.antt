@@ -1,6 +1,6 @@
 -- Chains gone over: what is left of a chain answers as the whole, and each number of a chain is that of a use of values that belongs to it.
 use mathlib.Core.Path.{_≡_, refl, sym, ap, subst, _∙_}
-use mathlib.Core.Bool.{Bool, true, false, _&&_, _||_, true≢false}
+use mathlib.Core.Bool.{Bool, true, false, cond, _||_, true≢false}
 use mathlib.Core.Logic.{_⊎_, ⊎-elim}
 use mathlib.Core.List.{List, [], _∷_, _++_, append-assoc}
 use Prim.Native.Nat.{ℕ, zero, suc, _+_, _-_, _*_, _≤_, _<_, max}
@@ -8,20 +8,22 @@ use native.Mathlib.Omega.{arith}
 use native.Mathlib.Numerals.{add-one}
 use lib.Dec.{eqb, leb, ltb}
 use lib.ListN.{length, getD}
-use Rattle.rules.specs.Limits.{highest-index}
+use Rattle.rules.specs.Limits.{most-entries}
 use Rattle.rules.specs.Lists.{Bytes, filter, all, any, maximum, run}
 use Rattle.rules.specs.Table.{Entry}
 use Rattle.rules.specs.Update.{Assignment}
-use Rattle.rules.proofs.Steps.{by-test}
+use Rattle.rules.proofs.Steps.{by-test, eqb-same}
 use Rattle.rules.proofs.Bools.{and-both}
+use Rattle.tables.specs.Entries.{blank, is-group}
 use Rattle.uses.specs.Kept.{numbers-kept, kind-at, span-at, use-at}
 use Rattle.uses.specs.declared.Span.{Span}
 use Rattle.uses.specs.declared.Use.{Use}
 use Rattle.uses.specs.declared.Use.the-variants as code
 use Rattle.uses.proofs.Numbers.{use-blanks, use-text, use-group-count, use-value-count, use-values}
 use borrow.Author.Tests.{eqb-true, eqb-false, ltb-true, ltb-false, eq-eqb, ne-eqb, le-leb, lt-leb, lt-ltb, le-ltb}
-use Rattle.assignments.specs.Notes.{note-bound, chains, cell-chains, field-chains, group-chain, note-place, next-noted, cell-chain, use-chain, use-names, names-cell, chained, Chained, Indexed}
-use Rattle.assignments.specs.Answers.{Of-each, Found-in, chain-at}
+use Rattle.assignments.specs.Notes.{note-bound, chains, cell-chains, field-chains, group-chain, note-place, highest-noted, next-noted, cell-chain, use-chain, use-names, names-cell, chained, Chained, Indexed}
+use Rattle.assignments.specs.Answers.{Of-each, Found-in, chain-at, chains-for}
+use Rattle.assignments.proofs.Cells.{none-above, in-chains}
 
 -- A span names a cell by four tests.
 pub names-as : {s x : Span} (i o : ℕ) → s ≡ x → names-cell s i o ≡ names-cell x i o
@@ -120,6 +122,10 @@ all-filter p (x ∷ xs) = by-test (p x) (λ e. rw (e, filter, all, e) (all-filte
 
 by-order : (i m : ℕ) → (i ≡ m → ⊥) → i ≤ m → i < m
 by-order i m d h = by-test (ltb i m) (λ e. ltb-true i m e) (λ e. let k = ltb-false i m e in absurd (d (omega arith)))
+
+filter-nil : (q : ℕ → Bool) → filter q [] ≡ []
+unfolding filter
+filter-nil q = refl
 
 filter-in : (q : ℕ → Bool) (x : ℕ) (xs : List ℕ) → q x ≡ true → filter q (x ∷ xs) ≡ x ∷ filter q xs
 unfolding filter
@@ -287,3 +293,91 @@ module _ (g : ℕ → ℕ) (first end : ℕ) where
 
 pub higher : (highest v r : ℕ) → ((highest < v) × (r ≡ v)) ⊎ ((v ≤ highest) × (r ≡ highest)) → r ≡ max highest v
 higher highest v r w = ⊎-elim (λ u. omega (arith, u .0, u .1)) (λ u. omega (arith, u .0, u .1)) w
+
+-- A chain is as long as it is, if enough may be taken.
+chained-alike : (list : List ℕ) (count : ℕ) → ((n : ℕ) → n < count → (next-noted list n ≤ count) × (0 < next-noted list n → suc n < next-noted list n))
+    → (a b n : ℕ) → n ≤ count → (0 < n → count < a + n) → (0 < n → count < b + n) → chained list a n ≡ chained list b n
+unfolding chained
+chained-alike list count f zero b zero h j k = sym (chained-end list b)
+chained-alike list count f zero b (suc m) h j k = absurd (let q = j (omega arith) in omega arith)
+chained-alike list count f (suc a) b zero h j k = sym (chained-end list b)
+chained-alike list count f (suc a) zero (suc m) h j k = absurd (let q = k (omega arith) in omega arith)
+chained-alike list count f (suc a) (suc b) (suc m) h j k =
+    let g = f m (omega arith) in
+    let p = j (omega arith) in
+    let q = k (omega arith) in
+    ap (_∷_ m) (chained-alike list count f a b (next-noted list m) (g .0) (λ l. let y = g .1 l in omega arith) (λ l. let y = g .1 l in omega arith))
+
+none-below : (q : ℕ → Bool) (i n m : ℕ) → i + n ≤ m → any (eqb m) (filter q (run (λ k. k) i n)) ≡ false
+unfolding run any
+none-below q i zero m h = ap (any (eqb m)) (filter-nil q)
+none-below q i (suc n) m h =
+    let rest : List ℕ = run (λ k. k) (suc i) n in
+    let later = none-below q (suc i) n m (omega arith) in
+    by-test (q i)
+    (λ e. ap (any (eqb m)) (filter-in q i rest e) ∙ rw (ne-eqb m i (λ d. omega (arith, d))) later)
+    (λ e. ap (any (eqb m)) (filter-out q i rest e) ∙ later)
+
+-- Two that the same list may hold know the same uses of values.
+known-both : {es es′ : List Entry} {f f′ : Bytes} {kept : List ℕ} {count count′ : ℕ} {list : List ℕ} {stage stage′ : Bytes} {ws ws′ : List Assignment}
+    → Indexed es f kept count list stage ws → Indexed es′ f′ kept count′ list stage′ ws′ → (n : ℕ) → n < count → use-chain (use-at kept n) < chains → n < count′
+known-both {kept = kept} {count = count} {count′ = count′} {list = list} ix ix′ n h c = by-test (ltb n count′) (λ e. ltb-true n count′ e) (λ e.
+    let x : ℕ = use-chain (use-at kept n) in
+    let k : count′ ≤ n = ltb-false n count′ e in
+    let same : chained list count (getD list x 0) ≡ chained list count′ (getD list x 0) =
+    chained-alike list count′ (λ m l. ix′ .chains .nexts m (omega arith) l) count count′ (getD list x 0) (ix′ .chains .heads x c) (λ l. omega arith) (λ l. omega arith) in
+    let z : any (eqb n) (filter (belongs-to kept x) (run (λ m. m) 0 (count - 0))) ≡ false =
+    ap (any (eqb n)) (sym (ix .chains .members x c) ∙ same ∙ ix′ .chains .members x c) ∙ none-below (belongs-to kept x) 0 (count′ - 0) n (omega arith) in
+    absurd (true≢false (sym (eqb-same n) ∙ none-of (eqb n) (belongs-to kept x) 0 (count - 0) z n (omega arith) (omega arith) (eqb-same x))))
+
+pub chain-small : (x i o : ℕ) → i < most-entries → chain-at x i o < chains
+unfolding chain-at
+chain-small x i o h = by-test (eqb x 0)
+    (λ e. rw e (omega (arith, cell-head i o)))
+    (λ e. by-test (eqb x 1) (λ e₂. rw (e, e₂) (omega arith)) (λ e₂. rw (e, e₂) (omega arith)))
+
+-- The chains of a cell are searched one after the other.
+abbrev pub Searched : List ℕ → List ℕ → ℕ → ℕ → ℕ → Type 0
+Searched kept list i o x = Of-each kept list (λ es f count stage ws. (y : ℕ) → y < x → (n : ℕ) → n < count → belongs-to kept (chain-at y i o) n ≡ true → names-at kept i o n ≡ false)
+
+abbrev pub Found-any : List ℕ → List ℕ → ℕ → ℕ → ℕ → Type 0
+Found-any kept list i o r = Of-each kept list (λ es f count stage ws. Found-in kept count (λ n. true) i o r)
+
+found-one : (kept : List ℕ) (count : ℕ) (p q : ℕ → Bool) (i o r : ℕ) → 0 < r → Found-in kept count p i o r → Found-in kept count q i o r
+found-one kept count p q i o zero h f = absurd (omega arith)
+found-one kept count p q i o (suc n) h f = f
+
+module _ (kept list : List ℕ) (i o : ℕ) where
+  pub searched-start : Searched kept list i o 0
+  searched-start es f count stage ws ix y h = absurd (omega arith)
+
+  module _ (x z r : ℕ) (e : z ≡ chain-at x i o) (d : Found kept list z i o r) where
+    pub searched-found : 0 < r → Found-any kept list i o r
+    searched-found h es f count stage ws ix = found-one kept count (belongs-to kept z) (λ n. true) i o r h (d es f count stage ws ix)
+
+    pub searched-on : Searched kept list i o x → r ≤ 0 → Searched kept list i o (x + 1)
+    searched-on s h es f count stage ws ix y k n l t =
+        by-test (ltb y x)
+        (λ j. s es f count stage ws ix y (ltb-true y x j) n l t)
+        (λ j.
+        let m = ltb-false y x j in
+        let q : y ≡ x = omega arith in
+        let w : r ≡ 0 = omega arith in
+        let g : Found-in kept count (belongs-to kept z) i o 0 = subst (λ (v : ℕ). Found-in kept count (belongs-to kept z) i o v) w (d es f count stage ws ix) in
+        g n l (ap (λ v. belongs-to kept v n) (e ∙ ap (λ v. chain-at v i o) (sym q)) ∙ t))
+
+  pub searched-end : {es : List Entry} {f : Bytes} {count : ℕ} {stage : Bytes} {ws : List Assignment} → Indexed es f kept count list stage ws → i < length es
+      → is-group (getD es i blank .what) ≡ false → (x : ℕ) → chains-for list i o ≤ x → Searched kept list i o x → Found-any kept list i o 0
+  unfolding chains-for
+  searched-end ix h g x k s es′ f′ count′ stage′ ws′ ix′ n l t = by-test (names-at kept i o n)
+      (λ e.
+      let w = in-chains ix′ i o n l e in
+      let most = ix .listed .entries in
+      by-test (ltb (highest-noted list i) o)
+      (λ j.
+      let small = chain-small (w .0) i o (omega arith) in
+      none-above ix i o h g (ltb-true (highest-noted list i) o j) n (known-both ix′ ix n l (omega (arith, w .2))))
+      (λ j.
+      let three : 3 ≤ x = subst (λ (b : Bool). cond b 0 3 ≤ x) j k in
+      s es′ f′ count′ stage′ ws′ ix′ (w .0) (omega (arith, w .1)) n l (eq-eqb (use-chain (use-at kept n)) (chain-at (w .0) i o) (w .2))))
+      (λ e. e)
