@@ -57,7 +57,7 @@ values-end-requires : tie.Need-values-end-requires Inv-loop μ-loop
 values-end-requires c κs =
     let p = start (c .before .before) .pre .1 in
     let d = p .4 in
-    (next-within (d .stands) (next c) (d .size-is), field-at (p .0) (p .2) .format, next-ends (d .stands) (next c) (d .size-is))
+    (next-within (d .stands) (next c) (d .size-is), (field-at (p .0) (p .2) .format, next-ends (d .stands) (next c) (d .size-is)))
 
 add-k : tie.Need-add-k Inv-loop μ-loop
 add-k c =
