@@ -3,3 +3,4 @@ pub mod Blocks
 pub mod Cells
 pub mod Searching
 pub mod Filling
+pub mod Tallying

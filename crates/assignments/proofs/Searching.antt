@@ -186,6 +186,10 @@ module _ {es : List Entry} {f : Bytes} {kept : List ℕ} {count : ℕ} {list : L
     belong = ap (all (belongs-to kept x)) (ix .chains .members x c) ∙ all-filter (belongs-to kept x) (run (λ n. n) 0 (count - 0));
   }
 
+  pub left-start : left walk-start ≡ chained list count (getD list x 0)
+  unfolding walk-start
+  left-start = refl
+
   module _ {n : ℕ} (w : Walk kept list x count n) where
     pub walk-room : Room kept list n
     walk-room = let l = ix .listed in (omega (arith, w .few, l .few), omega (arith, w .few, l .kept-room), omega (arith, w .few, l .room))
@@ -242,8 +246,7 @@ Found kept list x i o r = Of-each kept list (λ es f count stage ws. Found-in ke
 
 module _ (kept list : List ℕ) (x i o : ℕ) (c : x < chains) where
   pub seek-start : Seeking kept list x i o (getD list x 0)
-  unfolding walk-start
-  seek-start es f count stage ws ix = (walk-start ix c, refl)
+  seek-start es f count stage ws ix = (walk-start ix c, ap (any (names-at kept i o)) (left-start ix c))
 
   module _ (n : ℕ) (s : Seeking kept list x i o n) where
     pub seek-end : n ≤ 0 → Found kept list x i o 0
