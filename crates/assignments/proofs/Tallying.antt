@@ -5,6 +5,7 @@ use mathlib.Core.Logic.{inr}
 use mathlib.Core.List.{List, [], _∷_, _++_, map, append-assoc, append-nil}
 use Prim.Native.Nat.{ℕ, zero, suc, _+_, _-_, _*_, _≤_, _<_, max}
 use native.Mathlib.Omega.{arith}
+use native.Mathlib.Numerals.{add-one}
 use lib.Dec.{eqb, leb, ltb}
 use lib.ListN.{length, getD}
 use Rattle.rules.specs.Limits.{highest-index}
@@ -17,12 +18,13 @@ use Rattle.uses.specs.Kept.{numbers-kept, span-at, use-at}
 use Rattle.uses.specs.declared.Span.{Span}
 use Rattle.uses.specs.declared.Use.{Use}
 use Rattle.uses.specs.declared.Use.the-variants as code
-use borrow.Author.Tests.{ltb-true, ltb-false, lt-leb, le-leb, not-true, not-false}
+use borrow.Author.Tests.{ltb-true, ltb-false, lt-leb, le-leb, not-true, not-false, ne-eqb}
 use Rattle.assignments.specs.Notes.{chains, next-noted, use-names, names-cell, chained, Indexed}
-use Rattle.assignments.specs.Answers.{Named-by, Block, Begins-at, Noted-at, Can-fill, Filled, highest-by, bare-by, value-by, Noted-by, Tally, Can-name, Tallies}
+use Rattle.assignments.specs.Answers.{Named-by, Block, Begins-at, Noted-at, Can-fill, Filled, highest-by, bare-by, value-by, Noted-by, Tally, Can-name, Tallies, Names-all, chain-at, chains-for}
 use Rattle.assignments.specs.declared.Naming.{Naming}
 use Rattle.assignments.proofs.Searching.{Walk, left, walk-start, walk-next, walk-use, walk-names, left-start, left-none, left-next}
 use Rattle.assignments.proofs.Filling.{cell-span}
+use Rattle.assignments.proofs.Cells.{gone-over, tally-names}
 
 maximum-last : (g : ℕ → ℕ) (ns : List ℕ) (n : ℕ) → maximum (map g (ns ++ (n ∷ []))) ≡ max (maximum (map g ns)) (g n)
 unfolding maximum
@@ -239,3 +241,41 @@ bare-still bare b e = sym (ap (λ v. bare && v) (not-false b e) ∙ and-true bar
 
 pub naming-as : {h h′ : ℕ} {b b′ : Bool} → h ≡ h′ → b ≡ b′ → naming h b ≡ naming h′ b′
 naming-as {h} {h′} {b} {b′} e e′ = ap (λ (x : ℕ). naming x b) e ∙ ap (λ (x : Bool). naming h′ x) e′
+
+-- The chains of a cell are gone over one after the other.
+abbrev pub Counting : List ℕ → List ℕ → Bytes → ℕ → ℕ → ℕ → List ℕ → Naming → ℕ → Type 0
+Counting kept list stage i o size by r x = (es : List Entry) (f : Bytes) (count : ℕ) (ws : List Assignment) → Can-name es f kept count list stage ws i size
+    → Tally kept es ws i o (gone-over list count i o x) by r
+
+module _ (kept list : List ℕ) (stage : Bytes) (i o size : ℕ) where
+  pub counting-start : (by : List ℕ) → length by ≡ highest-index + 1 → ((k : ℕ) → getD by k 0 ≡ 0) → Counting kept list stage i o size by (naming 0 true) 0
+  unfolding gone-over maximum all any
+  counting-start by l z es f count ws c = record {
+    highest = refl;
+    bare = refl;
+    long = l;
+    noted = λ k h. subst (λ (v : ℕ). Noted-by kept es ws i o [] k v) (sym (z k)) refl;
+  }
+
+  gone-last : (count x : ℕ) → gone-over list count i o (x + 1) ≡ gone-over list count i o x ++ chained list count (getD list (chain-at x i o) 0)
+  unfolding gone-over
+  gone-last count x = rw (add-one x)
+
+  pub counting-on : (by : List ℕ) (r : Naming) (x y : ℕ) → Counting kept list stage i o size by r x → y ≡ chain-at x i o → (by′ : List ℕ) (r′ : Naming)
+      → Tallies kept list stage y i o size by by′ r r′ → Counting kept list stage i o size by′ r′ (x + 1)
+  counting-on by r x y s e by′ r′ t es f count ws c =
+      subst (λ (ms : List ℕ). Tally kept es ws i o ms by′ r′)
+      (ap (λ (z : ℕ). gone-over list count i o x ++ chained list count (getD list z 0)) e ∙ sym (gone-last count x))
+      (t es f count ws (gone-over list count i o x) c (s es f count ws c))
+
+  pub counting-end : (by : List ℕ) (r : Naming) (x : ℕ) → Counting kept list stage i o size by r x → x ≡ chains-for list i o → (r′ : Naming)
+      → r′ .highest ≡ r .highest → r′ .bare ≡ cond (eqb (r .highest) 0) false (r .bare) → Names-all kept list stage i o size by r′
+  counting-end by r x s e r′ h b es f count ws c =
+      tally-names c by r r′ (subst (λ (z : ℕ). Tally kept es ws i o (gone-over list count i o z) by r) e (s es f count ws c)) h b
+
+-- The answer is bare only where something is named.
+pub bare-none : (highest : ℕ) (bare : Bool) → highest ≡ 0 → false ≡ cond (eqb highest 0) false bare
+bare-none highest bare e = rw e
+
+pub bare-some : (highest : ℕ) (bare : Bool) → (highest ≡ 0 → ⊥) → bare ≡ cond (eqb highest 0) false bare
+bare-some highest bare e = rw (ne-eqb highest 0 e)
