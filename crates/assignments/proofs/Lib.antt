@@ -7,3 +7,6 @@ pub mod Blocks
 pub mod Cells
 pub mod Setting
 pub mod Linking
+pub mod Searching
+pub mod Filling
+pub mod Tallying

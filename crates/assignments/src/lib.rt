@@ -234,7 +234,7 @@ fn chains_for(list: &[u16], i: usize, o: usize) -> usize
 
 // One above the number of the use that names entry i in occurrence o.
 fn use_of(kept: &[Index], list: &[u16], i: usize, o: usize) -> usize
-    requires { ⌜ Has-index (now kept) (now list) × (i < most-entries) × (1 ≤ o) × (o ≤ highest-index) ⌝ }
+    requires { ⌜ ((es : List Entry) × (f : Bytes) × (count : ℕ) × (stage : Bytes) × (ws : List Assignment) × Indexed es f (now kept) count (now list) stage ws × (i < length es) × (is-group (getD es i blank .what) ≡ false)) × (1 ≤ o) × (o ≤ highest-index) ⌝ }
     ensures { λ r. ⌜ Of-each (now (kept .entry)) (now (list .entry)) (λ es f count stage ws. Found-in (now (kept .entry)) count (λ n. true) i o r) ⌝ }
 {
     let end = chains_for(list, i, o);
