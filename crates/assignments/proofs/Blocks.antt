@@ -16,10 +16,10 @@ use Rattle.rules.specs.Lists.{Bytes, all, filter, run, join}
 use Rattle.rules.specs.Table.{Field, Entry}
 use Rattle.rules.specs.Record.{times, stored-value}
 use Rattle.rules.specs.Format.{Range}
-use Rattle.rules.specs.Use.{Item, Asked, as-stored, plain, in-order, items, items-of}
+use Rattle.rules.specs.Use.{Item, Asked, as-stored, plain, items, items-of}
 use Rattle.rules.specs.Update.{Assignment}
 use Rattle.rules.proofs.Steps.{by-test, done-inj, true-T, T-true, and-left, and-right}
-use Rattle.rules.proofs.Back.{All, all-map}
+use Rattle.rules.proofs.Back.{All}
 use Rattle.rules.proofs.Alls.{all-parts, all-of-map}
 use Rattle.rules.proofs.Places.{places-of, range-length}
 use Rattle.rules.proofs.Ranges.{taking, item-at, field-items, occurrence-items}
@@ -28,7 +28,7 @@ use Rattle.tables.specs.Entries.{blank, is-group, is-multiple, is-periodic}
 use Rattle.tables.specs.Groups.{field-at}
 use Rattle.tables.specs.Places.{inside-at}
 use Rattle.format_buffer.specs.Elements.{range}
-use Rattle.records.specs.Walk.{rest-of, Walked, Ends, Behind}
+use Rattle.records.specs.Walk.{rest-of, Ends, Behind}
 use Rattle.uses.specs.Kept.{numbers-kept, kind-at, span-at, use-of-kind, use-at, uses-kept}
 use Rattle.uses.specs.Meant.{fields-from, asked-of, use-meant, Good-span, Good-use}
 use Rattle.uses.specs.declared.Span.{Span}
@@ -36,7 +36,7 @@ use Rattle.uses.specs.declared.Use.{Use}
 use Rattle.uses.specs.declared.Use.the-variants as code
 use Rattle.uses.proofs.Fields.{multiple-at}
 use Rattle.uses.proofs.SpanFields.{span-items}
-use Rattle.assignments.specs.Notes.{start-noted, group-chain, chains, width-before, use-names, names-cell, span-chain, use-chain, chained, place-at, bytes-given, given-first, assignments-of, Listed, Indexed}
+use Rattle.assignments.specs.Notes.{start-noted, group-chain, chains, width-before, use-names, names-cell, span-chain, use-chain, chained, place-at, bytes-given, given-first, assignments-of}
 use Rattle.assignments.specs.Answers.{Named-by, Block, Reads-back}
 use Rattle.assignments.proofs.Splitting.{Allowed-fields, Periodic-top, As-long, taking-long, taking-places, from-taking, items-about, later, earlier-occurrences, value-items-about, weight, weight-asked, weight-fields, weight-earlier, fields-of-places, earlier-of-places, span-fields, Asked-about, asked-about, size-field, width-between, given-append, given-length, given-weight, weight-number, times-given, stage-after, stage-length, home-of}
 use Rattle.assignments.proofs.Tabled.{listed-allowed, listed-top}

@@ -11,7 +11,7 @@ use Rattle.rules.specs.Outcome.{done}
 use Rattle.rules.specs.Lists.{Bytes, all, join}
 use Rattle.rules.specs.Table.{What, field, group, Entry, Field, differ, names}
 use Rattle.rules.specs.Record.{stored-value}
-use Rattle.rules.specs.Use.{Item, Place, as-stored, items}
+use Rattle.rules.specs.Use.{Place, as-stored, items}
 use Rattle.rules.specs.Update.{Assignment, same-place, assigned}
 use Rattle.rules.proofs.Steps.{true-T}
 use Rattle.rules.proofs.Back.{All}
@@ -22,7 +22,7 @@ use Rattle.rules.proofs.Twice.{named-twice-repeats}
 use Rattle.rules.proofs.Assigned.{own-bytes, same-self}
 use Rattle.tables.specs.Entries.{blank, is-group}
 use Rattle.tables.specs.Groups.{field-at, with-field, fields-in}
-use Rattle.uses.specs.Meant.{fields-from, asked-by, use-meant, Good-span, Good-use}
+use Rattle.uses.specs.Meant.{fields-from, asked-by, use-meant, Good-use}
 use Rattle.uses.specs.Kept.{use-at, uses-kept}
 use Rattle.uses.specs.declared.Span.{Span}
 use Rattle.uses.specs.declared.Use.{Use}

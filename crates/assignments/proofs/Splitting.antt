@@ -8,8 +8,8 @@ use native.Mathlib.Omega.{arith}
 use native.Mathlib.Numerals.{add-one}
 use native.Mathlib.Nat.{zero-mul, mul-zero, suc-mul, mul-add}
 use borrow.Author.Tests.{le-leb}
-use lib.Dec.{T, leb, le→leb, leb→le}
-use lib.ListN.{length, getD, take, drop, take-append-drop, length-append}
+use lib.Dec.{leb, le→leb, leb→le}
+use lib.ListN.{length, getD, drop, take-append-drop, length-append}
 use lib.Seq.{drop-append-seam}
 use Rattle.rules.specs.Outcome.{done, _>>=_, is-done}
 use Rattle.rules.specs.Limits.{longest-alpha}
@@ -19,11 +19,11 @@ use Rattle.rules.specs.Table.{What, field, group, Field, Entry, inside-of}
 use Rattle.rules.specs.Record.{times, stored-value}
 use Rattle.rules.specs.Format.{Range}
 use Rattle.rules.specs.Use as rules
-use Rattle.rules.specs.Use.{Place, Item, blanks-item, text-item, group-count, value-count, value-item, Asked, as-stored, in-order, items-of, items, value-items}
-use Rattle.rules.specs.Update.{Assignment, assignments}
+use Rattle.rules.specs.Use.{Place, Item, blanks-item, text-item, group-count, value-count, value-item, Asked, as-stored, items-of, items, value-items}
+use Rattle.rules.specs.Update.{Assignment}
 use Rattle.rules.proofs.Steps.{from-bind, from-need, from-done, done-inj, not-done, need-true, true-T, and-right, and-intro, by-test}
 use Rattle.rules.proofs.Back.{All, all-map, Stored}
-use Rattle.rules.proofs.Alls.{all-append, all-parts, all-join, all-run, all-of-map}
+use Rattle.rules.proofs.Alls.{all-join, all-run, all-of-map}
 use Rattle.rules.proofs.Readers.{cut-sound, first-sound}
 use Rattle.rules.proofs.Digits.{Below}
 use Rattle.rules.proofs.Kept.{cut-back}
@@ -40,7 +40,7 @@ use Rattle.tables.specs.Places.{inside-from, inside-at, Home}
 use Rattle.tables.proofs.EntryBytes.{Sound}
 use Rattle.tables.proofs.Periodic.{inside-one}
 use Rattle.tables.proofs.Climbs.{Climb, climb-start, climb-up, climb-home}
-use Rattle.uses.specs.Meant.{fields-from, asked-by, asked-of, use-meant, One-field, Good-span, Good-use}
+use Rattle.uses.specs.Meant.{fields-from, asked-by, asked-of, use-meant, Good-span, Good-use}
 use Rattle.uses.specs.Kept.{use-at, uses-kept, Good-uses}
 use Rattle.uses.specs.declared.Span.{Span}
 use Rattle.uses.specs.declared.Use.{Use}
