@@ -73,8 +73,7 @@ loop-again c =
     let t = c .before in
     let l = t .before .before in
     let s = start l in
-    let a = s .args in
-    (
+    let a = s .args in (
       length-set (l .loop .by) (l .loop .k) (l .loop .p + 1) ∙ l .loop .inv .0,
       omega (arith, l .loop .inv .1),
       fills-on (a .stage .now) (a .at) (a .s) (a .size) (a .by .now) (l .loop .by) (l .loop .p) (l .loop .k) (l .loop .inv .2) (t .if1 .taken) (l .loop .inv .1)

@@ -45,8 +45,7 @@ loop-again : tie.Need-loop-again Inv-loop μ-loop
 loop-again c =
     let n = c .before .before in
     let l = n .before .before in
-    let a = start l .args in
-    (
+    let a = start l .args in (
       omega (arith, n .before .loop-test .taken),
       counting-on (a .kept .now) (a .list .now) (a .stage .now) (a .i) (a .o) (a .size) (l .loop .by) (l .loop .all) (l .loop .x) (n .chain-at .result) (l .loop .inv .1) (n .chain-at .ensures .0) _ (c .named-in .result) (c .named-in .ensures),
     )
