@@ -1,6 +1,6 @@
 -- What uses name of one field in one occurrence, use by use: those that were gone over, with what is left of a chain, are the whole.
 use mathlib.Core.Path.{_≡_, refl, sym, ap, subst, _∙_}
-use mathlib.Core.Bool.{Bool, true, false, cond, not, _&&_, _||_, and-true, and-false}
+use mathlib.Core.Bool.{Bool, true, false, cond, not, _&&_, and-true, and-false}
 use mathlib.Core.Logic.{inr}
 use mathlib.Core.List.{List, [], _∷_, _++_, map, append-assoc, append-nil}
 use Prim.Native.Nat.{ℕ, zero, suc, _+_, _-_, _*_, _≤_, _<_, max}
@@ -18,8 +18,8 @@ use Rattle.uses.specs.Kept.{numbers-kept, span-at, use-at}
 use Rattle.uses.specs.declared.Span.{Span}
 use Rattle.uses.specs.declared.Use.{Use}
 use Rattle.uses.specs.declared.Use.the-variants as code
-use borrow.Author.Tests.{ltb-true, ltb-false, lt-leb, le-leb, not-true, not-false, ne-eqb}
-use Rattle.assignments.specs.Notes.{chains, next-noted, use-names, names-cell, chained, Indexed}
+use borrow.Author.Tests.{ltb-true, ltb-false, lt-leb, not-true, not-false, ne-eqb}
+use Rattle.assignments.specs.Notes.{chains, next-noted, names-cell, chained}
 use Rattle.assignments.specs.Answers.{Named-by, Block, Begins-at, Noted-at, Can-fill, Filled, highest-by, bare-by, value-by, Noted-by, Tally, Can-name, Tallies, Names-all, chain-at, chains-for}
 use Rattle.assignments.specs.declared.Naming.{Naming}
 use Rattle.assignments.proofs.Searching.{Walk, left, walk-start, walk-next, walk-use, walk-names, left-start, left-none, left-next}

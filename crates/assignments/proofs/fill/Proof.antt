@@ -3,10 +3,8 @@ use mathlib.Core.Path.{_≡_, refl, _∙_}
 use Prim.Native.Nat.{_+_, _-_, _≤_, suc}
 use native.Mathlib.Omega.{arith}
 use lib.ListN.{length, length-set}
-use Rattle.rules.specs.Values.{Format}
 use Rattle.tables.specs.Groups.{field-at}
 use Rattle.assignments.proofs.Filling.{Fills, Value-next, fills-start, fills-next, fills-on, fills-end, next-within, next-ends}
-use borrow.Author.Needs.{needs}
 use Rattle.assignments.proofs.fill.Statement.{statement}
 use Rattle.assignments.proofs.fill.Tie as tie
 

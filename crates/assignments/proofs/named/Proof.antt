@@ -1,6 +1,6 @@
 -- `assignments::named` meets its contract: the chains of the cell are gone over one after the other, and what they were tallied to is what is named.
-use mathlib.Core.Path.{_≡_, refl, _∙_}
-use Prim.Native.Nat.{_+_, _-_, _≤_}
+use mathlib.Core.Path.{_≡_, refl}
+use Prim.Native.Nat.{_-_, _≤_}
 use native.Mathlib.Omega.{arith}
 use Rattle.assignments.specs.Answers.{chains-for}
 use Rattle.assignments.proofs.Tallying.{Counting, counting-start, counting-on, counting-end, bare-none, bare-some}
