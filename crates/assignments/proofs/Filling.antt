@@ -1,7 +1,9 @@
 -- The values of a block, noted one after the other: each is read back from where it stands on the stage, so that the next begins where it ends.
 use mathlib.Core.Path.{_≡_, refl, sym, ap, subst, _∙_}
+use mathlib.Core.Bool.{true, false, true≢false}
+use mathlib.Core.Logic.{inl}
 use mathlib.Core.List.{List, [], _∷_, _++_, map, append-assoc, append-nil}
-use Prim.Native.Nat.{ℕ, suc, _+_, _-_, _*_, _≤_, _<_}
+use Prim.Native.Nat.{ℕ, zero, suc, _+_, _-_, _*_, _≤_, _<_}
 use native.Mathlib.Nat.{mul-le-mul}
 use native.Mathlib.Omega.{arith}
 use native.Mathlib.Numerals.{add-one}
@@ -12,23 +14,25 @@ use Rattle.rules.specs.Outcome.{done}
 use Rattle.rules.specs.Limits.{most-entries, highest-index}
 use Rattle.rules.specs.Lists.{Bytes, join, run}
 use Rattle.rules.specs.Values.{Format}
-use Rattle.rules.specs.Table.{Entry}
+use Rattle.rules.specs.Table.{What, field, group, Entry}
 use Rattle.rules.specs.Record.{times, stored-value}
 use Rattle.rules.specs.Use.{Place}
 use Rattle.rules.specs.Update.{Assignment}
 use Rattle.rules.proofs.Steps.{by-test, done-inj}
 use Rattle.rules.proofs.Back.{All}
 use Rattle.rules.proofs.Readers.{value-sound}
-use Rattle.tables.specs.Groups.{field-at}
+use Rattle.tables.specs.Entries.{blank, is-group, size-of}
+use Rattle.tables.specs.Groups.{field-by, field-at}
 use Rattle.records.specs.Walk.{rest-of, Ends, Behind}
-use Rattle.uses.specs.Kept.{numbers-kept, span-at}
+use Rattle.uses.specs.Kept.{numbers-kept, span-at, use-at}
 use Rattle.uses.specs.declared.Span.{Span}
 use Rattle.uses.proofs.Spreading.{ordered-within}
 use borrow.Author.Tests.{eqb-true, eqb-false, ltb-true, ltb-false}
-use Rattle.assignments.specs.Notes.{note-bound, width-noted, start-noted, place-at, bytes-given, Stands-in, On-stage, width-before}
-use Rattle.assignments.specs.Answers.{Reads-back, Block, Named-by, Noted-at, Can-fill, Filled}
-use Rattle.assignments.proofs.Giving.{read-there}
+use Rattle.assignments.specs.Notes.{note-bound, first-noted, width-noted, start-noted, place-at, bytes-given, use-names, Stands-in, Takes-at, On-stage, Indexed, width-before}
+use Rattle.assignments.specs.Answers.{Found-in, Reads-back, Block, Named-by, Noted-at, Can-fill, Filled}
+use Rattle.assignments.proofs.Giving.{read-there, places-once, takes-there}
 use Rattle.assignments.proofs.Blocks.{values-before, block-span, block-inside, single-ends, single-block, group-headed, several-widths, several-block}
+use Rattle.assignments.proofs.Cells.{none-assigned}
 
 bytes-append : (vs ws : List Assignment) → bytes-given (vs ++ ws) ≡ bytes-given vs ++ bytes-given ws
 unfolding join
@@ -100,9 +104,12 @@ ends-at p q v l h k e = omega arith
 module _ {stage : Bytes} {es : List Entry} {ws : List Assignment} {i o upto k p size : ℕ} (g : On-stage stage ws) (n : Value-next es ws i o upto k p) (e : size ≡ field-at es i .size) where
   there : (p ≤ length stage) × (rest : Bytes) × (stored-value (field-at es i .format) size (drop p stage) ≡ done (n .value .bytes, rest))
   there =
-      let r = read-there g (n .stands) (n .back) in
-      (r .0, r .1, subst (λ (z : ℕ). stored-value (field-at es i .format) z (drop p stage) ≡ done (n .value .bytes, r .1)) (sym e)
-      (subst (λ (q : Place). stored-value (q .field .format) (q .field .size) (drop p stage) ≡ done (n .value .bytes, r .1)) (n .place) (r .2)))
+      let r = read-there g (n .stands) (n .back) in (
+        r .0,
+        r .1,
+        subst (λ (z : ℕ). stored-value (field-at es i .format) z (drop p stage) ≡ done (n .value .bytes, r .1)) (sym e)
+            (subst (λ (q : Place). stored-value (q .field .format) (q .field .size) (drop p stage) ≡ done (n .value .bytes, r .1)) (n .place) (r .2)),
+      )
 
   pub next-within : p ≤ length stage
   next-within = there .0
@@ -143,8 +150,7 @@ module _ (stage : Bytes) (at : ℕ) (s : Span) (size : ℕ) (by : List ℕ) wher
         → ((g : Format) → Behind stage (rest-of (times 1 (stored-value g size) (drop p stage))) q) → Fills stage at s size by (set by′ k (p + 1)) q (k + 1)
     fills-on h h′ l q b es ws i o c =
         let n = fills-next c h in
-        let y = f es ws i o c .1 in
-        (
+        let y = f es ws i o c .1 in (
           next-left (c .stands) n (c .size-is) q (b (field-at es i .format)),
           record {
             inside = λ j m m′. by-test (eqb j k)
@@ -160,8 +166,8 @@ module _ (stage : Bytes) (at : ℕ) (s : Span) (size : ℕ) (by : List ℕ) wher
           },
         )
       where
-      before : (j k : ℕ) → (j ≡ k → ⊥) → j < k + 1 → j < k
-      before j k d h = by-test (ltb j k) (λ e. ltb-true j k e) (λ e. let m = ltb-false j k e in absurd (d (omega arith)))
+        before : (j k : ℕ) → (j ≡ k → ⊥) → j < k + 1 → j < k
+        before j k d h = by-test (ltb j k) (λ e. ltb-true j k e) (λ e. let m = ltb-false j k e in absurd (d (omega arith)))
 
     pub fills-end : s .«value_upto» < k → length by′ ≡ length by → {es : List Entry} {ws : List Assignment} {i o : ℕ} → Can-fill es ws stage i o s at size → Filled es ws i o s by by′
     fills-end h l {es} {ws} {i} {o} c =
@@ -202,8 +208,8 @@ module _ {es : List Entry} {f : Bytes} {kept : List ℕ} {count : ℕ} {list : L
     several : span-at kept (numbers-kept * n) .first + 1 < span-at kept (numbers-kept * n) .end
     several = subst (λ (x : Span). x .first + 1 < x .end) e (above s (cell-span .entries .0) (cell-span .entries .1) h)
       where
-      above : (x : Span) → x .first ≤ i → i < x .end → (x .first + 1 ≡ x .end → ⊥) → x .first + 1 < x .end
-      above x k l d = by-test (ltb (x .first + 1) (x .end)) (λ t. ltb-true (x .first + 1) (x .end) t) (λ t. let m = ltb-false (x .first + 1) (x .end) t in absurd (d (omega arith)))
+        above : (x : Span) → x .first ≤ i → i < x .end → (x .first + 1 ≡ x .end → ⊥) → x .first + 1 < x .end
+        above x k l d = by-test (ltb (x .first + 1) (x .end)) (λ t. ltb-true (x .first + 1) (x .end) t) (λ t. let m = ltb-false (x .first + 1) (x .end) t in absurd (d (omega arith)))
 
     noted : (j : ℕ) → j ≤ length es → width-noted list j ≡ width-before es j
     noted j k = b .indexed .widths (group-headed b several) j k
@@ -246,3 +252,60 @@ values-few {s} {i} {o} c = mul-le-mul {n₁ = o - s .from} {m₁ = s .«value_up
 
 pub widths-few : {s : Span} {i o : ℕ} → Cell-span s i o → (w : ℕ) → w < note-bound → values-before s o * w ≤ highest-index * highest-index * note-bound
 widths-few {s} {i} {o} c w h = mul-le-mul {n₁ = values-before s o} {m₁ = w} {n₂ = highest-index * highest-index} {m₂ = note-bound} (values-few c) (omega arith)
+
+-- Value 1 of a field in one occurrence takes what stands where a block from value 1 on begins.
+module _ {es : List Entry} {f : Bytes} {kept : List ℕ} {count : ℕ} {list : List ℕ} {stage : Bytes} {ws : List Assignment} {n i o size r : ℕ}
+    (b : Named-by es f kept count list stage ws n i o size) (g : Block es ws i o (span-at kept (numbers-kept * n)) r) where
+  first-next : Value-next es ws i o (span-at kept (numbers-kept * n) .«value_upto») (span-at kept (numbers-kept * n) .«value_from») r
+  first-next = value-next (cell-span b refl .values .1) (block-left g)
+
+  pub block-within : r ≤ length stage
+  block-within = next-within (b .indexed .listed .stands) first-next (b .size-is)
+
+  pub block-takes : span-at kept (numbers-kept * n) .«value_from» ≡ 1 → Takes-at ws (place-at es i o 1) (r + 1)
+  block-takes e = subst (λ (m : ℕ). Takes-at ws (place-at es i o 1) m) (sym (add-one r))
+      (takes-there (places-once (b .indexed)) (first-next .stands) (first-next .place ∙ ap (place-at es i o) e))
+
+-- The use that was found.
+found-known : (kept : List ℕ) (count i o n : ℕ) → Found-in kept count (λ m. true) i o n → (n ≡ 0 → ⊥) → (n - 1 < count) × (use-names (use-at kept (n - 1)) i o ≡ true)
+found-known kept count i o zero f d = absurd (d refl)
+found-known kept count i o (suc m) f d =
+    let e : suc m - 1 ≡ m = omega arith in
+    subst (λ (k : ℕ). (k < count) × (use-names (use-at kept k) i o ≡ true)) (sym e) f
+
+size-by : (n : ℕ) (w : What) → is-group w ≡ false → size-of w ≡ field-by n w .size
+unfolding field-by
+size-by n (field f s m) e = refl
+size-by n (group p) e = absurd (true≢false e)
+
+pub standard-length : (es : List Entry) (i : ℕ) → is-group (getD es i blank .what) ≡ false → size-of (getD es i blank .what) ≡ field-at es i .size
+unfolding field-at
+standard-length es i g = size-by (getD es i blank .name) (getD es i blank .what) g
+
+-- Entry i, a field that is not MU, in an occurrence above the first.
+module _ {es : List Entry} {f : Bytes} {kept : List ℕ} {count : ℕ} {list : List ℕ} {stage : Bytes} {ws : List Assignment} (ix : Indexed es f kept count list stage ws)
+    (i o : ℕ) (h : i < length es) (g : is-group (getD es i blank .what) ≡ false) where
+  pub found-named : (n size : ℕ) → Found-in kept count (λ m. true) i o n → (n ≡ 0 → ⊥) → 1 ≤ o → (o ≡ 1 → ⊥) → size ≡ size-of (getD es i blank .what)
+      → Named-by es f kept count list stage ws (n - 1) i o size
+  found-named n size d z l k e =
+      let x = found-known kept count i o n d z in
+      record {
+        indexed = ix;
+        known = x .0;
+        names = x .1;
+        entry = h;
+        field = g;
+        size-is = e ∙ standard-length es i g;
+        inside = inl (above-one o l k);
+      }
+    where
+      above-one : (o : ℕ) → 1 ≤ o → (o ≡ 1 → ⊥) → 2 ≤ o
+      above-one o l k = by-test (ltb 1 o) (λ t. ltb-true 1 o t) (λ t. let m = ltb-false 1 o t in absurd (k (omega arith)))
+
+  pub first-takes : o ≡ 1 → Takes-at ws (place-at es i o 1) (first-noted list i)
+  first-takes e = subst (λ (q : ℕ). Takes-at ws (place-at es i q 1) (first-noted list i)) (sym e) (ix .listed .firsts i h g)
+
+  pub none-takes : (n : ℕ) → Found-in kept count (λ m. true) i o n → n ≡ 0 → Takes-at ws (place-at es i o 1) 0
+  none-takes n d e =
+      let q : Found-in kept count (λ m. true) i o 0 = subst (λ (m : ℕ). Found-in kept count (λ k. true) i o m) e d in
+      none-assigned ix i o 1 h g (λ m l. q m l refl)

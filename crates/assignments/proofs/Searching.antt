@@ -2,7 +2,7 @@
 use mathlib.Core.Path.{_≡_, refl, sym, ap, subst, _∙_}
 use mathlib.Core.Bool.{Bool, true, false, cond, _||_, true≢false}
 use mathlib.Core.Logic.{_⊎_, ⊎-elim}
-use mathlib.Core.List.{List, [], _∷_, _++_, append-assoc}
+use mathlib.Core.List.{List, [], _∷_}
 use Prim.Native.Nat.{ℕ, zero, suc, _+_, _-_, _*_, _≤_, _<_, max}
 use native.Mathlib.Omega.{arith}
 use native.Mathlib.Numerals.{add-one}
@@ -15,13 +15,13 @@ use Rattle.rules.specs.Update.{Assignment}
 use Rattle.rules.proofs.Steps.{by-test, eqb-same}
 use Rattle.rules.proofs.Bools.{and-both}
 use Rattle.tables.specs.Entries.{blank, is-group}
-use Rattle.uses.specs.Kept.{numbers-kept, kind-at, span-at, use-at}
+use Rattle.uses.specs.Kept.{numbers-kept, span-at, use-at}
 use Rattle.uses.specs.declared.Span.{Span}
 use Rattle.uses.specs.declared.Use.{Use}
 use Rattle.uses.specs.declared.Use.the-variants as code
 use Rattle.uses.proofs.Numbers.{use-blanks, use-text, use-group-count, use-value-count, use-values}
-use borrow.Author.Tests.{eqb-true, eqb-false, ltb-true, ltb-false, eq-eqb, ne-eqb, le-leb, lt-leb, lt-ltb, le-ltb}
-use Rattle.assignments.specs.Notes.{note-bound, chains, cell-chains, field-chains, group-chain, note-place, highest-noted, next-noted, cell-chain, use-chain, use-names, names-cell, chained, Chained, Indexed}
+use borrow.Author.Tests.{eqb-true, eqb-false, ltb-true, ltb-false, eq-eqb, ne-eqb, le-leb, lt-leb}
+use Rattle.assignments.specs.Notes.{note-bound, chains, cell-chains, field-chains, group-chain, note-place, highest-noted, next-noted, cell-chain, use-chain, use-names, names-cell, chained, Indexed}
 use Rattle.assignments.specs.Answers.{Of-each, Found-in, chain-at, chains-for}
 use Rattle.assignments.proofs.Cells.{none-above, in-chains}
 
@@ -89,7 +89,6 @@ module _ (kept : List ℕ) (n x : ℕ) (h : x < chains) (e : use-chain (use-at k
   pub chained-use : use-at kept n ≡ code.Values (span-at kept (numbers-kept * n))
   unfolding use-chain
   chained-use =
-      let k = kind-at kept (numbers-kept * n) in
       sym (use-values kept n
       (λ z. out-of-chains _ (use-blanks kept n z) refl)
       (λ z. out-of-chains _ (use-text kept n z) refl)

@@ -1,6 +1,6 @@
 -- What uses name of one field in one occurrence, use by use: those that were gone over, with what is left of a chain, are the whole.
 use mathlib.Core.Path.{_≡_, refl, sym, ap, subst, _∙_}
-use mathlib.Core.Bool.{Bool, true, false, cond, not, _&&_, _||_, and-true, and-false}
+use mathlib.Core.Bool.{Bool, true, false, cond, not, _&&_, and-true, and-false}
 use mathlib.Core.Logic.{inr}
 use mathlib.Core.List.{List, [], _∷_, _++_, map, append-assoc, append-nil}
 use Prim.Native.Nat.{ℕ, zero, suc, _+_, _-_, _*_, _≤_, _<_, max}
@@ -18,8 +18,8 @@ use Rattle.uses.specs.Kept.{numbers-kept, span-at, use-at}
 use Rattle.uses.specs.declared.Span.{Span}
 use Rattle.uses.specs.declared.Use.{Use}
 use Rattle.uses.specs.declared.Use.the-variants as code
-use borrow.Author.Tests.{ltb-true, ltb-false, lt-leb, le-leb, not-true, not-false, ne-eqb}
-use Rattle.assignments.specs.Notes.{chains, next-noted, use-names, names-cell, chained, Indexed}
+use borrow.Author.Tests.{ltb-true, ltb-false, lt-leb, not-true, not-false, ne-eqb}
+use Rattle.assignments.specs.Notes.{chains, next-noted, names-cell, chained}
 use Rattle.assignments.specs.Answers.{Named-by, Block, Begins-at, Noted-at, Can-fill, Filled, highest-by, bare-by, value-by, Noted-by, Tally, Can-name, Tallies, Names-all, chain-at, chains-for}
 use Rattle.assignments.specs.declared.Naming.{Naming}
 use Rattle.assignments.proofs.Searching.{Walk, left, walk-start, walk-next, walk-use, walk-names, left-start, left-none, left-next}
@@ -36,9 +36,9 @@ unfolding all
 all-last g [] n = and-true (g n)
 all-last g (m ∷ ns) n = ap (λ b. g m && b) (all-last g ns n) ∙ and-grouped (g m) (all g ns) (g n)
   where
-  and-grouped : (a b c : Bool) → (a && (b && c)) ≡ ((a && b) && c)
-  and-grouped true b c = refl
-  and-grouped false b c = refl
+    and-grouped : (a b c : Bool) → (a && (b && c)) ≡ ((a && b) && c)
+    and-grouped true b c = refl
+    and-grouped false b c = refl
 
 any-last : (g : ℕ → Bool) (ns : List ℕ) (n : ℕ) → any g ns ≡ false → g n ≡ false → any g (ns ++ (n ∷ [])) ≡ false
 unfolding any
@@ -99,8 +99,8 @@ module _ {kept : List ℕ} {es : List Entry} {ws : List Assignment} {i o : ℕ} 
     noted = λ k h. noted-still kept es ws i o ns n k (getD by k 0) (ap (λ (v : Use). value-by v i o k) u ∙ value-out s i o e k) (t .noted k h);
   }
     where
-    none : max (maximum (map (λ m. highest-by (use-at kept m) i o) ns)) (highest-by (use-at kept n) i o) ≡ maximum (map (λ m. highest-by (use-at kept m) i o) ns)
-    none = let z : highest-by (use-at kept n) i o ≡ 0 = ap (λ (v : Use). highest-by v i o) u ∙ highest-out s i o e in omega arith
+      none : max (maximum (map (λ m. highest-by (use-at kept m) i o) ns)) (highest-by (use-at kept n) i o) ≡ maximum (map (λ m. highest-by (use-at kept m) i o) ns)
+      none = let z : highest-by (use-at kept n) i o ≡ 0 = ap (λ (v : Use). highest-by v i o) u ∙ highest-out s i o e in omega arith
 
   tally-in : names-cell s i o ≡ true → (by′ : List ℕ) (r′ : Naming) → Filled es ws i o s by by′ → r′ .highest ≡ max (r .highest) (s .«value_upto»)
       → r′ .bare ≡ (r .bare && s .bare) → Tally kept es ws i o (ns ++ (n ∷ [])) by′ r′
@@ -200,8 +200,7 @@ module _ (kept list : List ℕ) (stage : Bytes) (x i o size : ℕ) (few : x < ch
           → (r′ : Naming) → r′ .highest ≡ max (r .highest) (sp .«value_upto») → r′ .bare ≡ (r .bare && sp .bare)
           → Tallying kept list stage x i o size by₀ r₀ by′ r′ (next-noted list (n - 1))
       tallying-in e sp d at b {by′} fl r′ k k′ es f count ws ns c =
-          let (w, y) = s es f count ws ns c in
-          (
+          let (w, y) = s es f count ws ns c in (
             walk-next (c .indexed) few w h,
             λ t.
                 let g = y t in
@@ -218,8 +217,7 @@ module _ (kept list : List ℕ) (stage : Bytes) (x i o size : ℕ) (few : x < ch
           → (by″ : List ℕ) → by″ ≡ by′ → (r′ : Naming) → r′ .highest ≡ max (r .highest) (sp .«value_upto») → r′ .bare ≡ (r .bare && sp .bare)
           → (length by″ ≡ highest-index + 1) × Tallying kept list stage x i o size by₀ r₀ by″ r′ (next-noted list (n - 1))
       turn-in {es} {f} {count} {ws} c l e sp d at b {by′} fl by″ q r′ k k′ =
-          let w = s es f count ws [] c .0 in
-          (
+          let w = s es f count ws [] c .0 in (
             ap length q ∙ fl es ws i o (walk-fills c few w h o e at d b) .same ∙ l,
             subst (λ (v : List ℕ). Tallying kept list stage x i o size by₀ r₀ v r′ (next-noted list (n - 1))) (sym q) (tallying-in e sp d at b fl r′ k k′),
           )

@@ -15,7 +15,6 @@ ghost use Rattle.uses.specs.Kept.{numbers-kept, span-at, use-at};
 ghost use Rattle.uses.specs.declared.Span.{Span};
 ghost use Rattle.assignments.specs.Notes.{note-bound, note-place, group-chain, chains, uses-from, cell-chain, span-chain, use-chain, names-cell, place-at, Takes-at, Unindexed, Listed, Indexed};
 ghost use Rattle.assignments.specs.Answers.{first-put, entry-marked, Marked, linked, Links, Can-link, Widened, Of-each, Has-index, Has-entries, Found-in, chain-at, Has-block, Begins-at, Can-fill, Filled, Tallies, Tally, Names-all, Can-name, Linked-all, Named-once, chains-for, Highest};
-
 use uses::Index;
 use uses::Span;
 use uses::Use;
@@ -229,7 +228,11 @@ fn chains_for(list: &[u16], i: usize, o: usize) -> usize
     requires { ⌜ (uses-from ≤ length (now list)) × (i < most-entries) ⌝ }
     ensures { λ r. ⌜ (r ≡ chains-for (now (list .entry)) i o) ⌝ }
 {
-    if (list[HIGHEST + i] as usize) < o { 0 } else { 3 }
+    if (list[HIGHEST + i] as usize) < o {
+        0
+    } else {
+        3
+    }
 }
 
 // One above the number of the use that names entry i in occurrence o.
@@ -357,17 +360,7 @@ pub fn named(
     let end = chains_for(list, i, o);
     let mut x = 0;
     while x < end {
-        all = named_in(
-            kept,
-            list,
-            stage,
-            chain_at(x, i, o),
-            i,
-            o,
-            size,
-            by,
-            all,
-        );
+        all = named_in(kept, list, stage, chain_at(x, i, o), i, o, size, by, all);
         x += 1;
     }
     Naming {

@@ -1,5 +1,5 @@
 -- `assignments::chain_at` meets its contract: the number of the chain tells which of the three it is.
-use mathlib.Core.Path.{sym, _∙_}
+use mathlib.Core.Path.{_∙_}
 use native.Mathlib.Omega.{arith}
 use Rattle.assignments.proofs.Searching.{chain-first, chain-second, chain-third, cell-head}
 use borrow.Author.Needs.{needs}

@@ -3,10 +3,8 @@ use mathlib.Core.Path.{_≡_, refl, _∙_}
 use Prim.Native.Nat.{_+_, _-_, _≤_, suc}
 use native.Mathlib.Omega.{arith}
 use lib.ListN.{length, length-set}
-use Rattle.rules.specs.Values.{Format}
 use Rattle.tables.specs.Groups.{field-at}
 use Rattle.assignments.proofs.Filling.{Fills, Value-next, fills-start, fills-next, fills-on, fills-end, next-within, next-ends}
-use borrow.Author.Needs.{needs}
 use Rattle.assignments.proofs.fill.Statement.{statement}
 use Rattle.assignments.proofs.fill.Tie as tie
 
@@ -73,8 +71,7 @@ loop-again c =
     let t = c .before in
     let l = t .before .before in
     let s = start l in
-    let a = s .args in
-    (
+    let a = s .args in (
       length-set (l .loop .by) (l .loop .k) (l .loop .p + 1) ∙ l .loop .inv .0,
       omega (arith, l .loop .inv .1),
       fills-on (a .stage .now) (a .at) (a .s) (a .size) (a .by .now) (l .loop .by) (l .loop .p) (l .loop .k) (l .loop .inv .2) (t .if1 .taken) (l .loop .inv .1)

@@ -47,8 +47,7 @@ loop-again c =
     let v = highest-noted (a .list .now) (l .loop .i) in
     let e : c .if1 .highest ≡ max (l .loop .highest) v =
     higher (l .loop .highest) v (c .if1 .highest) (⊎-elim (λ u. inl (u .0 .taken, u .1)) (λ u. inr (u .0 .left, u .1)) (c .if1 .came)) in
-    let m = highest-small (s .pre .1 .5) (l .loop .i) (omega (arith, s .pre .1 .6)) in
-    (
+    let m = highest-small (s .pre .1 .5) (l .loop .i) (omega (arith, s .pre .1 .6)) in (
       omega (arith, l .loop .inv .0),
       omega arith,
       climb-on (highest-noted (a .list .now)) (a .first) (a .end) (l .loop .highest) (l .loop .i) (l .loop .inv .2) (c .if1 .highest) h e,
@@ -57,8 +56,7 @@ loop-again c =
 returns : tie.Need-returns Inv-loop μ-loop
 returns c =
     let l = c .before in
-    let a = l .before .args in
-    (
+    let a = l .before .args in (
       (λ es f count stage ws x p e k. climb-end (highest-noted (a .list .now)) (a .first) (a .end) (l .loop .highest) (l .loop .i) (l .loop .inv .2) (c .loop-test .left)
           ∙ highest-named x (a .first) (a .end) (l .before .pre .0) k p e),
       l .loop .inv .0,

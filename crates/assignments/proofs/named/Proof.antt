@@ -1,6 +1,6 @@
 -- `assignments::named` meets its contract: the chains of the cell are gone over one after the other, and what they were tallied to is what is named.
-use mathlib.Core.Path.{_≡_, refl, _∙_}
-use Prim.Native.Nat.{_+_, _-_, _≤_}
+use mathlib.Core.Path.{_≡_, refl}
+use Prim.Native.Nat.{_-_, _≤_}
 use native.Mathlib.Omega.{arith}
 use Rattle.assignments.specs.Answers.{chains-for}
 use Rattle.assignments.proofs.Tallying.{Counting, counting-start, counting-on, counting-end, bare-none, bare-some}
@@ -45,8 +45,7 @@ loop-again : tie.Need-loop-again Inv-loop μ-loop
 loop-again c =
     let n = c .before .before in
     let l = n .before .before in
-    let a = start l .args in
-    (
+    let a = start l .args in (
       omega (arith, n .before .loop-test .taken),
       counting-on (a .kept .now) (a .list .now) (a .stage .now) (a .i) (a .o) (a .size) (l .loop .by) (l .loop .all) (l .loop .x) (n .chain-at .result) (l .loop .inv .1) (n .chain-at .ensures .0) _ (c .named-in .result) (c .named-in .ensures),
     )

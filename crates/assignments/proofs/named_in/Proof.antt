@@ -1,15 +1,14 @@
 -- `assignments::named_in` meets its contract: the uses of the chain that were gone over are tallied, and with those that are left they are the whole.
-use mathlib.Core.Path.{_≡_, sym, subst, _∙_}
-use mathlib.Core.Bool.{Bool, true}
-use mathlib.Core.List.{List, []}
+use mathlib.Core.Path.{_≡_, sym, _∙_}
+use mathlib.Core.Bool.{true}
+use mathlib.Core.List.{[]}
 use mathlib.Core.Logic.{inl, inr, ⊎-elim}
-use Prim.Native.Nat.{ℕ, _+_, _-_, _*_}
+use Prim.Native.Nat.{_+_, _-_, _*_}
 use native.Mathlib.Omega.{arith}
 use lib.ListN.{length}
 use Rattle.rules.specs.Limits.{highest-index}
 use Rattle.uses.specs.Kept.{numbers-kept, span-at}
 use Rattle.assignments.specs.Notes.{note-place, next-noted, names-cell}
-use Rattle.assignments.specs.Answers.{Can-fill}
 use Rattle.assignments.proofs.Searching.{turns-left, Room, Walk, walk-room, walk-falls, higher}
 use Rattle.assignments.proofs.Tallying.{Tallying, naming, walk-named, walk-fills, tallying-start, tallying-end, turn-in, turn-out, bare-other, bare-still, naming-as}
 use borrow.Author.Needs.{needs}

@@ -1,5 +1,5 @@
 -- `assignments::names` meets its contract: the occurrence and the entry lie within those of the span.
-use mathlib.Core.Path.{sym, _∙_}
+use mathlib.Core.Path.{_∙_}
 use Rattle.assignments.proofs.Searching.{names-as, before-from, after-upto, before-first, in-span}
 use borrow.Author.Needs.{needs}
 use Rattle.assignments.proofs.names.Statement.{statement}

@@ -1,8 +1,7 @@
 -- `assignments::use_of` meets its contract: a use that names the cell is in one of its chains, and those that were searched have none.
-use mathlib.Core.Path.{sym, subst, _∙_}
-use Prim.Native.Nat.{ℕ, _+_, _-_, _≤_}
+use mathlib.Core.Path.{subst}
+use Prim.Native.Nat.{ℕ, _-_, _≤_}
 use native.Mathlib.Omega.{arith}
-use Rattle.assignments.specs.Answers.{chains-for}
 use Rattle.assignments.proofs.Searching.{Searched, searched-start, searched-found, searched-on, searched-end}
 use borrow.Author.Needs.{needs}
 use Rattle.assignments.proofs.use_of.Statement.{statement}
