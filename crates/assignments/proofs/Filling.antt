@@ -21,7 +21,7 @@ use Rattle.rules.specs.Update.{Assignment}
 use Rattle.rules.proofs.Steps.{by-test, done-inj}
 use Rattle.rules.proofs.Back.{All}
 use Rattle.rules.proofs.Readers.{value-sound}
-use Rattle.tables.specs.Entries.{blank, is-group, size-of}
+use Rattle.tables.specs.Entries.{blank, is-group, is-multiple, size-of}
 use Rattle.tables.specs.Groups.{field-by, field-at}
 use Rattle.records.specs.Walk.{rest-of, Ends, Behind}
 use Rattle.uses.specs.Kept.{numbers-kept, span-at, use-at}
@@ -309,3 +309,23 @@ module _ {es : List Entry} {f : Bytes} {kept : List ℕ} {count : ℕ} {list : L
   none-takes n d e =
       let q : Found-in kept count (λ m. true) i o 0 = subst (λ (m : ℕ). Found-in kept count (λ k. true) i o m) e d in
       none-assigned ix i o 1 h g (λ m l. q m l refl)
+
+-- A field that is not MU has value 1 alone.
+multiple-by : (n : ℕ) (w : What) → is-group w ≡ false → is-multiple w ≡ false → field-by n w .multiple ≡ false
+unfolding field-by
+multiple-by n (field f s m) e d = d
+multiple-by n (group p) e d = absurd (true≢false e)
+
+pub one-value : {es : List Entry} {f : Bytes} {kept : List ℕ} {count : ℕ} {list : List ℕ} {stage : Bytes} {ws : List Assignment} {n i o size : ℕ}
+    → Named-by es f kept count list stage ws n i o size → is-multiple (getD es i blank .what) ≡ false → span-at kept (numbers-kept * n) .«value_from» ≡ 1
+unfolding field-at
+one-value {es} {kept = kept} {n = n} {i = i} b d =
+    let s : Span = span-at kept (numbers-kept * n) in
+    let g = block-span b in
+    let p = block-inside b in
+    by-test (s .standard)
+    (λ e. g .once e .0)
+    (λ e.
+    let one = g .alone e in
+    let same : i ≡ s .first = omega (arith, one .next, p .2, p .3) in
+    one .value (ap (λ (j : ℕ). field-by (getD es j blank .name) (getD es j blank .what) .multiple) (sym same) ∙ multiple-by (getD es i blank .name) (getD es i blank .what) (b .field) d) .0)

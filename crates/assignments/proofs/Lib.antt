@@ -3,6 +3,7 @@ pub mod Tabled
 pub mod Heights
 pub mod UseNames
 pub mod Giving
+pub mod Occurring
 pub mod Blocks
 pub mod Cells
 pub mod Setting

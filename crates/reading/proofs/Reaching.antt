@@ -142,7 +142,7 @@ module _ (t : Bytes) (v : Valid t) where
       occurrences = ordered;
       values = held .values;
       single = held .single;
-      alone = λ e. let x = held .alone e in record { next = x .next; field = x .field; format = x .format; allowed = x .allowed; converts = x .converts };
+      alone = λ e. let x = held .alone e in record { next = x .next; field = x .field; format = x .format; allowed = x .allowed; converts = x .converts; value = x .value };
       only = λ j low high out. absurd (false≢true (sym out ∙ span-home j low high .inside));
       begins = held .begins;
       once = held .once;

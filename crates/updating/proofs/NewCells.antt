@@ -1,7 +1,7 @@
 -- A cell of the new record, by the numbers that the code has of its entry: each value is what is assigned to it, or what the cell had, or null.
-use mathlib.Core.Path.{_≡_, refl, sym, _∙_, ap}
+use mathlib.Core.Path.{_≡_, refl, sym, _∙_, ap, subst}
 use mathlib.Core.Bool.{Bool, true, false, false≢true}
-use mathlib.Core.List.{List, _++_}
+use mathlib.Core.List.{List, _∷_, _++_}
 use mathlib.Core.Option.{Option}
 use Prim.Native.Nat.{ℕ, zero, suc, pred, max, _+_, _≤_, _<_}
 use native.Mathlib.Omega.{arith}
@@ -9,11 +9,14 @@ use lib.ListN.{length, drop, getD, replicate}
 use Rattle.rules.specs.Limits.{formats, highest-index, greatest-count}
 use Rattle.rules.specs.Lists.{Bytes, join, run}
 use Rattle.rules.specs.Values.{allowed, null}
-use Rattle.rules.specs.Table.{Entry, parts}
+use Rattle.rules.specs.Outcome.{done}
+use Rattle.rules.specs.Table.{Field, Entry, parts}
 use Rattle.rules.specs.Use.{Place}
 use Rattle.rules.specs.Record.{Record, count-or-one, counted, stored-value, stored-cell, count-bytes, values-at, value-at, value-count-at}
-use Rattle.rules.specs.Update.{Assignment, assigned, new-value, new-value-count, update-plan}
+use Rattle.rules.specs.Update.{Assignment, assigned, to-field, bare-only, highest-value, new-value, new-value-count, update-plan}
 use Rattle.rules.proofs.Steps.{by-option}
+use Rattle.rules.proofs.Back.{All}
+use Rattle.rules.proofs.Alls.{all-parts}
 use Rattle.value_formats.specs.Formats.{format-at}
 use Rattle.value_formats.proofs.Letters.{number-back}
 use Rattle.tables.specs.Entries.{Valid, entries-of, blank, decoded, is-group, is-multiple}
@@ -25,11 +28,12 @@ use Rattle.records.specs.declared.places.Cell.{Cell}
 use Rattle.records.specs.declared.places.Cell.the-variants.{At, Nothing}
 use Rattle.records.proofs.Cells.{counted-once}
 use Rattle.records.proofs.Placed.{by-field, field-is, cell-numbers}
-use Rattle.assignments.specs.Notes.{place-at}
-use Rattle.assignments.specs.Answers.{Names, bytes-noted}
+use Rattle.assignments.specs.Notes.{place-at, Takes-at, Indexed}
+use Rattle.assignments.specs.Answers.{Names, Reads-back}
 use Rattle.assignments.specs.declared.Naming.{Naming}
+use Rattle.assignments.proofs.Giving.{all-read-back, read-there}
 use Rattle.updating.specs.Laid.{values-laid, cell-laid}
-use Rattle.updating.specs.New.{Assigns, Was, Had, taken, new-values}
+use Rattle.updating.specs.New.{Was, Stands, Had, taken, new-values}
 use Rattle.updating.proofs.Turns.{plain-cell, multiple-cell}
 
 -- A stored count is an index, and an index can be a count.
@@ -101,35 +105,45 @@ module _ (es : List Entry) (i : ℕ) (what : is-group (getD es i blank .what) �
         multiple-had (At q) x = (x .0, x .1, rw multiple at (sym (cell-read (drop q b)) ∙ x .2))
         multiple-had Nothing x = x
 
-        module _ (list : List ℕ) (stage : Bytes) (ws : List Assignment) (by : List ℕ) (named : Naming) (names : Names es list stage ws i o by named) where
+        module _ (ws : List Assignment) where
           counted-new : update-plan (parts es) r ws .values (field-at es i) o ≡ new-value-count ws (getD es i blank .name) o (length (values-had es i r o))
           unfolding update-plan value-count-at count-or-one
           counted-new = rw (field-numbers, multiple) refl
 
-          -- By bare names only the count is the number of names, which is the highest value.
-          pub count-bare : Assigns es kept list stage ws → named .bare ≡ true → update-plan (parts es) r ws .values (field-at es i) o ≡ named .highest
-          unfolding new-value-count
-          count-bare a t =
-              let t₂ = sym (names .bare) ∙ t in
-              counted-new ∙ rw (t₂, new-value-count) (a .bare (getD es i blank .name) o t₂ ∙ sym (names .highest))
+          module _ (by : List ℕ) (named : Naming) (names : Names es ws i o by named) where
+            -- By bare names only the count is the number of names, which is the highest value.
+            pub count-bare : ((n i : ℕ) → bare-only (to-field ws n i) ≡ true → length (to-field ws n i) ≡ highest-value ws n i) → named .bare ≡ true
+                → update-plan (parts es) r ws .values (field-at es i) o ≡ named .highest
+            unfolding new-value-count
+            count-bare a t =
+                let t₂ = sym (names .bare) ∙ t in
+                counted-new ∙ rw (t₂, new-value-count) (a (getD es i blank .name) o t₂ ∙ sym (names .highest))
 
-          pub count-larger : named .bare ≡ false → update-plan (parts es) r ws .values (field-at es i) o ≡ max (length (values-had es i r o)) (named .highest)
-          unfolding new-value-count
-          count-larger t = let t₂ = sym (names .bare) ∙ t in counted-new ∙ rw (t₂, new-value-count, names .highest) refl
+            pub count-larger : named .bare ≡ false → update-plan (parts es) r ws .values (field-at es i) o ≡ max (length (values-had es i r o)) (named .highest)
+            unfolding new-value-count
+            count-larger t = let t₂ = sym (names .bare) ∙ t in counted-new ∙ rw (t₂, new-value-count, names .highest) refl
 
-          value-new : (k : ℕ) → k ≤ highest-index
-              → update-plan (parts es) r ws .value (field-at es i) o k ≡ taken (bytes-noted es list stage (getD by k 0)) (getD (values-had es i r o) (pred k) (null-of e))
+          value-new : (k : ℕ) → update-plan (parts es) r ws .value (field-at es i) o k ≡ taken (assigned ws (place-at es i o k)) (getD (values-had es i r o) (pred k) (null-of e))
           unfolding update-plan
-          value-new k h =
-              new-taken ws (value-at (parts es) r (field-at es i) o k) (place-at es i o k) ∙ ap (taken (assigned ws (place-at es i o k))) (old-value k)
-              ∙ ap (λ (x : Option Bytes). taken x (getD (values-had es i r o) (pred k) (null-of e))) (names .each k h)
+          value-new k = new-taken ws (value-at (parts es) r (field-at es i) o k) (place-at es i o k) ∙ ap (taken (assigned ws (place-at es i o k))) (old-value k)
 
-          values-new : (k n : ℕ) → k + n ≤ suc highest-index
-              → values-laid (update-plan (parts es) r ws) (field-at es i) o k n ≡ new-values es list stage by (format-at (e .format)) (e .size) (values-had es i r o) k n
+          values-new : (k n : ℕ) → values-laid (update-plan (parts es) r ws) (field-at es i) o k n
+              ≡ new-values (λ j. assigned ws (place-at es i o j)) (format-at (e .format)) (e .size) (values-had es i r o) k n
           unfolding values-laid new-values run join
-          values-new k zero h = refl
-          values-new k (suc n) h = rw (value-new k (omega arith), values-new (suc k) n (omega arith)) refl
+          values-new k zero = refl
+          values-new k (suc n) = rw (value-new k, values-new (suc k) n) refl
 
-          pub multiple-laid : (n : ℕ) → update-plan (parts es) r ws .values (field-at es i) o ≡ n → n ≤ highest-index
-              → cell-laid (update-plan (parts es) r ws) o (field-at es i) ≡ count-bytes n ++ new-values es list stage by (format-at (e .format)) (e .size) (values-had es i r o) 1 n
-          multiple-laid n c h = multiple-cell (update-plan (parts es) r ws) o (field-at es i) (rw field-numbers multiple) ∙ rw (c, values-new 1 n (omega arith)) refl
+          pub multiple-laid : (n : ℕ) → update-plan (parts es) r ws .values (field-at es i) o ≡ n
+              → cell-laid (update-plan (parts es) r ws) o (field-at es i) ≡ count-bytes n ++ new-values (λ j. assigned ws (place-at es i o j)) (format-at (e .format)) (e .size) (values-had es i r o) 1 n
+          multiple-laid n c = multiple-cell (update-plan (parts es) r ws) o (field-at es i) (rw field-numbers multiple) ∙ rw (c, values-new 1 n) refl
+
+  -- What a value takes stands on the stage at the field's own format and length.
+  pub takes-stands : {f : Bytes} {kept : List ℕ} {count : ℕ} {list : List ℕ} {stage : Bytes} {ws : List Assignment} → Indexed es f kept count list stage ws → (o k m : ℕ)
+      → Takes-at ws (place-at es i o k) m → Stands stage (format-at (e .format)) (e .size) (assigned ws (place-at es i o k)) m
+  takes-stands x o k zero t = t
+  takes-stands {stage = stage} {ws = ws} x o k (suc p) (a, s, q, w) =
+      let l = x .listed in
+      let b = all-parts Reads-back (s .before) (a ∷ s .after) (subst (All Reads-back) (s .is) (all-read-back l)) .1 .0 in
+      let z : a .place .field ≡ record { name = getD es i blank .name; format = format-at (e .format); size = e .size; multiple = is-multiple (getD es i blank .what) } = ap (λ (u : Place). u .field) q ∙ field-numbers in
+      let (h, rest, r) = read-there (l .stands) s b in
+      (a .bytes, w, (h, rest, subst (λ (g : Field). stored-value (g .format) (g .size) (drop p stage) ≡ done (a .bytes, rest)) z r))

@@ -3,6 +3,7 @@
 use mathlib.Core.Path.{_≡_, refl, sym, _∙_, subst}
 use mathlib.Core.Bool.{true}
 use mathlib.Core.List.{List, [], _∷_, _++_}
+use mathlib.Core.Option.{Option}
 use Prim.Native.Nat.{ℕ, suc, _+_, _-_, _≤_, _<_}
 use native.Mathlib.Nat.{sub-zero}
 use native.Mathlib.Omega.{arith}
@@ -11,13 +12,11 @@ use lib.Seq.{drop-cons}
 use Rattle.rules.specs.Outcome.{done}
 use Rattle.rules.specs.Lists.{Bytes, join, run}
 use Rattle.rules.specs.Values.{Format, null}
-use Rattle.rules.specs.Table.{Entry}
 use Rattle.rules.specs.Record.{times, stored-value}
 use Rattle.rules.specs.declared.Refusal.{Refusal}
 use Rattle.records.specs.Walk.{rest-of, Behind}
 use Rattle.records.specs.declared.places.Cell.the-variants as cell
 use Rattle.records.proofs.Cells.{times-first}
-use Rattle.assignments.specs.Answers.{bytes-noted}
 use Rattle.filling.specs.Filling.{in-room, Filling, Continues}
 use Rattle.filling.specs.declared.Next.{Next}
 use Rattle.filling.specs.declared.Next.the-variants.{At, Refused}
@@ -28,15 +27,15 @@ use Rattle.updating.proofs.OldValues.{was-within, was-rest}
 use Rattle.updating.proofs.InRoom.{run-within, run-on, run-off, runs-end}
 
 -- The value after the first j: what it was and what it is; and the values from there on.
-module _ (es : List Entry) (list : List ℕ) (stage : Bytes) (by : List ℕ) (f : Format) (size : ℕ) (vs : List Bytes) where
+module _ (given : ℕ → Option Bytes) (f : Format) (size : ℕ) (vs : List Bytes) where
   abbrev old-at : ℕ → Bytes
   old-at j = getD vs j (null f size)
 
   abbrev new-at : ℕ → Bytes
-  new-at j = taken (bytes-noted es list stage (getD by (suc j) 0)) (old-at j)
+  new-at j = taken (given (suc j)) (old-at j)
 
   abbrev left-from : ℕ → ℕ → Bytes
-  left-from n j = new-values es list stage by f size vs (suc j) (n - j)
+  left-from n j = new-values given f size vs (suc j) (n - j)
 
   left-first : (n j : ℕ) → j < n → left-from n j ≡ new-at j ++ left-from n (suc j)
   unfolding new-values run join
@@ -53,7 +52,7 @@ module _ (es : List Entry) (list : List ℕ) (stage : Bytes) (by : List ℕ) (f 
     pub were : Were b f size q (run .count - put) (drop put vs)
     pub fits : at ≤ end
     pub room : end ≤ length out
-    pub continues : Continues (in-room (end - start) (done (new-values es list stage by f size vs 1 n))) (in-room (end - at) (done (left-from n put))) start at true out₀ out
+    pub continues : Continues (in-room (end - start) (done (new-values given f size vs 1 n))) (in-room (end - at) (done (left-from n put))) start at true out₀ out
 
   pub putting-start : (b : Bytes) (run : Run) → Old b f size vs run → (n end at : ℕ) (out : Bytes) → at ≤ end → end ≤ length out → Putting b run n end at 1 (run .from) at out out
   putting-start b run x n end at out h h₂ = record {
@@ -62,7 +61,7 @@ module _ (es : List Entry) (list : List ℕ) (stage : Bytes) (by : List ℕ) (f 
     were = subst (λ (m : ℕ). Were b f size (run .from) m vs) (sym (sub-zero (run .count))) (x .were);
     fits = h;
     room = h₂;
-    continues = subst (λ (m : ℕ). Continues (in-room (end - at) (done (new-values es list stage by f size vs 1 n))) (in-room (end - at) (done (new-values es list stage by f size vs 1 m))) at at true out out) (sym (sub-zero n)) (continues-start (in-room (end - at) (done (new-values es list stage by f size vs 1 n))) at true out);
+    continues = subst (λ (m : ℕ). Continues (in-room (end - at) (done (new-values given f size vs 1 n))) (in-room (end - at) (done (new-values given f size vs 1 m))) at at true out out) (sym (sub-zero n)) (continues-start (in-room (end - at) (done (new-values given f size vs 1 n))) at true out);
   }
 
   -- The next value: it stands at q where the field had it, and else it is null.
@@ -101,8 +100,8 @@ module _ (es : List Entry) (list : List ℕ) (stage : Bytes) (by : List ℕ) (f 
 
   -- A turn that puts the next value, and a stop at it.
   module _ {b : Bytes} {run : Run} {n end start k q at : ℕ} {out₀ out out′ : Bytes} {m : Next} (g : Putting b run n end start k q at out₀ out) (more : k ≤ n)
-      (p : Filling (in-room (end - at) (done (taken (bytes-noted es list stage (getD by k 0)) (old-at (g .put))))) at true out out′ m) where
-    begun : Continues (in-room (end - start) (done (new-values es list stage by f size vs 1 n))) (in-room (end - at) (done (new-at (g .put) ++ left-from n (suc (g .put))))) start at true out₀ out
+      (p : Filling (in-room (end - at) (done (taken (given k) (old-at (g .put))))) at true out out′ m) where
+    begun : Continues (in-room (end - start) (done (new-values given f size vs 1 n))) (in-room (end - at) (done (new-at (g .put) ++ left-from n (suc (g .put))))) start at true out₀ out
     begun = rw (← left-first n (g .put) (omega (arith, g .next))) (g .continues)
 
     filled : Filling (in-room (end - at) (done (new-at (g .put)))) at true out out′ m
@@ -121,9 +120,9 @@ module _ (es : List Entry) (list : List ℕ) (stage : Bytes) (by : List ℕ) (f 
           continues = t;
         }
 
-    pub putting-off : (r : Refusal) → m ≡ Refused r → Filling (in-room (end - start) (done (new-values es list stage by f size vs 1 n))) start true out₀ out′ (Refused r)
+    pub putting-off : (r : Refusal) → m ≡ Refused r → Filling (in-room (end - start) (done (new-values given f size vs 1 n))) start true out₀ out′ (Refused r)
     putting-off r e = run-off end (new-at (g .put)) (left-from n (suc (g .put))) begun filled (g .fits) (g .room) r e
 
   pub putting-end : {b : Bytes} {run : Run} {n end start k q at : ℕ} {out₀ out : Bytes} → Putting b run n end start k q at out₀ out → n < k
-      → Filling (in-room (end - start) (done (new-values es list stage by f size vs 1 n))) start true out₀ out (At at)
+      → Filling (in-room (end - start) (done (new-values given f size vs 1 n))) start true out₀ out (At at)
   putting-end {n = n} {end} {at = at} g h = runs-end (end - at) (g .continues) (left-none n (g .put) (omega (arith, g .next)))

@@ -2,6 +2,7 @@
 use mathlib.Core.Path.{_≡_, refl, sym, _∙_, ap, subst}
 use mathlib.Core.Bool.{Bool}
 use mathlib.Core.List.{List, [], _∷_, _++_, append-nil}
+use mathlib.Core.Option.{Option, none, some}
 use Prim.Native.Nat.{ℕ, zero, suc, _+_, _-_, _≤_, _<_}
 use native.Mathlib.Nat.{sub-zero, suc-sub-suc, zero-sub}
 use native.Mathlib.Numerals.{add-one}
@@ -20,7 +21,7 @@ use Rattle.records.specs.declared.places.Cell.the-variants.{At, Nothing}
 use Rattle.records.proofs.Cells.{counted-many, byte-there}
 use Rattle.filling.specs.Filling.{in-room, Filling}
 use Rattle.filling.specs.declared.Next.{Next}
-use Rattle.updating.specs.New.{Was, Had, Old}
+use Rattle.updating.specs.New.{Was, Stands, Had, Old}
 
 -- The same bytes, said otherwise.
 pub filling-as : (room : ℕ) {at : ℕ} {write : Bool} {out out′ x y : Bytes} {r : Next} → Filling (in-room room (done x)) at write out out′ r → x ≡ y → Filling (in-room room (done y)) at write out out′ r
@@ -89,3 +90,12 @@ module _ (b : Bytes) (f : Format) (n : ℕ) (vs : List Bytes) where
   pub had-none : Had b f n vs Nothing → Old b f n vs (record { from = 0; count = 0 })
   unfolding times
   had-none x = record { were = (omega arith, b, ap (λ (us : List Bytes). done (us, b)) (sym x)); many = sym (ap length x); most = omega arith }
+
+-- What stands on the stage, by one above its place.
+pub stands-there : (stage : Bytes) (f : Format) (n : ℕ) (o : Option Bytes) (m : ℕ) → Stands stage f n o m → 0 < m → (v : Bytes) × (o ≡ some v) × Was stage f n v (At (m - 1))
+stands-there stage f n o zero t h = absurd (omega arith)
+stands-there stage f n o (suc p) (v, e, w) h = let z : p ≡ suc p - 1 = omega arith in (v, e, subst (λ (q : ℕ). Was stage f n v (At q)) z w)
+
+pub stands-none : (stage : Bytes) (f : Format) (n : ℕ) (o : Option Bytes) (m : ℕ) → Stands stage f n o m → m ≤ 0 → o ≡ none
+stands-none stage f n o zero t h = t
+stands-none stage f n o (suc p) t h = absurd (omega arith)

@@ -15,8 +15,8 @@ use Rattle.rules.specs.Use.{Place}
 use Rattle.rules.specs.Update.{Assignment, same-place, assigned, to-field, to-part, bare-only, highest-value, highest-occurrence, new-value-count, new-group-count, new-value, update-plan}
 use Rattle.rules.proofs.Steps.{by-test, and-left, true-T}
 use Rattle.rules.proofs.Back.{All}
-use Rattle.rules.proofs.Alls.{all-run}
-use Rattle.assignments.specs.Notes.{noted, Listed}
+use Rattle.assignments.specs.Notes.{Listed}
+use Rattle.assignments.proofs.Occurring.{all-occur}
 
 -- A run that has each element of a list is that list.
 pub run-is : {X : Type 0} (xs : List X) (d : X) (s : ℕ) (g : ℕ → X) → ((j : ℕ) → j < length xs → g (s + j) ≡ getD xs j d) → run g s (length xs) ≡ xs
@@ -59,10 +59,9 @@ none-above (w ∷ ws) p a e = by-test (absent (member (w .place .field .name) (p
     (λ t. rw (t, filter) (none-above ws p (a .1) (rw (t, filter) at e)))
     (λ t. absurd (let z = rw (t, filter) at e in omega (arith, z, a .0)))
 
-pub none-named : {es : List Entry} {list : List ℕ} {stage : Bytes} {staged : ℕ} {ws : List Assignment} → Listed es list stage staged ws → (p : Part) → highest-occurrence ws p ≡ 0 → to-part ws p ≡ []
-unfolding noted
-none-named {es} {list} {stage} {ws = ws} l p e =
-    none-above ws p (subst (All Occurs) (sym (l .notes)) (all-run Occurs (noted es list stage) 0 (length ws) (λ m z h. l .good m (omega arith) .occurrence .0))) e
+pub none-named : {es : List Entry} {f : Bytes} {kept : List ℕ} {count : ℕ} {list : List ℕ} {stage : Bytes} {ws : List Assignment} → Listed es f kept count list stage ws
+    → (p : Part) → highest-occurrence ws p ≡ 0 → to-part ws p ≡ []
+none-named {ws = ws} l p e = none-above ws p (all-occur l) e
 
 -- The counts of what is not named.
 kept-count : (ws : List Assignment) (n i old : ℕ) → to-field ws n i ≡ [] → new-value-count ws n i old ≡ old

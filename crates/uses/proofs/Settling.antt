@@ -187,7 +187,14 @@ module _ (es : List Entry) (i last : ℕ) (n : Named) (h : i < length es) (g : i
             occurrences = T-true _ (o .0);
             values = T-true _ (o .1);
             single = λ e. absurd (false≢true e);
-            alone = λ e. record { next = refl; field = g; format = b; allowed = a .0; converts = a .1 };
+            alone = λ e. record {
+              next = refl;
+              field = g;
+              format = b;
+              allowed = a .0;
+              converts = a .1;
+              value = λ m. let v = value-one (inside-at es i) last (occurrences n) (bracket n) _ (rw m at (sym p)) in (ap (λ (x : Range). x .from) v, ap (λ (x : Range). x .upto) v);
+            };
             only = λ j low high e. let z : j ≡ i = omega arith in upto-one (inside-at es i) (field-at es i .multiple) last (occurrences n) (bracket n) _ (sym p) (rw z at e);
             begins = field-periodic (getD es i blank .what) g;
             once = λ e. absurd (false≢true e);

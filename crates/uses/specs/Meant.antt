@@ -62,6 +62,8 @@ pub record One-field (es : List Entry) (s : Span) : Type 0 where
   pub format : s .format < formats
   pub allowed : allowed (format-at (s .format)) (s .size) ≡ true
   pub converts : converts (field-at es (s .first) .format) (format-at (s .format)) ≡ true
+  -- A field that is not MU has value 1 alone.
+  pub value : field-at es (s .first) .multiple ≡ false → (s .«value_from» ≡ 1) × (s .«value_upto» ≡ 1)
 
 -- What is known of a span, beside what it means: its entries and indexes lie in their bounds, and fields at their standard are not MU.
 pub record Good-span (es : List Entry) (s : Span) : Type 0 where

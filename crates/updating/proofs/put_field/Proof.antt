@@ -42,7 +42,7 @@ old c z r ws p a =
     let es = entries-of t in
     let i = s .args .i in
     field-kept t (s .pre .0) p a i (s .pre .1) (s .pre .2) (s .pre .3)
-    (sym (c .highest-occurrence .ensures .0 es (s .args .stage .now) (a .staged) ws (a .indexed) (true-T (valid-names t (s .pre .0))) (alone (field-at es i))
+    (sym (c .highest-occurrence .ensures .0 es (a .format) (a .count) (s .args .stage .now) ws (a .indexed) (alone (field-at es i))
     (alone-fields es i (s .pre .1) (s .pre .2)) (omega (arith, s .pre .1))) ∙ z)
 
 add-highest-occurrence : tie.Need-add-highest-occurrence
@@ -52,7 +52,7 @@ highest-occurrence-requires : tie.Need-highest-occurrence-requires
 highest-occurrence-requires c κs =
     let s = c .before .before .before .before .before in
     let (ws, a) = s .pre .4 .1 in
-    ((entries-of (s .args .t .now), s .args .stage .now, a .staged, ws, a .indexed), omega (arith, s .pre .1, valid-most (s .args .t .now) (s .pre .0)))
+    (omega arith, (entries-of (s .args .t .now), a .format, a .count, s .args .stage .now, ws, a .indexed, omega (arith, s .pre .1)), ?)
 
 add-put-kept : tie.Need-add-put-kept
 add-put-kept c = let s = start (c .before) in omega (arith, s .pre .1, valid-most (s .args .t .now) (s .pre .0))

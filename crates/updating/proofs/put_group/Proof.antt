@@ -51,7 +51,7 @@ old c z r ws p a =
     let name = getD es g blank .name in
     subst (λ (n : ℕ). Between es (s .args .b .now) g n (adds c r ws)) (sym (c .before .group-end .ensures))
     (group-kept t (s .pre .0) p a g (s .pre .1) (s .pre .2)
-    (sym (c .highest-occurrence .ensures .0 es (s .args .stage .now) (a .staged) ws (a .indexed) (true-T (valid-names t (s .pre .0))) (group-part name (drop (g + 1) es))
+    (sym (c .highest-occurrence .ensures .0 es (a .format) (a .count) (s .args .stage .now) ws (a .indexed) (group-part name (drop (g + 1) es))
     (group-members t (s .pre .0) g (s .pre .1) (s .pre .2) _ (c .before .group-end .ensures)) (ends c .1)) ∙ z))
 
 group-end-requires : tie.Need-group-end-requires
@@ -65,7 +65,7 @@ highest-occurrence-requires c κs =
     let s = c .before .before .before .before .before .before in
     let es = entries-of (s .args .t .now) in
     let (ws, a) = s .pre .3 .1 in
-    ((es, s .args .stage .now, a .staged, ws, a .indexed), omega (arith, c .group-end .ensures, group-within es (s .args .g) (s .pre .1) .1, valid-most (s .args .t .now) (s .pre .0)))
+    (omega (arith, c .group-end .ensures, group-within es (s .args .g) (s .pre .1) .0), (es, a .format, a .count, s .args .stage .now, ws, a .indexed, omega (arith, c .group-end .ensures, group-within es (s .args .g) (s .pre .1) .1)), ?)
 
 put-kept-requires : tie.Need-put-kept-requires
 put-kept-requires c κs =

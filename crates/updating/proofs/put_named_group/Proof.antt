@@ -68,7 +68,7 @@ count c r ws p a =
     let es = entries-of (s .args .t .now) in
     let name = getD es (s .args .g) blank .name in
     group-new (parts es) r ws name (drop (s .args .g + 1) es) _ _ _ (c .before .before .before .group-count .ensures .1 r p)
-    (c .before .highest-occurrence .ensures .0 es (s .args .stage .now) (a .staged) ws (a .indexed) (true-T (valid-names (s .args .t .now) (s .pre .0))) (group-part name (drop (s .args .g + 1) es)) (members c) (ends c)) (c .larger .ensures)
+    (c .before .highest-occurrence .ensures .0 es (a .format) (a .count) (s .args .stage .now) ws (a .indexed) (group-part name (drop (s .args .g + 1) es)) (members c) (ends c)) (c .larger .ensures)
 
 -- It is within the limits of counts and of indexes.
 most : (c : tie.After-larger) → (c .larger .result ≤ greatest-count) × (c .larger .result ≤ highest-index)
@@ -109,7 +109,7 @@ highest-occurrence-requires c κs =
     let s = c .before .before .before .before .before .before .before in
     let es = entries-of (s .args .t .now) in
     let (ws, a) = s .pre .3 .1 in
-    ((es, s .args .stage .now, a .staged, ws, a .indexed), omega (arith, c .group-end .ensures, group-within es (s .args .g) (s .pre .1) .1, valid-most (s .args .t .now) (s .pre .0)))
+    (omega (arith, c .group-end .ensures, group-within es (s .args .g) (s .pre .1) .0), (es, a .format, a .count, s .args .stage .now, ws, a .indexed, omega (arith, c .group-end .ensures, group-within es (s .args .g) (s .pre .1) .1)), ?)
 
 larger-requires : tie.Need-larger-requires
 larger-requires c κs = search needs
