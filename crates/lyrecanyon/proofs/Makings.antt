@@ -59,9 +59,9 @@ unfolding in-room
 room-off room k bs p = by-test (leb (length bs) room) (λ t. absurd (not-done (sym (rw t at p)))) (λ t. leb-false (length bs) room t)
 
 -- The record that was put, or did not find room.
-module _ (t : Bytes) (valid : Valid t) {b : Bytes} {places list : List ℕ} {stage entry exit : Bytes} {n : Next} (long : length entry ≡ longest-new-record)
-    (f : Puts (entries-of t) b places list stage (λ w r. record-head ++ laid-from w (group-count-at (parts (entries-of t)) r) false (entries-of t)) 0 longest-new-record entry exit n)
-    (r : Record) (ws : List Assignment) (held : Is-record (entries-of t) b places r) (a : Assigns (entries-of t) list stage ws) where
+module _ (t : Bytes) (valid : Valid t) {b : Bytes} {places kept list : List ℕ} {stage entry exit : Bytes} {n : Next} (long : length entry ≡ longest-new-record)
+    (f : Puts (entries-of t) b places kept list stage (λ w r. record-head ++ laid-from w (group-count-at (parts (entries-of t)) r) false (entries-of t)) 0 longest-new-record entry exit n)
+    (r : Record) (ws : List Assignment) (held : Is-record (entries-of t) b places r) (a : Assigns (entries-of t) kept list stage ws) where
   abbrev new : Bytes
   new = record-bytes (parts (entries-of t)) (after-update (parts (entries-of t)) r ws)
 
@@ -97,11 +97,11 @@ module _ (t : Bytes) (valid : Valid t) {f : Bytes} {kept : List ℕ} {n : ℕ} (
       let (xs, m) = meant-by (entries-of t) f us (apart .meant) in
       staged-beyond t (entries-of t) (tabled t valid) r xs us m (apart .once) buffer ws gives l longest-new-record
 
-  -- Else the list can be searched for the assignments.
-  pub assigns : {list : List ℕ} {stage : Bytes} (staged : ℕ) → Indexed (entries-of t) list stage staged ws → Assigns (entries-of t) list stage ws
-  assigns staged i =
+  -- Else they can be searched for.
+  pub assigns : {list : List ℕ} {stage : Bytes} → Indexed (entries-of t) f kept n list stage ws → Assigns (entries-of t) kept list stage ws
+  assigns i =
       let (xs, m) = meant-by (entries-of t) f us (apart .meant) in
-      record { staged = staged; indexed = i; bare = bare-numbers t (entries-of t) (tabled t valid) xs us m (apart .once) buffer ws gives }
+      record { format = f; count = n; indexed = i; bare = bare-numbers t (entries-of t) (tabled t valid) xs us m (apart .once) buffer ws gives }
 
 -- The record buffer up to its limit.
 pub take-least : (b : Bytes) (n : ℕ) → take (min (length b) n) b ≡ take n b

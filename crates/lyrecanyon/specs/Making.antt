@@ -2,9 +2,9 @@
 use mathlib.Core.Path.{_≡_}
 use mathlib.Core.Bool.{false}
 use mathlib.Core.List.{List}
-use Prim.Native.Nat.{ℕ, _*_, _≤_}
+use Prim.Native.Nat.{ℕ, _*_, _≤_, _<_}
 use lib.Dec.{leb}
-use lib.ListN.{length, take}
+use lib.ListN.{length, take, getD}
 use Rattle.rules.specs.Outcome.{Outcome, done, refused, _>>=_, need}
 use Rattle.rules.specs.Limits.{longest-new-record}
 use Rattle.rules.specs.Lists.{Bytes}
@@ -17,6 +17,7 @@ use Rattle.rules.specs.Services.{fitting}
 use Rattle.uses.specs.Meant.{uses-of}
 use Rattle.uses.specs.Kept.{numbers-kept, uses-kept, Good-uses}
 use Rattle.records.specs.Places.{Is-record}
+use Rattle.assignments.specs.Notes.{note-bound, note-place}
 use Rattle.lyrecanyon.specs.declared.Answer.{Answer}
 use Rattle.lyrecanyon.specs.declared.Answer.the-variants.{Done, Refused}
 
@@ -39,6 +40,12 @@ pub record Apart (es : List Entry) (f : Bytes) (kept : List ℕ) (n : ℕ) : Typ
   pub good : Good-uses es f kept n
   pub room : numbers-kept * n ≤ length kept
   pub once : named-twice (uses-kept es f kept n) ≡ false
+
+-- The list has room for so many uses, and nothing is noted in it yet.
+pub record Fresh (n : ℕ) (list : List ℕ) : Type 0 where
+  pub few : n < note-bound
+  pub room : note-place n ≤ length list
+  pub zeros : (j : ℕ) → getD list j 0 ≡ 0
 
 -- What the record buffer gives to them.
 abbrev pub given : List Entry → Bytes → List ℕ → ℕ → Bytes → Outcome (List Assignment)

@@ -1,7 +1,7 @@
 // The new record of an update, made in an array of its own.
 ghost use mathlib.Core.Path.{_≡_};
 ghost use mathlib.Core.List.{List};
-ghost use Prim.Native.Nat.{_*_, _≤_, min};
+ghost use Prim.Native.Nat.{ℕ, _*_, _≤_};
 ghost use lib.ListN.{length, take};
 ghost use Rattle.rules.specs.Limits.{longest-items, longest-new-record};
 ghost use Rattle.rules.specs.Lists.{Bytes};
@@ -10,12 +10,11 @@ ghost use Rattle.rules.specs.Services.{assignments-of};
 ghost use Rattle.rules.specs.Services as Rules;
 ghost use Rattle.tables.specs.Entries.{Valid, entries-of};
 ghost use Rattle.uses.specs.Kept.{numbers-kept, element-bytes};
-ghost use Rattle.assignments.specs.Notes.{note-place, Unindexed};
 ghost use Rattle.records.specs.Places.{Has-record};
 ghost use Rattle.updating.specs.New.{Has-both, Assigns};
 ghost use Rattle.rules.specs.Update.{Assignment};
 ghost use Rattle.lyrecanyon.specs.Answers.{Settled};
-ghost use Rattle.lyrecanyon.specs.Making.{Makes, Makes-new, Apart, given, in-lent};
+ghost use Rattle.lyrecanyon.specs.Making.{Makes, Makes-new, Apart, Fresh, given, in-lent};
 use crate::Answer;
 use crate::least;
 use filling::Next;
@@ -25,29 +24,28 @@ use taking::Taken;
 use uses::Index;
 use uses::kept::Decoded;
 
-// The longest of the formats whose uses, and of the record buffers whose assignments, are kept in the smaller areas: areas are cleared, and
-// most calls are short. An element takes three bytes of a format, and a value one byte of a record buffer, at least.
+// The longest of the formats whose uses are kept in the smaller areas: areas are cleared, and most calls are short. An element takes three
+// bytes of a format at least.
 const SHORT_FORMAT: usize = 96;
 
 const FEW_USES: usize = 32;
 
 const MOST_USES: usize = 683;
 
-const SHORT_BUFFER: usize = 64;
-
-// The record, by the assignments of the list.
+// The record, by the assignments on the stage.
 fn make_record(
     table: &[u8],
     stored: &[u8],
     places: &[u16; DIRECTORY],
+    kept: &[Index],
     list: &[u16],
     stage: &[u8],
     made: &mut [u8],
 ) -> Answer
-    requires { ⌜ Valid (now table) × Has-both (entries-of (now table)) (now stored) (now places) (now list) (now stage) × (length (now made) ≡ longest-new-record) ⌝ }
-    ensures { λ n. ⌜ ((ws : List Assignment) → Assigns (entries-of (now (table .entry))) (now (list .entry)) (now (stage .entry)) ws → Makes-new (entries-of (now (table .entry))) (now (stored .entry)) (now (places .entry)) (done ws) (now (made .exit)) n) ⌝ }
+    requires { ⌜ Valid (now table) × Has-both (entries-of (now table)) (now stored) (now places) (now kept) (now list) (now stage) × (length (now made) ≡ longest-new-record) ⌝ }
+    ensures { λ n. ⌜ ((ws : List Assignment) → Assigns (entries-of (now (table .entry))) (now (kept .entry)) (now (list .entry)) (now (stage .entry)) ws → Makes-new (entries-of (now (table .entry))) (now (stored .entry)) (now (places .entry)) (done ws) (now (made .exit)) n) ⌝ }
 {
-    match updating::put_record(table, stored, places, list, stage, made) {
+    match updating::put_record(table, stored, places, kept, list, stage, made) {
         Next::Refused(_) => Answer::Refused(Refusal::NoRoom),
         Next::At(n) => Answer::Done(n),
     }
@@ -64,7 +62,7 @@ fn make_items(
     list: &mut [u16],
     made: &mut [u8],
 ) -> Answer
-    requires { ⌜ Valid (now table) × Has-record (entries-of (now table)) (now stored) (now places) × ((f : Bytes) × Apart (entries-of (now table)) f (now kept) count) × (note-place (min (length (now buffer)) longest-new-record) ≤ length (now list)) × Unindexed (now list) × (length (now made) ≡ longest-new-record) ⌝ }
+    requires { ⌜ Valid (now table) × Has-record (entries-of (now table)) (now stored) (now places) × ((f : Bytes) × Apart (entries-of (now table)) f (now kept) count) × Fresh count (now list) × (length (now made) ≡ longest-new-record) ⌝ }
     ensures { λ n. ⌜ ((f : Bytes) → Apart (entries-of (now (table .entry))) f (now (kept .entry)) count → Makes-new (entries-of (now (table .entry))) (now (stored .entry)) (now (places .entry)) (given (entries-of (now (table .entry))) f (now (kept .entry)) count (now (buffer .entry))) (now (made .exit)) n) ⌝ }
 {
     let mut stage = [0u8; rules::LONGEST_NEW_RECORD];
@@ -74,33 +72,37 @@ fn make_items(
             if s.full {
                 return Answer::Refused(Refusal::NoRoom);
             }
-            assignments::index(list, s.count);
-            make_record(table, stored, places, list, &stage, made)
+            assignments::index(table, kept, list, count);
+            make_record(table, stored, places, kept, list, &stage, made)
         }
     }
 }
 
-// The same, with a list by the length of the record buffer.
-fn make_listed(
+// The same, by the record buffer up to its limit.
+fn make_limited(
     table: &[u8],
     stored: &[u8],
     places: &[u16; DIRECTORY],
     buffer: &[u8],
     kept: &[Index],
     count: usize,
+    list: &mut [u16],
     made: &mut [u8],
 ) -> Answer
-    requires { ⌜ Valid (now table) × Has-record (entries-of (now table)) (now stored) (now places) × ((f : Bytes) × Apart (entries-of (now table)) f (now kept) count) × (length (now made) ≡ longest-new-record) ⌝ }
+    requires { ⌜ Valid (now table) × Has-record (entries-of (now table)) (now stored) (now places) × ((f : Bytes) × Apart (entries-of (now table)) f (now kept) count) × Fresh count (now list) × (length (now made) ≡ longest-new-record) ⌝ }
     ensures { λ n. ⌜ ((f : Bytes) → Apart (entries-of (now (table .entry))) f (now (kept .entry)) count → Makes-new (entries-of (now (table .entry))) (now (stored .entry)) (now (places .entry)) (given (entries-of (now (table .entry))) f (now (kept .entry)) count (take longest-items (now (buffer .entry)))) (now (made .exit)) n) ⌝ }
 {
     let end = least(buffer.len(), rules::LONGEST_ITEMS);
-    let items = &buffer[..end];
-    if end <= SHORT_BUFFER {
-        let mut list = [0u16; assignments::NOTES + assignments::NUMBERS * SHORT_BUFFER];
-        return make_items(table, stored, places, items, kept, count, &mut list, made);
-    }
-    let mut list = [0u16; assignments::NOTES + assignments::NUMBERS * rules::LONGEST_NEW_RECORD];
-    make_items(table, stored, places, items, kept, count, &mut list, made)
+    make_items(
+        table,
+        stored,
+        places,
+        &buffer[..end],
+        kept,
+        count,
+        list,
+        made,
+    )
 }
 
 // The same, by the format, whose uses are decoded once.
@@ -111,9 +113,10 @@ fn make_decoded(
     format: &[u8],
     buffer: &[u8],
     kept: &mut [Index],
+    list: &mut [u16],
     made: &mut [u8],
 ) -> Answer
-    requires { ⌜ Valid (now table) × Has-record (entries-of (now table)) (now stored) (now places) × (numbers-kept * length (now format) ≤ element-bytes * length (now kept)) × (length (now made) ≡ longest-new-record) ⌝ }
+    requires { ⌜ Valid (now table) × Has-record (entries-of (now table)) (now stored) (now places) × (numbers-kept * length (now format) ≤ element-bytes * length (now kept)) × ((n : ℕ) → numbers-kept * n ≤ length (now kept) → Fresh n (now list)) × (length (now made) ≡ longest-new-record) ⌝ }
     ensures { λ n. ⌜ Makes-new (entries-of (now (table .entry))) (now (stored .entry)) (now (places .entry)) (assignments-of (entries-of (now (table .entry))) (now (format .entry)) (now (buffer .entry))) (now (made .exit)) n ⌝ }
 {
     match uses::kept::decode(table, format, kept) {
@@ -122,12 +125,12 @@ fn make_decoded(
             if uses::twice::named_twice(table, kept, n) {
                 return Answer::Refused(Refusal::NamedTwice);
             }
-            make_listed(table, stored, places, buffer, kept, n, made)
+            make_limited(table, stored, places, buffer, kept, n, list, made)
         }
     }
 }
 
-// The same, in an area for the uses by the length of the format.
+// The same, in areas for the uses by the length of the format.
 fn make_assigned(
     table: &[u8],
     stored: &[u8],
@@ -141,13 +144,15 @@ fn make_assigned(
 {
     if format.len() <= SHORT_FORMAT {
         let mut kept: [Index; uses::kept::NUMBERS * FEW_USES] = [0; uses::kept::NUMBERS * FEW_USES];
-        return make_decoded(table, stored, places, format, buffer, &mut kept, made);
+        let mut list = [0u16; assignments::USES + assignments::NUMBERS * FEW_USES];
+        return make_decoded(table, stored, places, format, buffer, &mut kept, &mut list, made);
     }
     if rules::LONGEST_FORMAT < format.len() {
         return Answer::Refused(Refusal::BadSyntax);
     }
     let mut kept: [Index; uses::kept::NUMBERS * MOST_USES] = [0; uses::kept::NUMBERS * MOST_USES];
-    make_decoded(table, stored, places, format, buffer, &mut kept, made)
+    let mut list = [0u16; assignments::USES + assignments::NUMBERS * MOST_USES];
+    make_decoded(table, stored, places, format, buffer, &mut kept, &mut list, made)
 }
 
 // The new record of an update, to the front of an array that has room for the longest.

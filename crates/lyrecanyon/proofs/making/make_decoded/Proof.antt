@@ -2,6 +2,7 @@
 use mathlib.Core.Path.{_≡_, sym, _∙_, ap, subst}
 use mathlib.Core.List.{List}
 use Prim.Native.Nat.{ℕ, _*_, _≤_}
+use native.Mathlib.Omega.{arith}
 use lib.ListN.{length}
 use Rattle.rules.specs.Outcome.{Outcome, done, _>>=_}
 use Rattle.rules.specs.Update.{Assignment}
@@ -16,7 +17,7 @@ use Rattle.lyrecanyon.proofs.making.make_decoded.Tie as tie
 
 -- Where the function begins, seen from where the format is decoded; that place, seen from where its uses are known; and what is kept of them.
 abbrev start : tie.After-decode → tie.Start
-start c = c .before .before .before .before .before .before .before .before
+start c = c .before .before .before .before .before .before .before .before .before
 
 abbrev decoded : tie.After-known-told2 → tie.After-decode
 decoded c = c .before .before .before .before .before
@@ -68,11 +69,11 @@ apart c =
     let k = known l in
     record { meant = k .0; good = k .1; room = k .2; once = sym (t .named-twice .ensures (start (decoded l) .args .format .now) (k .1)) ∙ c .if1 .left }
 
-make-listed-requires : tie.Need-make-listed-requires
-make-listed-requires c κs =
+make-limited-requires : tie.Need-make-limited-requires
+make-limited-requires c κs =
     let e = c .before .before in
     let s = start (decoded (e .before .before .before)) in
-    (s .pre .0, s .pre .1, (s .args .format .now, apart e), s .pre .3)
+    (s .pre .0, s .pre .1, (s .args .format .now, apart e), s .pre .3 (count (e .before .before .before)) (omega (arith, apart e .room, decoded (e .before .before .before) .decode .ensures .1)), s .pre .4)
 
 same-length-2 : tie.Need-same-length-2
 same-length-2 c = search needs
@@ -99,7 +100,7 @@ returns-3 c r held =
     let s = start (decoded l) in
     let es = entries-of (s .args .table .now) in
     let a = apart e in
-    makes-by es r _ (m .make-listed .result) (items-given es (s .args .format .now) (s .args .buffer .now) _ (a .meant) (a .once)) (m .make-listed .ensures (s .args .format .now) a r held)
+    makes-by es r _ (m .make-limited .result) (items-given es (s .args .format .now) (s .args .buffer .now) _ (a .meant) (a .once)) (m .make-limited .ensures (s .args .format .now) a r held)
 
 pub make-decoded-spec : {M : Type 1} → statement M
 make-decoded-spec =
@@ -111,7 +112,7 @@ make-decoded-spec =
     named-twice-requires
     same-length
     returns
-    make-listed-requires
+    make-limited-requires
     same-length-2
     returns-2
     same-length-3

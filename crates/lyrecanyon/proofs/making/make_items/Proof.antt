@@ -1,18 +1,20 @@
 -- `lyrecanyon::making::make_items` meets its contract: a refused item is the outcome's, a full stage is refusal 10, and else the record is made by
 -- the assignments that the list holds.
-use mathlib.Core.Path.{_≡_, sym, _∙_, ap, subst}
+use mathlib.Core.Path.{_≡_, refl, _∙_, ap, subst}
 use mathlib.Core.List.{List}
-use mathlib.Core.Bool.{false}
-use Prim.Native.Nat.{ℕ}
+use mathlib.Core.Bool.{true, false}
+use Prim.Native.Nat.{ℕ, _<_}
+use lib.ListN.{length}
+use Rattle.rules.specs.Limits.{longest-new-record}
 use Rattle.rules.specs.Outcome.{Outcome, done, _>>=_}
 use Rattle.rules.specs.Lists.{Bytes}
 use Rattle.rules.specs.Update.{Assignment}
 use Rattle.tables.specs.Entries.{entries-of}
-use Rattle.uses.specs.Kept.{uses-kept}
-use Rattle.assignments.specs.Notes.{Indexed}
-use Rattle.taking.specs.Taking.{Holds, Gave}
+use Rattle.rules.proofs.Steps.{true-T}
+use Rattle.tables.proofs.Tables.{valid-names}
+use Rattle.assignments.specs.Notes.{bytes-given, Unindexed, Listed}
+use Rattle.taking.specs.Taking.{Gave}
 use Rattle.taking.specs.declared.Taking.{Taking}
-use Rattle.taking.specs.declared.Taken.the-variants.{At}
 use Rattle.updating.specs.New.{Assigns}
 use Rattle.lyrecanyon.specs.Making.{Apart, given, new-record}
 use Rattle.lyrecanyon.proofs.Makings.{stage-over, assigns, makes-by}
@@ -38,17 +40,22 @@ state c = c .before .s .given .0 .0
 
 gave : (c : tie.After-known-told2) (f : Bytes) → Apart (entries-of (start (took c) .args .table .now)) f (start (took c) .args .kept .now) (start (took c) .args .count)
     → (ws : List Assignment) × (given (entries-of (start (took c) .args .table .now)) f (start (took c) .args .kept .now) (start (took c) .args .count) (start (took c) .args .buffer .now) ≡ done ws)
-    × Holds (entries-of (start (took c) .args .table .now)) (start (took c) .args .buffer .now) (list (took c)) (stage (took c)) (state c) ws
+    × (state c .full ≡ true → longest-new-record < length (bytes-given ws))
+    × (state c .full ≡ false → Listed (entries-of (start (took c) .args .table .now)) f (start (took c) .args .kept .now) (start (took c) .args .count) (list (took c)) (stage (took c)) ws)
+    × Unindexed (list (took c))
 gave c f a =
     let s = start (took c) in
     let es = entries-of (s .args .table .now) in
-    subst (Gave es (s .args .buffer .now) (uses-kept es f (s .args .kept .now) (s .args .count)) (list (took c)) (stage (took c))) (c .before .s .given .1) (took c .take .ensures f (a .good))
+    subst (Gave es f (s .args .buffer .now) (s .args .kept .now) (s .args .count) (list (took c)) (stage (took c))) (c .before .s .given .1) (took c .take .ensures f (a .good))
 
 slice-aggregate-take : tie.Need-slice-aggregate-take
 slice-aggregate-take c = search needs
 
 take-requires : tie.Need-take-requires
-take-requires c κs = search needs
+take-requires c κs =
+    let s = c .before .before .before .before .before .before .before .before in
+    let (f, a) = s .pre .2 in
+    (s .pre .0, a .room, (f, a .good), s .pre .3 .few, s .pre .3 .room, refl, s .pre .3 .zeros)
 
 enum-known-x : tie.Need-enum-known-x
 enum-known-x c = search needs
@@ -65,7 +72,7 @@ returns c f a r held =
     let s = start (took l) in
     let g = gave l f a in
     ap (λ (z : Outcome (List Assignment)). z >>= new-record (entries-of (s .args .table .now)) r) (g .1)
-    ∙ stage-over (s .args .table .now) (s .pre .0) a (s .args .buffer .now) (g .1) (g .2 .full (c .if1 .taken)) r
+    ∙ stage-over (s .args .table .now) (s .pre .0) a (s .args .buffer .now) (g .1) (g .2 (c .if1 .taken)) r
 
 index-requires : tie.Need-index-requires
 index-requires c κs =
@@ -73,18 +80,18 @@ index-requires c κs =
     let s = start (took l) in
     let g = gave l (s .pre .2 .0) (s .pre .2 .1) in
     let no = c .before .if1 .left in
-    (g .2 .unindexed, (entries-of (s .args .table .now), stage (took l), state l .staged, g .0, g .2 .listed no, sym (g .2 .count no)))
+    (s .pre .0, g .4, (s .pre .2 .0, stage (took l), g .0, g .3 no))
 
 -- The list can be searched then.
 indexed : (c : tie.After-index) (f : Bytes) → (a : Apart (entries-of (start (took (c .before .before .before)) .args .table .now)) f (start (took (c .before .before .before)) .args .kept .now) (start (took (c .before .before .before)) .args .count))
-    → Assigns (entries-of (start (took (c .before .before .before)) .args .table .now)) (c .index .last .0) (stage (took (c .before .before .before))) (gave (c .before .before .before) f a .0)
+    → Assigns (entries-of (start (took (c .before .before .before)) .args .table .now)) (start (took (c .before .before .before)) .args .kept .now) (c .index .last .1 .1 .0) (stage (took (c .before .before .before))) (gave (c .before .before .before) f a .0)
 indexed c f a =
     let l = c .before .before .before in
     let s = start (took l) in
     let g = gave l f a in
     let no = c .before .before .if1 .left in
-    assigns (s .args .table .now) (s .pre .0) a (s .args .buffer .now) (g .1) (state l .staged)
-    (c .index .ensures (entries-of (s .args .table .now)) (stage (took l)) (state l .staged) (g .0) (g .2 .listed no) (sym (g .2 .count no)))
+    assigns (s .args .table .now) (s .pre .0) a (s .args .buffer .now) (g .1)
+    (c .index .ensures f (stage (took l)) (g .0) (g .3 no) (record { apart = true-T (valid-names (s .args .table .now) (s .pre .0)); once = a .once }))
 
 slice-aggregate-make-record : tie.Need-slice-aggregate-make-record
 slice-aggregate-make-record c = search needs
@@ -94,7 +101,7 @@ make-record-requires c κs =
     let i = c .before .before .before .before .before in
     let s = start (took (i .before .before .before)) in
     let f = s .pre .2 in
-    (s .pre .0, (s .pre .1, (gave (i .before .before .before) (f .0) (f .1) .0, indexed i (f .0) (f .1))), s .pre .5)
+    (s .pre .0, (s .pre .1, (gave (i .before .before .before) (f .0) (f .1) .0, indexed i (f .0) (f .1))), s .pre .4)
 
 same-length-2 : tie.Need-same-length-2
 same-length-2 c = search needs
@@ -105,7 +112,7 @@ returns-2 c f a r held =
     let s = start m in
     let es = entries-of (s .args .table .now) in
     ap (λ (z : Outcome (List Assignment)). z >>= new-record es r)
-    (subst (Gave es (s .args .buffer .now) (uses-kept es f (s .args .kept .now) (s .args .count)) (list m) (stage m)) (c .before .x .given .1) (m .take .ensures f (a .good)))
+    (subst (Gave es f (s .args .buffer .now) (s .args .kept .now) (s .args .count) (list m) (stage m)) (c .before .x .given .1) (m .take .ensures f (a .good)))
 
 same-length-3 : tie.Need-same-length-3
 same-length-3 c = search needs
