@@ -1,5 +1,5 @@
 -- `updating::put_entry` meets its contract: a periodic group adds its count and occurrences, a field outside its cell, anything else nothing.
-use mathlib.Core.Path.{_≡_, sym, _∙_}
+use mathlib.Core.Path.{sym, _∙_}
 use mathlib.Core.Bool.{true}
 use Prim.Native.Nat.{_+_, _-_}
 use lib.ListN.{drop, getD}

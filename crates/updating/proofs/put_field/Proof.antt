@@ -2,17 +2,16 @@
 use mathlib.Core.Path.{_≡_, refl, sym, _∙_}
 use mathlib.Core.Logic.{inr}
 use mathlib.Core.List.{List}
-use Prim.Native.Nat.{_+_, _-_, _≤_}
+use Prim.Native.Nat.{_+_, _-_}
 use native.Mathlib.Omega.{arith}
-use lib.ListN.{length, getD}
+use lib.ListN.{getD}
 use Rattle.rules.specs.Lists.{Bytes}
 use Rattle.rules.specs.Table.{alone, parts}
 use Rattle.rules.specs.Record.{Record}
 use Rattle.rules.specs.Update.{Assignment, update-plan}
-use Rattle.rules.proofs.Steps.{true-T}
 use Rattle.tables.specs.Entries.{entries-of, blank}
 use Rattle.tables.specs.Groups.{field-at}
-use Rattle.tables.proofs.Tables.{valid-most, valid-names}
+use Rattle.tables.proofs.Tables.{valid-most}
 use Rattle.records.specs.Places.{Is-record}
 use Rattle.updating.specs.Laid.{cell-laid}
 use Rattle.updating.specs.New.{Assigns, Between}
@@ -20,7 +19,6 @@ use Rattle.updating.proofs.Turns.{adds-member}
 use Rattle.updating.proofs.Laying.{puts-as}
 use Rattle.updating.proofs.Membering.{member-alone}
 use Rattle.updating.proofs.Unchanged.{field-kept, alone-fields}
-use borrow.Author.Needs.{needs}
 use Rattle.updating.proofs.put_field.Statement.{statement}
 use Rattle.updating.proofs.put_field.Tie as tie
 

@@ -9,9 +9,8 @@ use Rattle.rules.specs.Lists.{Bytes}
 use Rattle.rules.specs.Table.{group, parts}
 use Rattle.rules.specs.Record.{Record, group-count-at}
 use Rattle.rules.specs.Update.{Assignment, update-plan}
-use Rattle.rules.proofs.Steps.{true-T}
 use Rattle.tables.specs.Entries.{entries-of, blank}
-use Rattle.tables.proofs.Tables.{valid-most, valid-names}
+use Rattle.tables.proofs.Tables.{valid-most}
 use Rattle.records.specs.Places.{Is-record}
 use Rattle.records.proofs.Ends.{group-within}
 use Rattle.updating.specs.Laid.{group-part, entry-laid}

@@ -12,7 +12,6 @@ use Rattle.rules.specs.Limits.{highest-index, greatest-count}
 use Rattle.rules.specs.Table.{group, parts, fields-below}
 use Rattle.rules.specs.Record.{Record, Plan, count-bytes, group-count-at}
 use Rattle.rules.specs.Update.{Assignment, update-plan}
-use Rattle.rules.proofs.Steps.{true-T}
 use Rattle.tables.specs.Entries.{entries-of, blank}
 use Rattle.tables.specs.Groups.{fields-in}
 use Rattle.tables.proofs.Tables.{valid-most, valid-names}

@@ -5,7 +5,6 @@ use Prim.Native.Nat.{suc, _+_, _-_, _≤_}
 use native.Mathlib.Omega.{arith}
 use lib.ListN.{drop}
 use Rattle.rules.specs.Lists.{Bytes}
-use Rattle.rules.specs.Limits.{highest-index}
 use Rattle.rules.specs.Record.{Record, Plan}
 use Rattle.tables.specs.Entries.{entries-of}
 use Rattle.updating.specs.Laid.{occurrence-laid, occurrences-laid}

@@ -6,7 +6,6 @@ use Prim.Native.Nat.{_+_, _-_, _<_}
 use native.Mathlib.Omega.{arith}
 use lib.ListN.{length, drop, getD}
 use Rattle.rules.specs.Lists.{Bytes}
-use Rattle.rules.specs.Limits.{longest-new-record}
 use Rattle.rules.specs.Table.{parts}
 use Rattle.rules.specs.Record.{Record, Plan, record-head, group-count-at}
 use Rattle.tables.specs.Entries.{entries-of, blank}
