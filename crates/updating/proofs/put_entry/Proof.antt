@@ -1,5 +1,5 @@
 -- `updating::put_entry` meets its contract: a periodic group adds its count and occurrences, a field outside its cell, anything else nothing.
-use mathlib.Core.Path.{_≡_, sym, _∙_}
+use mathlib.Core.Path.{sym, _∙_}
 use mathlib.Core.Bool.{true}
 use Prim.Native.Nat.{_+_, _-_}
 use lib.ListN.{drop, getD}
@@ -19,7 +19,7 @@ use Rattle.updating.proofs.put_entry.Tie as tie
 
 -- Where the function begins, seen from where it is known whether the entry is a periodic group.
 abbrev start : tie.After-periodic-at → tie.Start
-start c = c .before .before .before .before .before .before
+start c = c .before .before .before .before .before .before .before
 
 periodic-at-requires : tie.Need-periodic-at-requires
 periodic-at-requires c κs = search needs

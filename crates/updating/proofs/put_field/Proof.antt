@@ -2,17 +2,16 @@
 use mathlib.Core.Path.{_≡_, refl, sym, _∙_}
 use mathlib.Core.Logic.{inr}
 use mathlib.Core.List.{List}
-use Prim.Native.Nat.{_+_, _-_, _≤_}
+use Prim.Native.Nat.{_+_, _-_}
 use native.Mathlib.Omega.{arith}
-use lib.ListN.{length, getD}
+use lib.ListN.{getD}
 use Rattle.rules.specs.Lists.{Bytes}
 use Rattle.rules.specs.Table.{alone, parts}
 use Rattle.rules.specs.Record.{Record}
 use Rattle.rules.specs.Update.{Assignment, update-plan}
-use Rattle.rules.proofs.Steps.{true-T}
 use Rattle.tables.specs.Entries.{entries-of, blank}
 use Rattle.tables.specs.Groups.{field-at}
-use Rattle.tables.proofs.Tables.{valid-most, valid-names}
+use Rattle.tables.proofs.Tables.{valid-most}
 use Rattle.records.specs.Places.{Is-record}
 use Rattle.updating.specs.Laid.{cell-laid}
 use Rattle.updating.specs.New.{Assigns, Between}
@@ -20,13 +19,12 @@ use Rattle.updating.proofs.Turns.{adds-member}
 use Rattle.updating.proofs.Laying.{puts-as}
 use Rattle.updating.proofs.Membering.{member-alone}
 use Rattle.updating.proofs.Unchanged.{field-kept, alone-fields}
-use borrow.Author.Needs.{needs}
 use Rattle.updating.proofs.put_field.Statement.{statement}
 use Rattle.updating.proofs.put_field.Tie as tie
 
 -- Where the function begins, seen from where the highest occurrence named is known.
 abbrev start : tie.After-highest-occurrence → tie.Start
-start c = c .before .before .before .before .before .before
+start c = c .before .before .before .before .before .before .before
 
 -- What the field adds.
 abbrev adds : tie.After-highest-occurrence → Record → List Assignment → Bytes
@@ -46,13 +44,13 @@ old c z r ws p a =
     (alone-fields es i (s .pre .1) (s .pre .2)) (omega (arith, s .pre .1))) ∙ z)
 
 add-highest-occurrence : tie.Need-add-highest-occurrence
-add-highest-occurrence c = let s = c .before .before .before .before .before in omega (arith, s .pre .1, valid-most (s .args .t .now) (s .pre .0))
+add-highest-occurrence c = let s = c .before .before .before .before .before .before in omega (arith, s .pre .1, valid-most (s .args .t .now) (s .pre .0))
 
 highest-occurrence-requires : tie.Need-highest-occurrence-requires
 highest-occurrence-requires c κs =
-    let s = c .before .before .before .before .before in
+    let s = c .before .before .before .before .before .before in
     let (ws, a) = s .pre .4 .1 in
-    (omega arith, (entries-of (s .args .t .now), a .format, a .count, s .args .stage .now, ws, a .indexed, omega (arith, s .pre .1)), ?)
+    (omega arith, (entries-of (s .args .t .now), a .format, a .count, s .args .stage .now, ws, a .indexed, omega (arith, s .pre .1)))
 
 add-put-kept : tie.Need-add-put-kept
 add-put-kept c = let s = start (c .before) in omega (arith, s .pre .1, valid-most (s .args .t .now) (s .pre .0))
@@ -87,7 +85,7 @@ put-members-requires : tie.Need-put-members-requires
 put-members-requires c κs =
     let d = c .before in
     let s = start (d .before .before) in
-    (s .pre .0, omega (arith, s .pre .1), omega arith, s .pre .4, (λ r held less. inr (refl, d .outside-cell .ensures r held)), s .pre .5)
+    (s .pre .0, omega (arith, s .pre .1), omega arith, omega arith, s .pre .4, (λ r held less. inr (refl, d .outside-cell .ensures r held)), s .pre .5)
 
 same-length-2 : tie.Need-same-length-2
 same-length-2 c =

@@ -9,9 +9,8 @@ use Rattle.rules.specs.Lists.{Bytes}
 use Rattle.rules.specs.Table.{group, parts}
 use Rattle.rules.specs.Record.{Record, group-count-at}
 use Rattle.rules.specs.Update.{Assignment, update-plan}
-use Rattle.rules.proofs.Steps.{true-T}
 use Rattle.tables.specs.Entries.{entries-of, blank}
-use Rattle.tables.proofs.Tables.{valid-most, valid-names}
+use Rattle.tables.proofs.Tables.{valid-most}
 use Rattle.records.specs.Places.{Is-record}
 use Rattle.records.proofs.Ends.{group-within}
 use Rattle.updating.specs.Laid.{group-part, entry-laid}
@@ -24,7 +23,7 @@ use Rattle.updating.proofs.put_group.Tie as tie
 
 -- Where the function begins, seen from where the highest occurrence named is known.
 abbrev start : tie.After-highest-occurrence → tie.Start
-start c = c .before .before .before .before .before .before .before
+start c = c .before .before .before .before .before .before .before .before
 
 ends : (c : tie.After-highest-occurrence) → (start c .args .g ≤ c .before .group-end .result) × (c .before .group-end .result ≤ length (entries-of (start c .args .t .now)))
 ends c =
@@ -58,14 +57,14 @@ group-end-requires : tie.Need-group-end-requires
 group-end-requires c κs = search needs
 
 add-highest-occurrence : tie.Need-add-highest-occurrence
-add-highest-occurrence c = let s = c .before .before .before .before .before .before in omega (arith, s .pre .1, valid-most (s .args .t .now) (s .pre .0))
+add-highest-occurrence c = let s = c .before .before .before .before .before .before .before in omega (arith, s .pre .1, valid-most (s .args .t .now) (s .pre .0))
 
 highest-occurrence-requires : tie.Need-highest-occurrence-requires
 highest-occurrence-requires c κs =
-    let s = c .before .before .before .before .before .before in
+    let s = c .before .before .before .before .before .before .before in
     let es = entries-of (s .args .t .now) in
     let (ws, a) = s .pre .3 .1 in
-    (omega (arith, c .group-end .ensures, group-within es (s .args .g) (s .pre .1) .0), (es, a .format, a .count, s .args .stage .now, ws, a .indexed, omega (arith, c .group-end .ensures, group-within es (s .args .g) (s .pre .1) .1)), ?)
+    (omega (arith, c .group-end .ensures, group-within es (s .args .g) (s .pre .1) .0), (es, a .format, a .count, s .args .stage .now, ws, a .indexed, omega (arith, c .group-end .ensures, group-within es (s .args .g) (s .pre .1) .1)))
 
 put-kept-requires : tie.Need-put-kept-requires
 put-kept-requires c κs =

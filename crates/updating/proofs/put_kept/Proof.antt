@@ -1,7 +1,6 @@
 -- `updating::put_kept` meets its contract: what stands from the first part on is the old bytes, and then what stands from the next part on.
-use mathlib.Core.Path.{_≡_, sym}
+use mathlib.Core.Path.{_≡_}
 use Prim.Native.Nat.{_-_, _≤_}
-use native.Mathlib.Omega.{arith}
 use lib.ListN.{take, drop}
 use Rattle.rules.specs.Lists.{Bytes}
 use Rattle.tables.specs.Entries.{entries-of}

@@ -22,10 +22,10 @@ returns c r ws h a = nothing-put _ _ _ true _ (adds-no-member _ _ _ _ (sym (c .b
 
 put-cell-requires : tie.Need-put-cell-requires
 put-cell-requires c κs =
-    let s = c .before .before .before .before .before .before .before .before in
+    let s = c .before .before .before .before .before .before .before .before .before in
     let f = sym (c .before .before .group-at .ensures) ∙ c .before .if1 .left in
-    let h = s .pre .3 in
-    (s .pre .0, s .pre .1, f, s .pre .2, ((h .0 .0, h .0 .1 f), h .1), s .pre .4)
+    let h = s .pre .4 in
+    (s .pre .0, s .pre .1, f, s .pre .2, s .pre .3, ((h .0 .0, h .0 .1 f), h .1), s .pre .5)
 
 same-length : tie.Need-same-length
 same-length c = search needs
@@ -33,7 +33,7 @@ same-length c = search needs
 returns-2 : tie.Need-returns-2
 unfolding field-at
 returns-2 c r ws h a =
-    let s = c .before .before .before .before .before .before .before .before .before .before .before in
+    let s = c .before .before .before .before .before .before .before .before .before .before .before .before in
     let es = entries-of (s .args .t .now) in
     let f = sym (c .before .before .before .before .before .group-at .ensures) ∙ c .before .before .before .before .if1 .left in
     puts-as (s .args .end - s .args .at) (sym (adds-member (update-plan (parts es) r ws) (s .args .o) (getD es (s .args .i) blank .name) (getD es (s .args .i) blank .what) f)) (c .before .before .put-cell .ensures r ws (h f) a)

@@ -29,7 +29,7 @@ abbrev μ-loop : tie.MeasureT-loop
 
 -- Where the function begins, seen from a turn of the loop; and the turn, seen from where a member is put and from where it is told.
 abbrev start : tie.At-loop Inv-loop μ-loop → tie.Start Inv-loop μ-loop
-start c = c .before .before .before .before .before .before
+start c = c .before .before .before .before .before .before .before
 
 abbrev put : tie.After-known-told2 Inv-loop μ-loop → tie.After-put-member Inv-loop μ-loop
 put c = c .before .before .before .before .before
@@ -61,17 +61,17 @@ first c w r = let s = start (c .before) in members-turn w (s .args .o) (entries-
 
 loop-holds : tie.Need-loop-holds Inv-loop μ-loop
 loop-holds c =
-    let s = c .before .before .before .before .before in
+    let s = c .before .before .before .before .before .before in
     let a = s .args in
-    (s .pre .4, lay-start (λ w r. members-laid w (a .o) (entries-of (a .t .now)) (a .first) (a .last - a .first)) (s .pre .3) (s .pre .5 .0) (s .pre .5 .1))
+    (s .pre .5, lay-start (λ w r. members-laid w (a .o) (entries-of (a .t .now)) (a .first) (a .last - a .first)) (s .pre .4) (s .pre .6 .0) (s .pre .6 .1))
 
 put-member-requires : tie.Need-put-member-requires Inv-loop μ-loop
 put-member-requires c κs =
     let l = c .before in
     let s = start (l .before) in
-    let h = s .pre .3 in
+    let h = s .pre .4 in
     let g = l .before .loop .inv .1 in
-    (s .pre .0, less l, s .pre .2, ((h .0 .0, cell l (h .0 .0) (h .0 .1)), h .1), (g .fits, g .room))
+    (s .pre .0, less l, s .pre .2, s .pre .3, ((h .0 .0, cell l (h .0 .0) (h .0 .1)), h .1), (g .fits, g .room))
 
 enum-known-x : tie.Need-enum-known-x Inv-loop μ-loop
 enum-known-x c = search needs
@@ -80,7 +80,7 @@ same-length : tie.Need-same-length Inv-loop μ-loop
 same-length c =
     let m = c .before .before .before .before .before in
     let l = m .before .before in
-    let h = start (l .before) .pre .3 in
+    let h = start (l .before) .pre .4 in
     omega (arith, lay-same (l .before .loop .inv .1), m .put-member .ensures (h .0 .0) (h .1 .0) (cell l (h .0 .0) (h .0 .1)) (h .1 .1) .same)
 
 returns : tie.Need-returns Inv-loop μ-loop
@@ -99,7 +99,7 @@ next-cell-requires : tie.Need-next-cell-requires Inv-loop μ-loop
 next-cell-requires c κs =
     let l = turn (c .before) in
     let s = start (l .before) in
-    let h = s .pre .3 .0 in
+    let h = s .pre .4 .0 in
     let m = cells-member (s .args .t .now) (s .pre .0) (l .before .loop .cell) (c .if1 .taken) (l .before .loop .inv .0 (h .0) (h .1) (l .loop-test .taken)) in
     (s .pre .0, less l, (s .args .places .now, m .0, s .args .o, h .0, m .2))
 

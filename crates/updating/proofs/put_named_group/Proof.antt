@@ -12,7 +12,6 @@ use Rattle.rules.specs.Limits.{highest-index, greatest-count}
 use Rattle.rules.specs.Table.{group, parts, fields-below}
 use Rattle.rules.specs.Record.{Record, Plan, count-bytes, group-count-at}
 use Rattle.rules.specs.Update.{Assignment, update-plan}
-use Rattle.rules.proofs.Steps.{true-T}
 use Rattle.tables.specs.Entries.{entries-of, blank}
 use Rattle.tables.specs.Groups.{fields-in}
 use Rattle.tables.proofs.Tables.{valid-most, valid-names}
@@ -31,7 +30,7 @@ use Rattle.updating.proofs.put_named_group.Tie as tie
 
 -- Where the function begins, seen from where the new count is known; and where that is, seen from after it is put.
 abbrev start : tie.After-larger → tie.Start
-start c = c .before .before .before .before .before .before .before .before .before
+start c = c .before .before .before .before .before .before .before .before .before .before
 
 abbrev counted : tie.After-put-count → tie.After-larger
 counted c = c .before .before
@@ -96,20 +95,20 @@ begun : (c : tie.After-larger)
 begun c = let s = start c in lay-start (whole c) (s .pre .3) (s .pre .4 .0) (s .pre .4 .1)
 
 group-count-requires : tie.Need-group-count-requires
-group-count-requires c κs = let s = c .before .before .before .before .before in (s .pre .0, s .pre .1, s .pre .2, s .pre .3 .0)
+group-count-requires c κs = let s = c .before .before .before .before .before .before in (s .pre .0, s .pre .1, s .pre .2, s .pre .3 .0)
 
 group-end-requires : tie.Need-group-end-requires
-group-end-requires c κs = let s = c .before .before .before .before .before .before in (s .pre .0, s .pre .1)
+group-end-requires c κs = let s = c .before .before .before .before .before .before .before in (s .pre .0, s .pre .1)
 
 add-highest-occurrence : tie.Need-add-highest-occurrence
-add-highest-occurrence c = let s = c .before .before .before .before .before .before .before in omega (arith, s .pre .1, valid-most (s .args .t .now) (s .pre .0))
+add-highest-occurrence c = let s = c .before .before .before .before .before .before .before .before in omega (arith, s .pre .1, valid-most (s .args .t .now) (s .pre .0))
 
 highest-occurrence-requires : tie.Need-highest-occurrence-requires
 highest-occurrence-requires c κs =
-    let s = c .before .before .before .before .before .before .before in
+    let s = c .before .before .before .before .before .before .before .before in
     let es = entries-of (s .args .t .now) in
     let (ws, a) = s .pre .3 .1 in
-    (omega (arith, c .group-end .ensures, group-within es (s .args .g) (s .pre .1) .0), (es, a .format, a .count, s .args .stage .now, ws, a .indexed, omega (arith, c .group-end .ensures, group-within es (s .args .g) (s .pre .1) .1)), ?)
+    (omega (arith, c .group-end .ensures, group-within es (s .args .g) (s .pre .1) .0), (es, a .format, a .count, s .args .stage .now, ws, a .indexed, omega (arith, c .group-end .ensures, group-within es (s .args .g) (s .pre .1) .1)))
 
 larger-requires : tie.Need-larger-requires
 larger-requires c κs = search needs

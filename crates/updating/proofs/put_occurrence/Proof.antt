@@ -19,7 +19,7 @@ use Rattle.updating.proofs.put_occurrence.Tie as tie
 
 -- Where the function begins, seen from where the first cell is found.
 abbrev start : tie.After-first-cell → tie.Start
-start c = c .before .before .before .before .before .before
+start c = c .before .before .before .before .before .before .before
 
 -- The group's members end among the entries.
 within : (c : tie.After-first-cell) → (start c .args .g + 1 ≤ start c .args .last) × (start c .args .last ≤ length (entries-of (start c .args .t .now)))
@@ -40,6 +40,7 @@ put-members-requires c κs =
     let s = start f in (
       s .pre .0,
       within f .1,
+      s .pre .4,
       s .pre .5,
       s .pre .6,
       (λ r held less. inl (s .args .g, s .pre .3, record { held = held; periodic = s .pre .2; after = omega arith; within = omega (arith, s .pre .3, less); some = s .pre .4; entered = f .first-cell .ensures r held })),

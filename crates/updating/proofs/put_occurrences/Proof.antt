@@ -5,7 +5,6 @@ use Prim.Native.Nat.{suc, _+_, _-_, _≤_}
 use native.Mathlib.Omega.{arith}
 use lib.ListN.{drop}
 use Rattle.rules.specs.Lists.{Bytes}
-use Rattle.rules.specs.Limits.{highest-index}
 use Rattle.rules.specs.Record.{Record, Plan}
 use Rattle.tables.specs.Entries.{entries-of}
 use Rattle.updating.specs.Laid.{occurrence-laid, occurrences-laid}
@@ -25,7 +24,7 @@ abbrev μ-loop : tie.MeasureT-loop
 
 -- Where the function begins; and the occurrence that the loop is at, before the others.
 abbrev start : tie.At-loop Inv-loop μ-loop → tie.Start Inv-loop μ-loop
-start c = c .before .before .before .before .before .before
+start c = c .before .before .before .before .before .before .before
 
 abbrev adds : tie.In-loop Inv-loop μ-loop → Plan → Record → Bytes
 adds c w r = let s = start (c .before) in occurrence-laid w (c .before .loop .o) (drop (s .args .g + 1) (entries-of (s .args .t .now)))
@@ -39,7 +38,7 @@ first c w r = let s = start (c .before) in occurrence-turn w (drop (s .args .g +
 
 loop-holds : tie.Need-loop-holds Inv-loop μ-loop
 loop-holds c =
-    let s = c .before .before .before .before .before in
+    let s = c .before .before .before .before .before .before in
     let a = s .args in
     let es = entries-of (a .t .now) in
     let e : a .n ≡ suc (a .n) - 1 = omega arith in

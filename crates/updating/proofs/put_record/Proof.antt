@@ -6,7 +6,6 @@ use Prim.Native.Nat.{_+_, _-_, _<_}
 use native.Mathlib.Omega.{arith}
 use lib.ListN.{length, drop, getD}
 use Rattle.rules.specs.Lists.{Bytes}
-use Rattle.rules.specs.Limits.{longest-new-record}
 use Rattle.rules.specs.Table.{parts}
 use Rattle.rules.specs.Record.{Record, Plan, record-head, group-count-at}
 use Rattle.tables.specs.Entries.{entries-of, blank}
@@ -30,20 +29,20 @@ abbrev μ-loop : tie.MeasureT-loop
 
 -- Where the function begins; and the entry that the loop is at, before the others.
 abbrev start : tie.At-loop Inv-loop μ-loop → tie.Start Inv-loop μ-loop
-start c = c .before .before .before .before .before .before .before .before .before .before .before
+start c = c .before .before .before .before .before .before .before .before .before .before .before .before
 
 -- The head was put, and the body is left.
 abbrev body : tie.After-put-head Inv-loop μ-loop → Plan → Record → Bytes
 body c w r =
-    let es = entries-of (c .before .before .before .before .before .before .before .before .args .t .now) in
+    let es = entries-of (c .before .before .before .before .before .before .before .before .before .args .t .now) in
     laid-from w (group-count-at (parts es) r) false es
 
-headed : (c : tie.After-put-head Inv-loop μ-loop) → let s = c .before .before .before .before .before .before .before .before in
+headed : (c : tie.After-put-head Inv-loop μ-loop) → let s = c .before .before .before .before .before .before .before .before .before in
     Laying (entries-of (s .args .t .now)) (s .args .b .now) (s .args .places .now) (s .args .kept .now) (s .args .list .now) (s .args .stage .now) (λ w r. record-head ++ body c w r) (body c) 0 (c .put-head .result)
     (length (s .args .out .now)) (s .args .out .now) (c .put-head .last .0)
 unfolding record-head
 headed c =
-    let s = c .before .before .before .before .before .before .before .before in
+    let s = c .before .before .before .before .before .before .before .before .before in
     let out = s .args .out .now in
     lay-on (lay-start (λ w r. record-head ++ body c w r) (s .pre .1) (omega arith) (omega arith)) (λ w r. record-head) (body c) (λ w r. refl)
     (λ r ws p k. item-written (length out - 0) 0 record-head out true (c .put-head .result) refl (omega (arith, s .pre .2)) (omega (arith, s .pre .2)) (c .put-head .ensures .0) (c .put-head .ensures .1)) _ refl
@@ -76,15 +75,15 @@ first c w r =
     ∙ ap (λ inside. entry-laid w old inside (e .name) (e .what) (drop (i + 1) es) ++ laid-from w old inside (drop (i + 1) es)) (sym (c .inside-next .ensures))
 
 count-requires : tie.Need-count-requires Inv-loop μ-loop
-count-requires c κs = let s = c .before .before .before .before .before in s .pre .0
+count-requires c κs = let s = c .before .before .before .before .before .before in s .pre .0
 
 put-head-requires : tie.Need-put-head-requires Inv-loop μ-loop
-put-head-requires c κs = let s = c .before .before .before .before .before .before .before in omega (arith, s .pre .2)
+put-head-requires c κs = let s = c .before .before .before .before .before .before .before .before in omega (arith, s .pre .2)
 
 loop-holds : tie.Need-loop-holds Inv-loop μ-loop
 loop-holds c =
     let m = c .before .before in
-    let s = m .before .before .before .before .before .before .before .before in
+    let s = m .before .before .before .before .before .before .before .before .before in
     let h = headed m in
     (insides-start (entries-of (s .args .t .now)), lay-start (body m) (s .pre .1) (h .fits) (h .room))
 
