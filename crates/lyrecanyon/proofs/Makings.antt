@@ -35,7 +35,7 @@ use Rattle.filling.specs.declared.Next.{Next}
 use Rattle.filling.specs.declared.Next.the-variants as next
 use Rattle.filling.proofs.Continues.{put-on, put-off}
 use Rattle.records.specs.Places.{Is-record}
-use Rattle.taking.specs.Taking.{bytes-given}
+use Rattle.assignments.specs.Notes.{bytes-given}
 use Rattle.updating.specs.Laid.{laid-from}
 use Rattle.updating.specs.New.{Assigns, Puts}
 use Rattle.updating.proofs.Counted.{update-laid}
