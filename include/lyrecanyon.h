@@ -29,8 +29,8 @@
 
 // The bytes of the stack that a call of each function needs at most.
 #define LYRECANYON_STACK_READ 20480
-#define LYRECANYON_STACK_UPDATE 90112
-#define LYRECANYON_STACK_APPLY 90112
+#define LYRECANYON_STACK_UPDATE 24576
+#define LYRECANYON_STACK_APPLY 24576
 #define LYRECANYON_STACK_EMPTY 12288
 
 #ifdef __cplusplus
