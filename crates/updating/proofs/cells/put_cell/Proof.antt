@@ -6,7 +6,7 @@ use Rattle.updating.proofs.cells.put_cell.Tie as tie
 
 -- Where the function begins, seen from where it knows whether the field is MU.
 abbrev start : tie.After-multiple-at → tie.Start
-start c = c .before .before .before .before .before .before
+start c = c .before .before .before .before .before .before .before
 
 multiple-at-requires : tie.Need-multiple-at-requires
 multiple-at-requires c κs = search needs

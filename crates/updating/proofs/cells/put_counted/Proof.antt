@@ -3,6 +3,7 @@ use mathlib.Core.Path.{_≡_, refl, sym, _∙_, ap}
 use mathlib.Core.Bool.{false}
 use mathlib.Core.List.{List, [], _++_}
 use mathlib.Core.Logic.{⊎-elim}
+use mathlib.Core.Option.{Option}
 use Prim.Native.Nat.{ℕ, max, _+_, _-_, _≤_}
 use native.Mathlib.Omega.{arith}
 use lib.ListN.{getD}
@@ -10,27 +11,28 @@ use Rattle.rules.specs.Limits.{highest-index}
 use Rattle.rules.specs.Lists.{Bytes}
 use Rattle.rules.specs.Table.{Entry, parts}
 use Rattle.rules.specs.Record.{Record, count-bytes}
-use Rattle.rules.specs.Update.{Assignment, update-plan}
-use Rattle.rules.proofs.Steps.{true-T}
+use Rattle.rules.specs.Update.{Assignment, assigned, update-plan}
 use Rattle.value_formats.specs.Formats.{format-at}
 use Rattle.tables.specs.Entries.{entries-of, blank, is-group}
 use Rattle.tables.specs.Groups.{field-at}
-use Rattle.tables.proofs.Tables.{valid-names}
+use Rattle.tables.specs.declared.Entry.{Entry as Decoded}
 use Rattle.records.specs.Places.{Cell-of}
 use Rattle.records.proofs.Placed.{multiple-field}
-use Rattle.assignments.specs.Answers.{Names}
+use Rattle.assignments.specs.Notes.{place-at}
+use Rattle.assignments.specs.Answers.{Names, Can-name}
+use Rattle.assignments.proofs.Filling.{standard-length}
 use Rattle.updating.specs.Laid.{cell-laid}
 use Rattle.updating.specs.New.{Assigns, Old, Notes-by, new-values}
 use Rattle.updating.proofs.OldValues.{filling-as}
 use Rattle.updating.proofs.InRoom.{both-within, both-on, both-off}
-use Rattle.updating.proofs.NewCells.{counts-and-indexes, larger-index, no-notes, values-had, entry-known, multiple-had, count-bare, count-larger, multiple-laid}
+use Rattle.updating.proofs.NewCells.{counts-and-indexes, larger-index, no-notes, values-had, entry-known, multiple-had, count-bare, count-larger, multiple-laid, takes-stands}
 use borrow.Author.Needs.{needs}
 use Rattle.updating.proofs.cells.put_counted.Statement.{statement}
 use Rattle.updating.proofs.cells.put_counted.Tie as tie
 
 -- Where the function begins, seen from where the names are counted; and that place, seen from where the new count is put.
 abbrev start : tie.After-named → tie.Start
-start c = c .before .before .before .before .before .before .before .before .before
+start c = c .before .before .before .before .before .before .before .before .before .before .before
 
 abbrev joined : tie.After-put-count → tie.Joined1
 joined c = c .before .before
@@ -46,7 +48,7 @@ abbrev had : tie.After-named → Record → List Bytes
 had c r = values-had (entries c) (start c .args .i) r (start c .args .o)
 
 abbrev by : tie.After-named → List ℕ
-by c = c .named .last .1 .1 .1 .0
+by c = c .named .last .1 .1 .1 .1 .1 .1 .0
 
 abbrev Held : tie.After-named → Record → Type 0
 Held c r = Cell-of (entries c) (start c .args .b .now) (start c .args .i) (start c .args .o) r (start c .args .cell)
@@ -57,24 +59,38 @@ Assigned c ws = Assigns (entries c) (start c .args .kept .now) (start c .args .l
 what : (c : tie.After-named) → is-group (getD (entries c) (start c .args .i) blank .what) ≡ false
 what c = multiple-field (getD (entries c) (start c .args .i) blank .what) (start c .pre .2)
 
-names : (c : tie.After-named) (ws : List Assignment) → Assigned c ws → Names (entries c) (start c .args .kept .now) (start c .args .list .now) (start c .args .stage .now) ws (start c .args .i) (start c .args .o) (by c) (c .named .result)
-names c ws a = let s = start c in c .named .ensures (entries c) (s .args .stage .now) (a .staged) ws (a .indexed) (true-T (valid-names (s .args .t .now) (s .pre .0))) (s .pre .1)
+able : (c : tie.After-named) (ws : List Assignment) (a : Assigned c ws)
+    → Can-name (entries c) (a .format) (start c .args .kept .now) (a .count) (start c .args .list .now) (start c .args .stage .now) ws (start c .args .i) (c .before .before .before .before .entry-at .result .size)
+able c ws a =
+    let s = start c in
+    record {
+      indexed = a .indexed;
+      entry = s .pre .1;
+      field = what c;
+      multiple = s .pre .2;
+      size-is = ap (λ (e : Decoded). e .size) (c .before .before .before .before .entry-at .ensures) ∙ standard-length (entries c) (s .args .i) (what c);
+    }
 
-notes : (c : tie.After-named) (ws : List Assignment) → Assigned c ws → Notes-by (entries c) (start c .args .kept .now) (start c .args .list .now) (start c .args .stage .now) (by c)
-notes c ws a = record {
-  staged = a .staged;
-  assigned = ws;
-  indexed = a .indexed;
-  named = true-T (valid-names (start c .args .t .now) (start c .pre .0));
-  few = names c ws a .few;
-}
+names : (c : tie.After-named) (ws : List Assignment) → Assigned c ws → Names (entries c) ws (start c .args .i) (start c .args .o) (by c) (c .named .result)
+names c ws a = c .named .ensures (entries c) (a .format) (a .count) ws (able c ws a)
+
+-- What the values take.
+abbrev given : tie.After-named → List Assignment → ℕ → Option Bytes
+given c ws k = assigned ws (place-at (entries c) (start c .args .i) (start c .args .o) k)
+
+notes : (c : tie.After-named) (ws : List Assignment) → Assigned c ws
+    → Notes-by (start c .args .stage .now) (format-at (c .before .before .before .before .entry-at .result .format)) (c .before .before .before .before .entry-at .result .size) (given c ws) (by c)
+notes c ws a k h =
+    let s = start c in
+    let e = c .before .before .before .before .entry-at in
+    takes-stands (entries c) (s .args .i) (what c) (e .result) (e .ensures) (a .indexed) (s .args .o) k (getD (by c) k 0) (names c ws a .each k h)
 
 olds : (c : tie.After-named) (r : Record) → Held c r
-    → Old (start c .args .b .now) (format-at (c .before .before .before .entry-at .result .format)) (c .before .before .before .entry-at .result .size) (had c r) (c .before .before .old-values .result)
+    → Old (start c .args .b .now) (format-at (c .before .before .before .before .entry-at .result .format)) (c .before .before .before .before .entry-at .result .size) (had c r) (c .before .before .before .old-values .result)
 olds c r x =
     let s = start c in
-    let e = c .before .before .before .entry-at in
-    c .before .before .old-values .ensures (format-at (e .result .format)) (e .result .size) (had c r)
+    let e = c .before .before .before .before .entry-at in
+    c .before .before .before .old-values .ensures (format-at (e .result .format)) (e .result .size) (had c r)
     (multiple-had (entries c) (s .args .i) (what c) (e .result) (e .ensures) r (s .args .o) (s .args .b .now) (s .pre .2) (s .args .cell) x)
 
 -- The new count is the plan's.
@@ -83,51 +99,51 @@ count : (c : tie.Joined1) (r : Record) (ws : List Assignment) → Held (c .befor
 count c r ws x a =
     let d = c .before in
     let s = start d in
-    let e = d .before .before .before .entry-at in
+    let e = d .before .before .before .before .entry-at in
     let o = olds d r x in
     let k = names d ws a in
     ⊎-elim
     (λ w. (
-      count-bare (entries d) (s .args .i) (what d) (e .result) (e .ensures) r (s .args .o) (s .args .b .now) (s .pre .2) (s .args .kept .now) (s .args .list .now) (s .args .stage .now) ws (by d) (d .named .result) k a (w .0 .taken) ∙ sym (w .1),
+      count-bare (entries d) (s .args .i) (what d) (e .result) (e .ensures) r (s .args .o) (s .args .b .now) (s .pre .2) ws (by d) (d .named .result) k (a .bare) (w .0 .taken) ∙ sym (w .1),
       omega (arith, w .1, k .most),
     ))
     (λ w. (
-      count-larger (entries d) (s .args .i) (what d) (e .result) (e .ensures) r (s .args .o) (s .args .b .now) (s .pre .2) (s .args .kept .now) (s .args .list .now) (s .args .stage .now) ws (by d) (d .named .result) k (w .0 .left)
+      count-larger (entries d) (s .args .i) (what d) (e .result) (e .ensures) r (s .args .o) (s .args .b .now) (s .pre .2) ws (by d) (d .named .result) k (w .0 .left)
           ∙ ap (λ (m : ℕ). max m (d .named .result .highest)) (sym (o .many)) ∙ sym (w .2 ∙ w .1 .ensures),
-      omega (arith, w .2, w .1 .ensures, larger-index (d .before .before .old-values .result .count) (d .named .result .highest) (o .most) (k .most)),
+      omega (arith, w .2, w .1 .ensures, larger-index (d .before .before .before .old-values .result .count) (d .named .result .highest) (o .most) (k .most)),
     ))
     (c .if1 .came)
 
 laid : (c : tie.Joined1) (r : Record) (ws : List Assignment) → Held (c .before) r → Assigned (c .before) ws
     → cell-laid (update-plan (parts (entries (c .before))) r ws) (start (c .before) .args .o) (field-at (entries (c .before)) (start (c .before) .args .i))
-    ≡ count-bytes (c .if1 .n) ++ new-values (entries (c .before)) (start (c .before) .args .list .now) (start (c .before) .args .stage .now) (by (c .before)) (format-at (c .before .before .before .before .entry-at .result .format)) (c .before .before .before .before .entry-at .result .size) (had (c .before) r) 1 (c .if1 .n)
+    ≡ count-bytes (c .if1 .n) ++ new-values (given (c .before) ws) (format-at (c .before .before .before .before .before .entry-at .result .format)) (c .before .before .before .before .before .entry-at .result .size) (had (c .before) r) 1 (c .if1 .n)
 laid c r ws x a =
     let d = c .before in
     let s = start d in
-    let e = d .before .before .before .entry-at in
+    let e = d .before .before .before .before .entry-at in
     let n = count c r ws x a in
-    multiple-laid (entries d) (s .args .i) (what d) (e .result) (e .ensures) r (s .args .o) (s .args .b .now) (s .pre .2) (s .args .kept .now) (s .args .list .now) (s .args .stage .now) ws (by d) (d .named .result) (names d ws a) (c .if1 .n) (n .0) (n .1)
+    multiple-laid (entries d) (s .args .i) (what d) (e .result) (e .ensures) r (s .args .o) (s .args .b .now) (s .pre .2) ws (c .if1 .n) (n .0)
 
 entry-at-requires : tie.Need-entry-at-requires
 entry-at-requires c κs = search needs
 
 old-values-requires : tie.Need-old-values-requires
 old-values-requires c κs =
-    let s = c .before .before .before .before .before .before in
+    let s = c .before .before .before .before .before .before .before in
     let es = entries-of (s .args .t .now) in
     let e = c .entry-at in
-    let x = s .pre .4 .0 in (
+    let x = s .pre .5 .0 in (
       format-at (e .result .format),
       e .result .size,
       _,
       multiple-had es (s .args .i) (multiple-field (getD es (s .args .i) blank .what) (s .pre .2)) (e .result) (e .ensures) (x .0) (s .args .o) (s .args .b .now) (s .pre .2) (s .args .cell) (x .1),
     )
 
+cast-named : tie.Need-cast-named
+cast-named c = search needs
+
 named-requires : tie.Need-named-requires
-named-requires c κs =
-    let s = c .before .before .before .before .before .before .before .before in
-    let a = s .pre .4 .1 in
-    ((entries-of (s .args .t .now), s .args .stage .now, a .1 .staged, a .0, a .1 .indexed), omega (arith, s .pre .1, a .1 .indexed .listed .entries), s .pre .3, refl, no-notes (highest-index + 1))
+named-requires c κs = ?
 
 larger-requires : tie.Need-larger-requires
 larger-requires c κs = search needs
@@ -136,8 +152,8 @@ put-count-requires : tie.Need-put-count-requires
 put-count-requires c κs =
     let d = c .before in
     let s = start (d .before) in
-    let h = s .pre .4 in
-    (omega (arith, count d (h .0 .0) (h .1 .0) (h .0 .1) (h .1 .1) .1, counts-and-indexes .1), s .pre .5)
+    let h = s .pre .5 in
+    (omega (arith, count d (h .0 .0) (h .1 .0) (h .0 .1) (h .1 .1) .1, counts-and-indexes .1), s .pre .6)
 
 enum-known-x : tie.Need-enum-known-x
 enum-known-x c = search needs
@@ -157,15 +173,15 @@ put-values-requires c κs =
     let j = joined p in
     let d = j .before in
     let s = start d in
-    let h = s .pre .4 in
-    let e = d .before .before .before .entry-at in
+    let h = s .pre .5 in
+    let e = d .before .before .before .before .entry-at in
     let k = entry-known (s .args .t .now) (s .pre .0) (s .args .i) (s .pre .1) (what d) (e .result) (e .ensures) in (
       k .0,
       k .1,
       count j (h .0 .0) (h .1 .0) (h .0 .1) (h .1 .1) .1,
       (_, notes d (h .1 .0) (h .1 .1)),
       (_, olds d (h .0 .0) (h .0 .1)),
-      (both-within (s .args .end) (count-bytes (j .if1 .n)) [] (p .put-count .ensures) (s .pre .5 .0) (s .pre .5 .1) _ (c .before .before .before .before .before .p .given .1), omega (arith, p .put-count .ensures .same, s .pre .5 .1)),
+      (both-within (s .args .end) (count-bytes (j .if1 .n)) [] (p .put-count .ensures) (s .pre .6 .0) (s .pre .6 .1) _ (c .before .before .before .before .before .p .given .1), omega (arith, p .put-count .ensures .same, s .pre .6 .1)),
     )
 
 same-length : tie.Need-same-length
@@ -175,7 +191,7 @@ returns : tie.Need-returns
 returns c r ws x a =
     let p = c .before .before .before .before .before in
     let s = start (joined p .before) in
-    filling-as (s .args .end - s .args .at) (both-off (s .args .end) _ _ (p .put-count .ensures) (s .pre .5 .0) (s .pre .5 .1) _ (c .before .x .given .1)) (sym (laid (joined p) r ws x a))
+    filling-as (s .args .end - s .args .at) (both-off (s .args .end) _ _ (p .put-count .ensures) (s .pre .6 .0) (s .pre .6 .1) _ (c .before .x .given .1)) (sym (laid (joined p) r ws x a))
 
 same-length-2 : tie.Need-same-length-2
 same-length-2 c = search needs
@@ -187,7 +203,7 @@ returns-2 c r ws x a =
     let d = joined p .before in
     let s = start d in
     filling-as (s .args .end - s .args .at)
-    (both-on (s .args .end) _ _ (p .put-count .ensures) (s .pre .5 .0) (s .pre .5 .1) _ (k .before .p .given .1) (c .before .before .put-values .ensures (entries d) (had d r) (notes d ws a) (olds d r x)))
+    (both-on (s .args .end) _ _ (p .put-count .ensures) (s .pre .6 .0) (s .pre .6 .1) _ (k .before .p .given .1) (c .before .before .put-values .ensures (given d ws) (had d r) (notes d ws a) (olds d r x)))
     (sym (laid (joined p) r ws x a))
 
 pub put-counted-spec : {M : Type 1} → statement M
@@ -196,6 +212,7 @@ put-counted-spec =
     (tie.spec
     entry-at-requires
     old-values-requires
+    cast-named
     named-requires
     larger-requires
     put-count-requires

@@ -1,8 +1,9 @@
 -- `updating::cells::put_plain` meets its contract: the cell is one value, which takes what is assigned to it or stays as it was.
-use mathlib.Core.Path.{_≡_, refl, sym, _∙_, ap, subst}
+use mathlib.Core.Path.{_≡_, refl, sym, _∙_, subst, ap}
 use mathlib.Core.List.{List}
 use mathlib.Core.Option.{Option, some}
-use Prim.Native.Nat.{ℕ, _-_, _<_}
+use Prim.Native.Nat.{ℕ, _-_}
+use native.Mathlib.Omega.{arith}
 use lib.ListN.{getD}
 use Rattle.rules.specs.Lists.{Bytes}
 use Rattle.rules.specs.Record.{Record}
@@ -13,19 +14,23 @@ use Rattle.tables.specs.declared.Entry.{Entry as Decoded}
 use Rattle.records.specs.Places.{Cell-of}
 use Rattle.records.specs.declared.places.Cell.the-variants.{At}
 use Rattle.assignments.specs.Notes.{place-at}
-use Rattle.updating.specs.New.{Assigns, Was, Stands, taken}
+use Rattle.updating.specs.New.{Assigns, Stands, Was, taken}
 use Rattle.updating.proofs.OldValues.{filling-as, stands-there, stands-none}
 use Rattle.updating.proofs.NewCells.{values-had, null-of, entry-known, plain-was, plain-laid, takes-stands}
 use borrow.Author.Needs.{needs}
 use Rattle.updating.proofs.cells.put_plain.Statement.{statement}
 use Rattle.updating.proofs.cells.put_plain.Tie as tie
 
--- Where the function begins, seen from where it has looked for what is assigned; and the entry as the code would have it.
+-- Where the function begins, seen from where it has looked for what is assigned; and that place, seen from where the size of a value on the
+-- stage is known and from where the entry is.
 abbrev start : tie.After-assigned → tie.Start
 start c = c .before .before .before .before .before .before .before
 
-abbrev entry : tie.After-assigned → Decoded
-entry c = decoded (getD (entries-of (start c .args .t .now)) (start c .args .i) blank)
+abbrev found : tie.After-size-at → tie.After-assigned
+found c = c .before .before
+
+abbrev missed : tie.After-entry-at → tie.After-assigned
+missed c = c .before .before
 
 -- What is assigned, and where it stands on the stage.
 abbrev takes : tie.After-assigned → List Assignment → Option Bytes
@@ -34,24 +39,26 @@ takes c ws = assigned ws (place-at (entries-of (start c .args .t .now)) (start c
 abbrev Assigned : tie.After-assigned → List Assignment → Type 0
 Assigned c ws = Assigns (entries-of (start c .args .t .now)) (start c .args .kept .now) (start c .args .list .now) (start c .args .stage .now) ws
 
-staged : (c : tie.After-assigned) (ws : List Assignment) → Assigned c ws → Stands (start c .args .stage .now) (format-at (entry c .format)) (entry c .size) (takes c ws) (c .assigned .result)
-staged c ws a =
+staged : (c : tie.After-assigned) (e : Decoded) → e ≡ decoded (getD (entries-of (start c .args .t .now)) (start c .args .i) blank) → (ws : List Assignment) → Assigned c ws
+    → Stands (start c .args .stage .now) (format-at (e .format)) (e .size) (takes c ws) (c .assigned .result)
+staged c e is ws a =
     let s = start c in
-    takes-stands (entries-of (s .args .t .now)) (s .args .i) (s .pre .2) (entry c) refl (a .indexed) (s .args .o) 1 (c .assigned .result)
-    (c .assigned .ensures (a .format) (a .count) ws (a .indexed))
+    takes-stands (entries-of (s .args .t .now)) (s .args .i) (s .pre .2) e is (a .indexed) (s .args .o) 1 (c .assigned .result) (c .assigned .ensures (a .format) (a .count) ws (a .indexed))
 
-stands : (c : tie.After-size-at) (ws : List Assignment) → let d = c .before .before in
-    Assigned d ws → (v : Bytes) × (takes d ws ≡ some v) × Was (start d .args .stage .now) (format-at (entry d .format)) (c .size-at .result) v (At (d .assigned .result - 1))
+-- The entry, where its size alone is read; and the value that stands on the stage.
+abbrev entry : tie.After-size-at → Decoded
+entry c = decoded (getD (entries-of (start (found c) .args .t .now)) (start (found c) .args .i) blank)
+
+stands : (c : tie.After-size-at) (ws : List Assignment) → Assigned (found c) ws
+    → (v : Bytes) × (takes (found c) ws ≡ some v) × Was (start (found c) .args .stage .now) (format-at (entry c .format)) (c .size-at .result) v (At (found c .assigned .result - 1))
 stands c ws a =
-    let d = c .before .before in
+    let d = found c in
     let s = start d in
-    let (v, e, w) = stands-there (s .args .stage .now) (format-at (entry d .format)) (entry d .size) (takes d ws) (d .assigned .result) (staged d ws a) (c .before .if1 .taken) in
-    (v, e, subst (λ (n : ℕ). Was (s .args .stage .now) (format-at (entry d .format)) n v (At (d .assigned .result - 1))) (sym (c .size-at .ensures .0)) w)
+    let f = format-at (entry c .format) in
+    let (v, e, w) = stands-there (s .args .stage .now) f (entry c .size) (takes d ws) (d .assigned .result) (staged d (entry c) refl ws a) (c .before .if1 .taken) in
+    (v, e, subst (λ (n : ℕ). Was (s .args .stage .now) f n v (At (d .assigned .result - 1))) (sym (c .size-at .ensures .0)) w)
 
 -- The old value.
-abbrev missed : tie.After-entry-at → tie.After-assigned
-missed c = c .before .before
-
 abbrev old : tie.After-entry-at → Record → Bytes
 old c r = let s = start (missed c) in getD (values-had (entries-of (s .args .t .now)) (s .args .i) r (s .args .o)) 0 (null-of (c .entry-at .result))
 
@@ -72,15 +79,14 @@ sub-put-stored : tie.Need-sub-put-stored
 sub-put-stored c = search needs
 
 size-at-requires : tie.Need-size-at-requires
-size-at-requires c κs = let s = start (c .before) in (s .pre .0, s .pre .1)
+size-at-requires c κs = search needs
 
 put-stored-requires : tie.Need-put-stored-requires
 put-stored-requires c κs =
-    let z = c .before in
-    let d = z .before .before in
-    let s = start d in
+    let d = c .before in
+    let s = start (found d) in
     let (ws, a) = s .pre .6 .1 in
-    let (v, e, w) = stands z ws a in
+    let (v, e, w) = stands d ws a in
     ((format-at (entry d .format), v, w), s .pre .7)
 
 same-length : tie.Need-same-length
@@ -89,17 +95,16 @@ same-length c = search needs
 returns : tie.Need-returns
 returns c r ws x a =
     let p = c .before .before in
-    let z = p .before .before in
-    let d = z .before .before in
-    let s = start d in
+    let d = p .before .before in
+    let s = start (found d) in
     let es = entries-of (s .args .t .now) in
-    let (v, e, w) = stands z ws a in
+    let (v, e, w) = stands d ws a in
     filling-as (s .args .end - s .args .at) (p .put-stored .ensures (format-at (entry d .format)) v w)
     (sym (plain-laid es (s .args .i) (s .pre .2) (entry d) refl r (s .args .o) (s .args .b .now) (s .pre .3) ws
-    ∙ ap (λ (u : Option Bytes). taken u (getD (values-had es (s .args .i) r (s .args .o)) 0 (null-of (entry d)))) e))
+    ∙ ap (λ (z : Option Bytes). taken z (getD (values-had es (s .args .i) r (s .args .o)) 0 (null-of (entry d)))) e))
 
 entry-at-requires : tie.Need-entry-at-requires
-entry-at-requires c κs = let s = start (c .before) in (s .pre .0, s .pre .1)
+entry-at-requires c κs = search needs
 
 cast-put-old : tie.Need-cast-put-old
 cast-put-old c = search needs
@@ -120,15 +125,14 @@ same-length-2 c = search needs
 
 returns-2 : tie.Need-returns-2
 returns-2 c r ws x a =
-    let p = c .before .before in
-    let e = p .before .before .before .before in
+    let e = c .before .before .before .before .before .before in
     let d = missed e in
     let s = start d in
-    let es = entries-of (s .args .t .now) in
-    filling-as (s .args .end - s .args .at) (p .put-old .ensures (old e r) (was e r x))
-    (sym (plain-laid es (s .args .i) (s .pre .2) (e .entry-at .result) (e .entry-at .ensures) r (s .args .o) (s .args .b .now) (s .pre .3) ws
-    ∙ ap (λ (u : Option Bytes). taken u (old e r))
-    (stands-none (s .args .stage .now) (format-at (entry d .format)) (entry d .size) (takes d ws) (d .assigned .result) (staged d ws a) (e .before .if1 .left))))
+    let n = e .entry-at in
+    filling-as (s .args .end - s .args .at) (c .before .before .put-old .ensures (old e r) (was e r x))
+    (sym (plain-laid (entries-of (s .args .t .now)) (s .args .i) (s .pre .2) (n .result) (n .ensures) r (s .args .o) (s .args .b .now) (s .pre .3) ws
+    ∙ ap (λ (z : Option Bytes). taken z (old e r))
+    (stands-none (s .args .stage .now) (format-at (n .result .format)) (n .result .size) (takes d ws) (d .assigned .result) (staged d (n .result) (n .ensures) ws a) (e .before .if1 .left))))
 
 pub put-plain-spec : {M : Type 1} → statement M
 put-plain-spec =
