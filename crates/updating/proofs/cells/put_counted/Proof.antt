@@ -30,9 +30,13 @@ use borrow.Author.Needs.{needs}
 use Rattle.updating.proofs.cells.put_counted.Statement.{statement}
 use Rattle.updating.proofs.cells.put_counted.Tie as tie
 
--- Where the function begins, seen from where the names are counted; and that place, seen from where the new count is put.
+-- Where the function begins, seen from where the names are to be counted and from where they are; and that place, seen from where the new
+-- count is put.
+abbrev begin : tie.After-by → tie.Start
+begin c = c .before .before .before .before .before .before .before .before .before .before
+
 abbrev start : tie.After-named → tie.Start
-start c = c .before .before .before .before .before .before .before .before .before .before .before
+start c = begin (c .before)
 
 abbrev joined : tie.After-put-count → tie.Joined1
 joined c = c .before .before
@@ -59,20 +63,23 @@ Assigned c ws = Assigns (entries c) (start c .args .kept .now) (start c .args .l
 what : (c : tie.After-named) → is-group (getD (entries c) (start c .args .i) blank .what) ≡ false
 what c = multiple-field (getD (entries c) (start c .args .i) blank .what) (start c .pre .2)
 
-able : (c : tie.After-named) (ws : List Assignment) (a : Assigned c ws)
-    → Can-name (entries c) (a .format) (start c .args .kept .now) (a .count) (start c .args .list .now) (start c .args .stage .now) ws (start c .args .i) (c .before .before .before .before .entry-at .result .size)
+-- The entry can be named.
+able : (c : tie.After-by) (ws : List Assignment) (a : Assigns (entries-of (begin c .args .t .now)) (begin c .args .kept .now) (begin c .args .list .now) (begin c .args .stage .now) ws)
+    → Can-name (entries-of (begin c .args .t .now)) (a .format) (begin c .args .kept .now) (a .count) (begin c .args .list .now) (begin c .args .stage .now) ws (begin c .args .i) (c .before .before .before .entry-at .result .size)
 able c ws a =
-    let s = start c in
+    let s = begin c in
+    let es = entries-of (s .args .t .now) in
+    let field = multiple-field (getD es (s .args .i) blank .what) (s .pre .2) in
     record {
       indexed = a .indexed;
       entry = s .pre .1;
-      field = what c;
+      field = field;
       multiple = s .pre .2;
-      size-is = ap (λ (e : Decoded). e .size) (c .before .before .before .before .entry-at .ensures) ∙ standard-length (entries c) (s .args .i) (what c);
+      size-is = ap (λ (e : Decoded). e .size) (c .before .before .before .entry-at .ensures) ∙ standard-length es (s .args .i) field;
     }
 
 names : (c : tie.After-named) (ws : List Assignment) → Assigned c ws → Names (entries c) ws (start c .args .i) (start c .args .o) (by c) (c .named .result)
-names c ws a = c .named .ensures (entries c) (a .format) (a .count) ws (able c ws a)
+names c ws a = c .named .ensures (entries c) (a .format) (a .count) ws (able (c .before) ws a)
 
 -- What the values take.
 abbrev given : tie.After-named → List Assignment → ℕ → Option Bytes
@@ -143,7 +150,10 @@ cast-named : tie.Need-cast-named
 cast-named c = search needs
 
 named-requires : tie.Need-named-requires
-named-requires c κs = ?
+named-requires c κs =
+    let s = begin c in
+    let (ws, a) = s .pre .5 .1 in
+    (omega (arith, s .pre .1, a .indexed .listed .entries), s .pre .3, s .pre .4, refl, no-notes (highest-index + 1), (entries-of (s .args .t .now), a .format, a .count, ws, able c ws a))
 
 larger-requires : tie.Need-larger-requires
 larger-requires c κs = search needs

@@ -17,6 +17,11 @@ use borrow.Author.Needs.{needs}
 use Rattle.updating.proofs.cells.put_values.Statement.{statement}
 use Rattle.updating.proofs.cells.put_values.Tie as tie
 
+-- What is noted is at most one above the end of the stage.
+stands-below : (stage : Bytes) (f : Format) (n : ℕ) (o : Option Bytes) (m : ℕ) → Stands stage f n o m → m ≤ length stage + 1
+stands-below stage f n o zero t = omega arith
+stands-below stage f n o (suc p) (v, e, w) = omega (arith, w .0)
+
 abbrev Inv-loop : tie.InvT-loop
 Inv-loop b stage by old n format size out₀ at end q₀ p₀ k₀ out q p k =
     (given : ℕ → Option Bytes) (vs : List Bytes) → Notes-by stage (format-at format) size given by → Old b (format-at format) size vs old → Putting given (format-at format) size vs b old n end at k q p out₀ out
@@ -45,10 +50,6 @@ Olds c vs = Old (start c .args .b .now) (format-at (start c .args .format)) (sta
 stands : (c : tie.After-staged Inv-loop μ-loop) (given : ℕ → Option Bytes) → Notes (turn c) given
     → Stands (start (turn c) .args .stage .now) (format-at (start (turn c) .args .format)) (start (turn c) .args .size) (given (turn c .loop .k)) (getD (start (turn c) .args .by .now) (turn c .loop .k) 0)
 stands c given x = x (turn c .loop .k) (omega (arith, c .before .before .before .loop-test .taken, start (turn c) .pre .2))
-
-stands-below : (stage : Bytes) (f : Format) (n : ℕ) (o : Option Bytes) (m : ℕ) → Stands stage f n o m → m ≤ length stage + 1
-stands-below stage f n o zero t = omega arith
-stands-below stage f n o (suc p) (v, e, w) = omega (arith, w .0)
 
 was : (c : tie.After-staged Inv-loop μ-loop) (given : ℕ → Option Bytes) (vs : List Bytes) (x : Notes (turn c) given) (y : Olds (turn c) vs)
     → Was (start (turn c) .args .b .now) (format-at (start (turn c) .args .format)) (start (turn c) .args .size) (getD vs (turn c .loop .inv given vs x y .put) (null (format-at (start (turn c) .args .format)) (start (turn c) .args .size))) (c .before .if1 .cell)
