@@ -19,9 +19,10 @@ pub enum Place {
     AfterPage,
 }
 
-/// SIZE bytes that can be read and written, between as many before and after them that can't. A slice of them is lent.
+/// Bytes that can be read and written, between SIZE before and after them that can't. A slice of them is lent.
 pub struct Area {
     start: *mut u8,
+    size: usize,
     slice: Range<usize>,
     beside: Range<usize>,
 }
@@ -37,26 +38,32 @@ extern "C" {
 
 impl Area {
     pub fn new() -> Area {
+        Area::for_slice(SIZE - AROUND)
+    }
+
+    /// An area with room for a slice of that length.
+    pub fn for_slice(length: usize) -> Area {
         const NONE: i32 = 0;
         const READ_AND_WRITE: i32 = 3;
         const PRIVATE_AND_ANONYMOUS: i32 = 0x22;
-        let all = unsafe { mmap(ptr::null_mut(), 3 * SIZE, NONE, PRIVATE_AND_ANONYMOUS, -1, 0) };
+        let size = (length + AROUND + SIZE - 1) / SIZE * SIZE;
+        let all = unsafe { mmap(ptr::null_mut(), SIZE + size + SIZE, NONE, PRIVATE_AND_ANONYMOUS, -1, 0) };
         assert!(all as isize != -1, "no memory");
         let start = all.wrapping_add(SIZE);
-        assert!(unsafe { mprotect(start, SIZE, READ_AND_WRITE) } == 0, "no page can be lent");
-        Area { start, slice: 0..0, beside: 0..0 }
+        assert!(unsafe { mprotect(start, size, READ_AND_WRITE) } == 0, "no page can be lent");
+        Area { start, size, slice: 0..0, beside: 0..0 }
     }
 
     /// Lends a slice with those bytes at that place, and paints what lies beside it. An empty one before a page is a null pointer.
     pub fn lend(&mut self, bytes: &[u8], place: Place) -> *mut u8 {
-        assert!(bytes.len() + AROUND <= SIZE, "a slice is too long");
+        assert!(bytes.len() + AROUND <= self.size, "a slice is too long");
         let (at, beside) = match place {
-            Place::BeforePage => (SIZE - bytes.len(), SIZE - bytes.len() - AROUND),
+            Place::BeforePage => (self.size - bytes.len(), self.size - bytes.len() - AROUND),
             Place::AfterPage => (0, bytes.len()),
         };
         self.slice = at..at + bytes.len();
         self.beside = beside..beside + AROUND;
-        let all = unsafe { slice::from_raw_parts_mut(self.start, SIZE) };
+        let all = unsafe { slice::from_raw_parts_mut(self.start, self.size) };
         all[self.beside.clone()].fill(PAINT);
         all[self.slice.clone()].copy_from_slice(bytes);
         if bytes.is_empty() && place == Place::BeforePage {
@@ -66,7 +73,7 @@ impl Area {
     }
 
     fn all(&self) -> &[u8] {
-        unsafe { slice::from_raw_parts(self.start, SIZE) }
+        unsafe { slice::from_raw_parts(self.start, self.size) }
     }
 
     /// The slice that is lent.
@@ -94,6 +101,15 @@ pub fn see_that_they_guard() {
 
 /// Whether a child process that does this is ended by the signal for a bad address.
 fn ends_by_signal(act: impl FnOnce()) -> bool {
+    let acts = || {
+        act();
+        true
+    };
+    in_child(acts).is_none()
+}
+
+/// What a child process finds; none if it is ended by the signal for a bad address.
+pub fn in_child(find: impl FnOnce() -> bool) -> Option<bool> {
     const BAD_ADDRESS: i32 = 11;
     const ERRORS: i32 = 2;
     let mut status = 0;
@@ -102,10 +118,12 @@ fn ends_by_signal(act: impl FnOnce()) -> bool {
         assert!(child >= 0, "no child process");
         if child == 0 {
             close(ERRORS);
-            act();
-            _exit(0);
+            _exit(i32::from(!find()));
         }
         assert!(waitpid(child, &mut status, 0) == child);
     }
-    status & 0x7F == BAD_ADDRESS
+    if status & 0x7F == BAD_ADDRESS {
+        return None;
+    }
+    Some(status == 0)
 }
