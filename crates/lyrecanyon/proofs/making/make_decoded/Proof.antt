@@ -71,7 +71,7 @@ apart c =
 
 make-limited-requires : tie.Need-make-limited-requires
 make-limited-requires c κs =
-    let e = c .before .before in
+    let e = c .before .before .before in
     let s = start (decoded (e .before .before .before)) in
     (s .pre .0, s .pre .1, (s .args .format .now, apart e), s .pre .3 (count (e .before .before .before)) (omega (arith, apart e .room, decoded (e .before .before .before) .decode .ensures .1)), s .pre .4)
 
@@ -92,10 +92,13 @@ same-length-3 c = search needs
 same-length-4 : tie.Need-same-length-4
 same-length-4 c = search needs
 
+same-length-5 : tie.Need-same-length-5
+same-length-5 c = search needs
+
 returns-3 : tie.Need-returns-3
 returns-3 c r held =
-    let m = c .before .before in
-    let e = m .before .before .before in
+    let m = c .before .before .before .before in
+    let e = m .before .before .before .before in
     let l = e .before .before .before in
     let s = start (decoded l) in
     let es = entries-of (s .args .table .now) in
@@ -117,4 +120,5 @@ make-decoded-spec =
     returns-2
     same-length-3
     same-length-4
+    same-length-5
     returns-3)

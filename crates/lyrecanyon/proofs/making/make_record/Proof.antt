@@ -6,7 +6,7 @@ use Rattle.lyrecanyon.proofs.making.make_record.Tie as tie
 
 -- Where the function begins, seen from after the record was put.
 abbrev start : tie.After-put-record → tie.Start
-start c = c .before .before .before .before .before .before .before
+start c = c .before .before .before .before .before .before .before .before
 
 put-record-requires : tie.Need-put-record-requires
 put-record-requires c κs = search needs
