@@ -145,14 +145,32 @@ fn make_assigned(
     if format.len() <= SHORT_FORMAT {
         let mut kept: [Index; uses::kept::NUMBERS * FEW_USES] = [0; uses::kept::NUMBERS * FEW_USES];
         let mut list = [0u16; assignments::USES + assignments::NUMBERS * FEW_USES];
-        return make_decoded(table, stored, places, format, buffer, &mut kept, &mut list, made);
+        return make_decoded(
+            table,
+            stored,
+            places,
+            format,
+            buffer,
+            &mut kept,
+            &mut list,
+            made,
+        );
     }
     if rules::LONGEST_FORMAT < format.len() {
         return Answer::Refused(Refusal::BadSyntax);
     }
     let mut kept: [Index; uses::kept::NUMBERS * MOST_USES] = [0; uses::kept::NUMBERS * MOST_USES];
     let mut list = [0u16; assignments::USES + assignments::NUMBERS * MOST_USES];
-    make_decoded(table, stored, places, format, buffer, &mut kept, &mut list, made)
+    make_decoded(
+        table,
+        stored,
+        places,
+        format,
+        buffer,
+        &mut kept,
+        &mut list,
+        made,
+    )
 }
 
 // The new record of an update, to the front of an array that has room for the longest.

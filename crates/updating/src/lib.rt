@@ -4,144 +4,25 @@ ghost use mathlib.Core.Bool.{true, false};
 ghost use mathlib.Core.List.{_++_};
 ghost use Prim.Native.Nat.{_+_, _-_, _≤_, _<_};
 ghost use lib.ListN.{length, drop, getD};
-ghost use Rattle.rules.specs.Limits.{highest-index, longest-new-record};
+ghost use Rattle.rules.specs.Limits.{longest-new-record};
 ghost use Rattle.rules.specs.Outcome.{done};
 ghost use Rattle.rules.specs.Lists.{Bytes};
 ghost use Rattle.rules.specs.Table.{group, parts};
-ghost use Rattle.rules.specs.Record.{Record, group-count-at, record-head};
+ghost use Rattle.rules.specs.Record.{group-count-at, record-head};
 ghost use Rattle.tables.specs.Entries.{Valid, entries-of, blank, is-group};
-ghost use Rattle.tables.specs.Groups.{field-at, group-end};
+ghost use Rattle.tables.specs.Groups.{field-at};
 ghost use Rattle.tables.specs.Places.{inside-at};
-ghost use Rattle.records.specs.Places.{Is-record, Has-record};
+ghost use Rattle.records.specs.Places.{Has-record};
 ghost use Rattle.filling.specs.Filling.{Roomy, Filling, in-room};
-ghost use Rattle.updating.specs.Laid.{cell-laid, occurrence-laid, occurrences-laid, entry-laid, laid-from};
+ghost use Rattle.updating.specs.Laid.{cell-laid, entry-laid, laid-from};
 ghost use Rattle.updating.specs.New.{Has-both, Puts, Between};
-ghost use Rattle.updating.specs.Member.{Has-member, Puts-member, Cells-from, members-laid};
 
 mod cells;
+mod members;
 
 use filling::Next;
 use records::DIRECTORY;
-use records::places::Cell;
 use uses::Index;
-
-// What entry i adds to occurrence o of the periodic group that it lies in: its cell where it is a field, and else nothing.
-fn put_member(
-    t: &[u8],
-    b: &[u8],
-    kept: &[Index],
-    list: &[u16],
-    stage: &[u8],
-    i: usize,
-    o: usize,
-    cell: Cell,
-    out: &mut [u8],
-    at: usize,
-    end: usize,
-) -> Next
-    requires { ⌜ Valid (now t) × (i < length (entries-of (now t))) × (1 ≤ o) × (o ≤ highest-index) × Has-member (entries-of (now t)) (now b) (now kept) (now list) (now stage) i o cell × Roomy at end (now out) ⌝ }
-    ensures { λ n. ⌜ Puts-member (entries-of (now (t .entry))) (now (b .entry)) (now (kept .entry)) (now (list .entry)) (now (stage .entry)) i o cell at end (now (out .entry)) (now (out .exit)) n ⌝ }
-{
-    if tables::group_at(t, i) {
-        return Next::At(at);
-    }
-    cells::put_cell(t, b, kept, list, stage, i, o, cell, out, at, end)
-}
-
-// What the entries from first up to last add to occurrence o, one after the other, beside the cells that they had.
-fn put_members(
-    t: &[u8],
-    b: &[u8],
-    places: &[u16; DIRECTORY],
-    kept: &[Index],
-    list: &[u16],
-    stage: &[u8],
-    first: usize,
-    last: usize,
-    o: usize,
-    had: Cell,
-    out: &mut [u8],
-    at: usize,
-    end: usize,
-) -> Next
-    requires { ⌜ Valid (now t) × (last ≤ length (entries-of (now t))) × (1 ≤ o) × (o ≤ highest-index) × Has-both (entries-of (now t)) (now b) (now places) (now kept) (now list) (now stage) × ((r : Record) → Is-record (entries-of (now t)) (now b) (now places) r → first < last → Cells-from (entries-of (now t)) (now b) (now places) first last o r had) × Roomy at end (now out) ⌝ }
-    ensures { λ n. ⌜ Puts (entries-of (now (t .entry))) (now (b .entry)) (now (places .entry)) (now (kept .entry)) (now (list .entry)) (now (stage .entry)) (λ w r. members-laid w o (entries-of (now (t .entry))) first (last - first)) at end (now (out .entry)) (now (out .exit)) n ⌝ }
-{
-    let mut cell = had;
-    let mut p = at;
-    let mut i = first;
-    while i < last {
-        match put_member(t, b, kept, list, stage, i, o, cell, out, p, end) {
-            Next::Refused(x) => {
-                return Next::Refused(x);
-            }
-            Next::At(next) => {
-                p = next;
-            }
-        }
-        if i + 1 < last {
-            cell = records::places::next_cell(t, b, i, cell);
-        }
-        i += 1;
-    }
-    Next::At(p)
-}
-
-// Occurrence o of the periodic group that entry g is, with members up to last.
-fn put_occurrence(
-    t: &[u8],
-    b: &[u8],
-    places: &[u16; DIRECTORY],
-    kept: &[Index],
-    list: &[u16],
-    stage: &[u8],
-    g: usize,
-    last: usize,
-    o: usize,
-    out: &mut [u8],
-    at: usize,
-    end: usize,
-) -> Next
-    requires { ⌜ Valid (now t) × (g < length (entries-of (now t))) × (getD (entries-of (now t)) g blank .what ≡ group true) × (last ≡ group-end (entries-of (now t)) g) × (1 ≤ o) × (o ≤ highest-index) × Has-both (entries-of (now t)) (now b) (now places) (now kept) (now list) (now stage) × Roomy at end (now out) ⌝ }
-    ensures { λ n. ⌜ Puts (entries-of (now (t .entry))) (now (b .entry)) (now (places .entry)) (now (kept .entry)) (now (list .entry)) (now (stage .entry)) (λ w r. occurrence-laid w o (drop (g + 1) (entries-of (now (t .entry))))) at end (now (out .entry)) (now (out .exit)) n ⌝ }
-{
-    let had = records::places::first_cell(t, b, places, g, o);
-    put_members(t, b, places, kept, list, stage, g + 1, last, o, had, out, at, end)
-}
-
-// Occurrences 1 to n of the periodic group that entry g is.
-fn put_occurrences(
-    t: &[u8],
-    b: &[u8],
-    places: &[u16; DIRECTORY],
-    kept: &[Index],
-    list: &[u16],
-    stage: &[u8],
-    g: usize,
-    last: usize,
-    n: usize,
-    out: &mut [u8],
-    at: usize,
-    end: usize,
-) -> Next
-    requires { ⌜ Valid (now t) × (g < length (entries-of (now t))) × (getD (entries-of (now t)) g blank .what ≡ group true) × (last ≡ group-end (entries-of (now t)) g) × (n ≤ highest-index) × Has-both (entries-of (now t)) (now b) (now places) (now kept) (now list) (now stage) × Roomy at end (now out) ⌝ }
-    ensures { λ r. ⌜ Puts (entries-of (now (t .entry))) (now (b .entry)) (now (places .entry)) (now (kept .entry)) (now (list .entry)) (now (stage .entry)) (λ w r. occurrences-laid w (drop (g + 1) (entries-of (now (t .entry)))) 1 n) at end (now (out .entry)) (now (out .exit)) r ⌝ }
-{
-    let mut p = at;
-    let mut o = 1;
-    while o <= n {
-        match put_occurrence(t, b, places, kept, list, stage, g, last, o, out, p, end) {
-            Next::Refused(x) => {
-                return Next::Refused(x);
-            }
-            Next::At(next) => {
-                p = next;
-            }
-        }
-        o += 1;
-    }
-    Next::At(p)
-}
 
 // The periodic group that entry g is: the larger of its old count and the highest occurrence named, and as many occurrences.
 fn put_named_group(
@@ -165,7 +46,20 @@ fn put_named_group(
     let n = cells::larger(old, highest);
     match cells::put_count(n, out, at, end) {
         Next::Refused(x) => Next::Refused(x),
-        Next::At(p) => put_occurrences(t, b, places, kept, list, stage, g, last, n, out, p, end),
+        Next::At(p) => members::put_occurrences(
+            t,
+            b,
+            places,
+            kept,
+            list,
+            stage,
+            g,
+            last,
+            n,
+            out,
+            p,
+            end,
+        ),
     }
 }
 
@@ -231,7 +125,21 @@ fn put_field(
         return put_kept(t, b, places, i, i + 1, out, at, end);
     }
     let had = records::places::outside_cell(t, b, places, i);
-    put_members(t, b, places, kept, list, stage, i, i + 1, 1, had, out, at, end)
+    members::put_members(
+        t,
+        b,
+        places,
+        kept,
+        list,
+        stage,
+        i,
+        i + 1,
+        1,
+        had,
+        out,
+        at,
+        end,
+    )
 }
 
 // What entry i adds to the new record.
