@@ -36,7 +36,7 @@ use Rattle.uses.specs.declared.Use.{Use}
 use Rattle.uses.specs.declared.Use.the-variants as code
 use Rattle.uses.proofs.Fields.{multiple-at}
 use Rattle.uses.proofs.SpanFields.{span-items}
-use Rattle.assignments.specs.Notes.{start-noted, group-chain, chains, width-before, use-names, names-cell, span-chain, use-chain, chained, place-at, bytes-given, given-first, assignments-of}
+use Rattle.assignments.specs.Notes.{start-noted, group-chain, chains, width-before, use-names, names-cell, span-chain, use-chain, chained, place-at, bytes-given, given-first, assignments-in}
 use Rattle.assignments.specs.Answers.{Named-by, Block, Reads-back}
 use Rattle.assignments.proofs.Splitting.{Allowed-fields, Periodic-top, As-long, taking-long, taking-places, from-taking, items-about, later, earlier-occurrences, value-items-about, weight, weight-asked, weight-fields, weight-earlier, fields-of-places, earlier-of-places, span-fields, Asked-about, asked-about, size-field, width-between, given-append, given-length, given-weight, weight-number, times-given, stage-after, stage-length, home-of}
 use Rattle.assignments.proofs.Tabled.{listed-allowed, listed-top}
@@ -115,7 +115,7 @@ from-parts xs ps qs rs zs buffer ws rest t c =
 first-given : (es : List Entry) (f : Bytes) (kept : List ℕ) (buffer : Bytes) (n : ℕ) (a : List Assignment) (mid : Bytes) → taking (items (uses-kept es f kept n)) buffer ≡ done (a, mid)
     → given-first es f kept buffer n ≡ a
 unfolding given-first
-first-given es f kept buffer n a mid e = ap assignments-of e
+first-given es f kept buffer n a mid e = ap assignments-in e
 
 regroup : (p q r s l : List Item) → (p ++ (q ++ (r ++ s))) ++ l ≡ p ++ (q ++ (r ++ (s ++ l)))
 regroup p q r s l =

@@ -85,12 +85,12 @@ abbrev pub bytes-given : List Assignment → Bytes
 bytes-given ws = join (map (λ a. a .bytes) ws)
 
 -- The assignments that the first n uses give by a record buffer: none where one is refused.
-abbrev pub assignments-of : Outcome (List Assignment × Bytes) → List Assignment
-assignments-of (done r) = r .0
-assignments-of (refused n) = []
+abbrev pub assignments-in : Outcome (List Assignment × Bytes) → List Assignment
+assignments-in (done r) = r .0
+assignments-in (refused n) = []
 
 unfoldable pub given-first : List Entry → Bytes → List ℕ → Bytes → ℕ → List Assignment
-given-first es f kept buffer n = assignments-of (taking (items (uses-kept es f kept n)) buffer)
+given-first es f kept buffer n = assignments-in (taking (items (uses-kept es f kept n)) buffer)
 
 -- An assignment stands among others after so many bytes.
 pub record Stands-in (ws : List Assignment) (p : ℕ) (a : Assignment) : Type 0 where
@@ -176,10 +176,6 @@ unfoldable pub chained : List ℕ → ℕ → ℕ → List ℕ
 chained list zero n = []
 chained list (suc most) zero = []
 chained list (suc most) (suc m) = m ∷ chained list most (next-noted list m)
-
--- The numbers below n.
-abbrev pub numbers-below : ℕ → List ℕ
-numbers-below n = run (λ m. m) 0 n
 
 -- How wide the first n entries are together, at their standard lengths.
 unfoldable pub width-before : List Entry → ℕ → ℕ

@@ -25,7 +25,7 @@ use Rattle.tables.specs.Entries.{Valid, entries-of}
 use Rattle.uses.specs.Meant.{use-meant}
 use Rattle.uses.specs.Kept.{numbers-kept, use-at, uses-kept, Good-uses}
 use Rattle.uses.specs.declared.Use.{Use}
-use Rattle.assignments.specs.Notes.{note-bound, note-place, firsts-from, start-noted, place-at, bytes-given, assignments-of, given-first, Takes-at, Listed}
+use Rattle.assignments.specs.Notes.{note-bound, note-place, firsts-from, start-noted, place-at, bytes-given, assignments-in, given-first, Takes-at, Listed}
 use Rattle.taking.specs.Taking.{Holds, Takes, Gave}
 use Rattle.taking.specs.declared.Taking.{Taking}
 use Rattle.taking.specs.declared.Taken.{Taken}
@@ -98,7 +98,7 @@ none-taken q = refl
 
 first-given : (es : List Entry) (f buffer : Bytes) (kept : List ℕ) (n : ℕ) (ws : List Assignment) (rest : Bytes) → taking (items (uses-kept es f kept n)) buffer ≡ done (ws, rest) → given-first es f kept buffer n ≡ ws
 unfolding given-first
-first-given es f buffer kept n ws rest e = ap assignments-of e
+first-given es f buffer kept n ws rest e = ap assignments-in e
 
 by-less : {C : Type 0} (k n : ℕ) → k ≤ n → (k < n → C) → (k ≡ n → C) → C
 by-less k n h x y = by-test (ltb k n) (λ t. x (ltb-true k n t)) (λ t. y (omega (arith, h, ltb-false k n t)))
