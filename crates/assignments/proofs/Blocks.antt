@@ -24,7 +24,7 @@ use Rattle.rules.proofs.Alls.{all-parts, all-of-map}
 use Rattle.rules.proofs.Places.{places-of, range-length}
 use Rattle.rules.proofs.Ranges.{taking, item-at, field-items, occurrence-items}
 use Rattle.buffer.proofs.Cases.{by-order}
-use Rattle.tables.specs.Entries.{blank, is-group, is-multiple, is-periodic}
+use Rattle.tables.specs.Entries.{blank, is-multiple}
 use Rattle.tables.specs.Groups.{field-at}
 use Rattle.tables.specs.Places.{inside-at}
 use Rattle.format_buffer.specs.Elements.{range}
@@ -36,9 +36,9 @@ use Rattle.uses.specs.declared.Use.{Use}
 use Rattle.uses.specs.declared.Use.the-variants as code
 use Rattle.uses.proofs.Fields.{multiple-at}
 use Rattle.uses.proofs.SpanFields.{span-items}
-use Rattle.assignments.specs.Notes.{start-noted, group-chain, chains, width-before, use-names, names-cell, span-chain, use-chain, chained, place-at, bytes-given, given-first, assignments-in}
+use Rattle.assignments.specs.Notes.{start-noted, group-chain, width-before, use-names, names-cell, span-chain, use-chain, chained, place-at, bytes-given, given-first, assignments-in}
 use Rattle.assignments.specs.Answers.{Named-by, Block, Reads-back}
-use Rattle.assignments.proofs.Splitting.{Allowed-fields, Periodic-top, As-long, taking-long, taking-places, from-taking, items-about, later, earlier-occurrences, value-items-about, weight, weight-asked, weight-fields, weight-earlier, fields-of-places, earlier-of-places, span-fields, Asked-about, asked-about, size-field, width-between, given-append, given-length, given-weight, weight-number, times-given, stage-after, stage-length, home-of}
+use Rattle.assignments.proofs.Splitting.{As-long, taking-long, taking-places, from-taking, items-about, later, earlier-occurrences, value-items-about, weight, weight-asked, weight-fields, weight-earlier, fields-of-places, earlier-of-places, Asked-about, asked-about, size-field, width-between, given-append, given-length, given-weight, weight-number, times-given, stage-after, stage-length, home-of}
 use Rattle.assignments.proofs.Tabled.{listed-allowed, listed-top}
 use Rattle.assignments.proofs.Giving.{all-read-back}
 

@@ -3,10 +3,10 @@ use mathlib.Core.Path.{_≡_, refl, sym, _∙_, ap, subst}
 use mathlib.Core.Bool.{Bool, true, false}
 use mathlib.Core.Option.{some}
 use mathlib.Core.List.{List, [], _∷_, _++_, map, map-map, append-assoc}
-use Prim.Native.Nat.{ℕ, zero, suc, _+_, _-_, _≤_, _<_}
+use Prim.Native.Nat.{ℕ, zero, suc, _+_, _-_, _≤_}
 use native.Mathlib.Omega.{arith}
 use lib.Dec.{T}
-use lib.ListN.{length, getD, take, drop}
+use lib.ListN.{length, take, drop}
 use Rattle.rules.specs.Outcome.{done}
 use Rattle.rules.specs.Lists.{Bytes, all, join}
 use Rattle.rules.specs.Table.{What, field, group, Entry, Field, differ, names}
@@ -20,8 +20,7 @@ use Rattle.rules.proofs.Places.{repeats, places-of, names-asked}
 use Rattle.rules.proofs.Uses.{Picked, nothing-left, taken, left-out, picked-differ, field-names, Once}
 use Rattle.rules.proofs.Twice.{named-twice-repeats}
 use Rattle.rules.proofs.Assigned.{own-bytes, same-self}
-use Rattle.tables.specs.Entries.{blank, is-group}
-use Rattle.tables.specs.Groups.{field-at, with-field, fields-in}
+use Rattle.tables.specs.Groups.{with-field, fields-in}
 use Rattle.uses.specs.Meant.{fields-from, asked-by, use-meant, Good-use}
 use Rattle.uses.specs.Kept.{use-at, uses-kept}
 use Rattle.uses.specs.declared.Span.{Span}

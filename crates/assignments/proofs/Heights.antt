@@ -122,15 +122,6 @@ module _ (h : ℕ → ℕ) where
       (λ l. maximum-met (suc i) n (λ e. absurd (omega arith)) (λ m a b e. d m (omega arith) (omega arith) (omega arith)))
       (λ l. d i (omega arith) (omega arith) (omega arith))
 
-  run-map : (i n : ℕ) → map h (run (λ m. m) i n) ≡ run h i n
-  unfolding run
-  run-map i zero = refl
-  run-map i (suc n) = ap (_∷_ (h i)) (run-map (suc i) n)
-
-  pub greatest-run : (i n : ℕ) → greatest h (run (λ m. m) i n) ≡ maximum (run h i n)
-  unfolding greatest
-  greatest-run i n = ap maximum (run-map i n)
-
   -- Of numbers that three tests leave, where each other counts 0.
   filter-more : (p : ℕ → Bool) (x : ℕ) (xs : List ℕ) → greatest h (filter p (x ∷ xs)) ≡ max (cond (p x) (h x) 0) (greatest h (filter p xs))
   filter-more p x xs =

@@ -23,7 +23,7 @@ use Rattle.uses.specs.declared.Use.{Use}
 use Rattle.uses.specs.declared.Use.the-variants as code
 use Rattle.format_buffer.specs.Elements.{range}
 use Rattle.uses.proofs.Spreading.{ordered-within}
-use Rattle.assignments.specs.Notes.{cell-chains, field-chains, group-chain, chains, highest-from, firsts-from, note-place, highest-noted, first-noted, start-noted, next-noted, cell-chain, span-chain, use-chain, use-reach, chained, place-at, Takes-at, Unindexed, Listed, Chained, Indexed}
+use Rattle.assignments.specs.Notes.{cell-chains, field-chains, group-chain, chains, highest-from, firsts-from, note-place, highest-noted, first-noted, start-noted, next-noted, cell-chain, span-chain, use-chain, use-reach, chained, place-at, Takes-at, Listed, Chained, Indexed}
 use Rattle.assignments.specs.Answers.{Marked, linked, Links, Can-link, Widened, Linked-all, Named-once}
 
 -- The chain of a span, by the tests that lead to it.

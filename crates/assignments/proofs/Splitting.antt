@@ -1,37 +1,32 @@
 -- What the record buffer gives to items, part by part: it goes to the places that they name, each value is in normal form and as long as its
 -- field, and the bytes of what is given stand on the stage part after part.
 use mathlib.Core.Path.{_≡_, refl, sym, _∙_, ap, subst}
-use mathlib.Core.Bool.{Bool, true, false, false≢true, _&&_}
+use mathlib.Core.Bool.{Bool, true, false, false≢true}
 use mathlib.Core.List.{List, [], _∷_, _++_, map, map-append, append-assoc}
 use Prim.Native.Nat.{ℕ, zero, suc, _+_, _-_, _*_, _≤_, _<_}
 use native.Mathlib.Omega.{arith}
 use native.Mathlib.Numerals.{add-one}
 use native.Mathlib.Nat.{zero-mul, mul-zero, suc-mul, mul-add}
-use borrow.Author.Tests.{le-leb}
-use lib.Dec.{leb, le→leb, leb→le}
 use lib.ListN.{length, getD, drop, take-append-drop, length-append}
 use lib.Seq.{drop-append-seam}
 use Rattle.rules.specs.Outcome.{done, _>>=_, is-done}
-use Rattle.rules.specs.Limits.{longest-alpha}
 use Rattle.rules.specs.Lists.{Bytes, bytes-of, run, join, cut}
-use Rattle.rules.specs.Values.{Format, alpha, binary, fixed, packed, unpacked, Value, text, number, allowed, meaning, normal, first-value, content, with-length-byte, in-normal-form, conversion, in-range, converted, converted-bytes}
+use Rattle.rules.specs.Values.{Format, fixed, allowed, normal, first-value, converted-bytes}
 use Rattle.rules.specs.Table.{What, field, group, Field, Entry, inside-of}
 use Rattle.rules.specs.Record.{times, stored-value}
 use Rattle.rules.specs.Format.{Range}
 use Rattle.rules.specs.Use as rules
 use Rattle.rules.specs.Use.{Place, Item, blanks-item, text-item, group-count, value-count, value-item, Asked, as-stored, items-of, items, value-items}
 use Rattle.rules.specs.Update.{Assignment}
-use Rattle.rules.proofs.Steps.{from-bind, from-need, from-done, done-inj, not-done, need-true, true-T, and-right, and-intro, by-test}
-use Rattle.rules.proofs.Back.{All, all-map, Stored}
+use Rattle.rules.proofs.Steps.{from-bind, from-done, by-test}
+use Rattle.rules.proofs.Back.{All, all-map}
 use Rattle.rules.proofs.Alls.{all-join, all-run, all-of-map}
-use Rattle.rules.proofs.Readers.{cut-sound, first-sound}
 use Rattle.rules.proofs.Digits.{Below}
-use Rattle.rules.proofs.Kept.{cut-back}
 use Rattle.rules.proofs.Places.{places-of, places-append, range-length}
 use Rattle.rules.proofs.Assigned.{assigned-places}
 use Rattle.rules.proofs.Ranges.{taking, taking-append, assignments-taking, from-to, item-at, field-items, occurrence-items}
-use Rattle.values.proofs.Converted.{normal-length, converted-size}
-use Rattle.values.proofs.Meant.{length-byte-back, converted-in-form}
+use Rattle.values.proofs.Converted.{converted-size}
+use Rattle.values.proofs.Stored.{converted-stored, first-below, first-allowed, cut-below}
 use Rattle.buffer.proofs.Cases.{by-order}
 use Rattle.value_formats.specs.Formats.{format-at}
 use Rattle.tables.specs.Entries.{blank, is-group, is-periodic, size-of}
@@ -49,86 +44,6 @@ use Rattle.uses.proofs.Fields.{size-at}
 use Rattle.uses.proofs.SpanFields.{asked-one, asked-stored, no-entry, field-entry, group-entry}
 use Rattle.assignments.specs.Notes.{bytes-given, On-stage, width-before}
 use Rattle.assignments.specs.Answers.{Reads-back}
-
--- ---- a value that is converted is read back
-
-first-own : (f : Format) (v : Value) {w : Bytes} → normal f 0 v ≡ done w → allowed f 0 ≡ true → (rest : Bytes) → first-value 0 (w ++ rest) ≡ done (content 0 w, rest)
-unfolding normal allowed first-value content
-first-own alpha (text t) {w} e a rest =
-    from-need (leb (length t) longest-alpha) 9 _ e λ h k.
-    let l = leb→le (length t) longest-alpha h in
-    let z : suc (length t) - 1 ≡ length t = omega arith in
-    rw (
-      ← done-inj k,
-      need-true (leb 1 (suc (length t)) && leb (suc (length t)) (suc longest-alpha)) 8
-          (and-intro (leb 1 (suc (length t))) (leb (suc (length t)) (suc longest-alpha)) (le→leb 1 (suc (length t)) (omega arith)) (le→leb (suc (length t)) (suc longest-alpha) (omega arith))),
-      z,
-    )
-    (cut-back 7 t rest)
-first-own alpha (number b x) e a rest = absurd (not-done e)
-first-own binary v e a rest = absurd (false≢true a)
-first-own fixed v e a rest = absurd (false≢true a)
-first-own packed v e a rest = absurd (false≢true a)
-first-own unpacked v e a rest = absurd (false≢true a)
-
-first-written : (f : Format) (n : ℕ) (v : Value) {w : Bytes} → normal f n v ≡ done w → allowed f n ≡ true → (rest : Bytes) → first-value n (w ++ rest) ≡ done (content n w, rest)
-unfolding first-value content
-first-written f zero v e a rest = first-own f v e a rest
-first-written f (suc n) v {w} e a rest = rw (← normal-length f (suc n) v (omega arith) e) (cut-back 7 w rest)
-
-stored-by : (f : Format) (n : ℕ) (v : Value) {w : Bytes} → allowed f n ≡ true → normal f n v ≡ done w → in-normal-form f n (content n w) ≡ true → with-length-byte n (content n w) ≡ w
-    → (rest : Bytes) → stored-value f n (w ++ rest) ≡ done (w, rest)
-unfolding stored-value
-stored-by f n v {w} a e i l rest = rw (first-written f n v e a rest, need-true (in-normal-form f n (content n w)) 2 (true-T i), l) refl
-
-converted-stored : (g : Format) (f : Field) (bs : Bytes) {w : Bytes} → allowed g (length bs) ≡ true → Below 256 bs → allowed (f .format) (f .size) ≡ true
-    → converted-bytes g (f .format) (f .size) bs ≡ done w → Stored f w
-unfolding converted-bytes converted
-converted-stored g f bs {w} a b c e =
-    from-bind (meaning g bs) _ e λ v p q.
-    from-need (in-range (conversion g (f .format)) v) 9 _ q λ _ k.
-    stored-by (f .format) (f .size) v c k (converted-in-form g (f .format) (f .size) bs a b c e) (length-byte-back (f .format) (f .size) v c k)
-
-below-left : (xs ys : Bytes) → Below 256 (xs ++ ys) → Below 256 xs
-below-left [] ys h i = omega arith
-below-left (x ∷ xs) ys h zero = h 0
-below-left (x ∷ xs) ys h (suc i) = below-left xs ys (λ j. h (suc j)) i
-
-below-right : (xs ys : Bytes) → Below 256 (xs ++ ys) → Below 256 ys
-below-right [] ys h = h
-below-right (x ∷ xs) ys h = below-right xs ys (λ j. h (suc j))
-
-below-content : (n : ℕ) (c : Bytes) → Below 256 (with-length-byte n c) → Below 256 c
-unfolding with-length-byte
-below-content zero c h = λ i. h (suc i)
-below-content (suc n) c h = h
-
-first-below : (n : ℕ) (bs c rest : Bytes) → first-value n bs ≡ done (c, rest) → Below 256 bs → Below 256 c × Below 256 rest
-first-below n bs c rest e b =
-    let q = first-sound n bs c rest e in
-    let d = rw q at b in
-    (below-content n c (below-left (with-length-byte n c) rest d), below-right (with-length-byte n c) rest d)
-
-cut-below : (k n : ℕ) (bs xs rest : Bytes) → cut k n bs ≡ done (xs, rest) → Below 256 bs → Below 256 rest
-cut-below k n bs xs rest e b = let (l, q) = cut-sound k n bs xs rest e in below-right xs rest (rw q at b)
-
-zero-allowed : (g : Format) (m : ℕ) → allowed g 0 ≡ true → m ≤ longest-alpha → allowed g m ≡ true
-unfolding allowed
-zero-allowed alpha m h l = le-leb m longest-alpha l
-zero-allowed binary m h l = absurd (false≢true h)
-zero-allowed fixed m h l = absurd (false≢true h)
-zero-allowed packed m h l = absurd (false≢true h)
-zero-allowed unpacked m h l = absurd (false≢true h)
-
-first-allowed : (g : Format) (n : ℕ) (bs c rest : Bytes) → first-value n bs ≡ done (c, rest) → allowed g n ≡ true → allowed g (length c) ≡ true
-unfolding first-value
-first-allowed g zero [] c rest e a = absurd (not-done e)
-first-allowed g zero (n ∷ bs) c rest e a =
-    from-need (leb 1 n && leb n (suc longest-alpha)) 8 _ e λ t k.
-    let (l, q) = cut-sound 7 (n - 1) bs c rest k in
-    let h = leb→le n (suc longest-alpha) (and-right (leb 1 n) (leb n (suc longest-alpha)) t) in
-    zero-allowed g (length c) a (omega arith)
-first-allowed g (suc n) bs c rest e a = let (l, q) = cut-sound 7 (suc n) bs c rest e in rw l a
 
 -- ---- what is given to items
 

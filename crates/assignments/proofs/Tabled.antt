@@ -1,14 +1,14 @@
 -- What is known of entries that are those of a valid table: each field has a length that its format allows, and a periodic group has level 1.
-use mathlib.Core.Path.{_≡_, sym, _∙_, subst}
+use mathlib.Core.Path.{_≡_, sym, subst}
 use mathlib.Core.Bool.{true, false, true≢false}
 use mathlib.Core.List.{List}
-use Prim.Native.Nat.{ℕ, _<_}
+use Prim.Native.Nat.{ℕ}
 use lib.ListN.{length, getD}
 use Rattle.rules.specs.Lists.{Bytes}
 use Rattle.rules.specs.Values.{allowed}
 use Rattle.rules.specs.Table.{What, field, group, Entry}
 use Rattle.rules.specs.Update.{Assignment}
-use Rattle.tables.specs.Entries.{Valid, entries-of, blank, is-group, is-periodic}
+use Rattle.tables.specs.Entries.{entries-of, blank, is-group, is-periodic}
 use Rattle.tables.specs.Groups.{field-at, field-by}
 use Rattle.tables.proofs.EntryBytes.{Sound}
 use Rattle.tables.proofs.Tables.{valid-sound}

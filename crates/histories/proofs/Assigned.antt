@@ -2,7 +2,6 @@
 use mathlib.Core.Path.{_≡_}
 use mathlib.Core.Bool.{not}
 use mathlib.Core.List.{List, [], _∷_}
-use Prim.Native.Nat.{ℕ}
 use lib.ListN.{length, take, drop, take-append-drop}
 use Rattle.rules.specs.Outcome.{done}
 use Rattle.rules.specs.Limits.{longest-items}
@@ -16,20 +15,16 @@ use Rattle.rules.specs.Services.{assignments-of}
 use Rattle.rules.proofs.Steps.{from-bind, from-need, done-inj}
 use Rattle.rules.proofs.Back.{All, Stored}
 use Rattle.rules.proofs.Bare.{bare-indexes, bare-count, named-counted}
-use Rattle.rules.proofs.Readers.{cut-sound}
 use Rattle.rules.proofs.Digits.{Below}
 use Rattle.rules.proofs.Entries.{Sound, Among, field-allowed}
 use Rattle.rules.proofs.Uses.{Index}
 use Rattle.histories.specs.History.{Writes}
 use Rattle.histories.proofs.OneUpdate.{Orderly}
-use Rattle.histories.proofs.Written.{converted-stored, below-left, below-right, first-below, first-allowed}
+use Rattle.values.proofs.Stored.{converted-stored, below-left, first-below, first-allowed, cut-below}
 use Rattle.histories.proofs.Items.{Item-ok, uses-ok}
 
 abbrev pub Assignment-ok : List Entry → Assignment → Type 0
 Assignment-ok es a = Among es (a .place .field) × Index (a .place .occurrence) × Index (a .place .value) × Stored (a .place .field) (a .bytes)
-
-cut-below : (k n : ℕ) (bs xs rest : Bytes) → cut k n bs ≡ done (xs, rest) → Below 256 bs → Below 256 rest
-cut-below k n bs xs rest e b = let (l, q) = cut-sound k n bs xs rest e in below-right xs rest (rw q at b)
 
 module _ (es : List Entry) (sound : All (λ e. Sound (e .level) (e .what)) es) where
   assignments-ok : (xs : List Item) (bs : Bytes) (ws : Writes) → All (Item-ok es) xs → Below 256 bs → assignments xs bs ≡ done ws → All (Assignment-ok es) ws

@@ -32,7 +32,7 @@ use Rattle.histories.specs.History.{Call, History, Byte-buffers, answer,
 use Rattle.histories.specs.Told.{told-item, told-items, counts-told, told}
 use Rattle.histories.proofs.OneUpdate.{update-moves}
 use Rattle.histories.proofs.Counts.{group-moves, count-moves}
-use Rattle.histories.proofs.Written.{null-stored}
+use Rattle.values.proofs.Stored.{null-stored}
 use Rattle.histories.proofs.Assigned.{update-ok, update-orderly}
 use Rattle.histories.proofs.Keep.{Field-known, Parts-known, value-ok, update-keeps}
 use Rattle.histories.proofs.Empty.{empty-ok, empty-value, empty-count, empty-group}

@@ -1,6 +1,5 @@
 pub mod OneUpdate
 pub mod Counts
-pub mod Written
 pub mod Items
 pub mod Assigned
 pub mod Keep

@@ -28,7 +28,7 @@ use Rattle.rules.proofs.Names.{home-all, parts-picked, parts-parted}
 use Rattle.rules.proofs.FieldHomes.{field-home, among-find}
 use Rattle.histories.specs.History.{History, Byte-buffers, record-after, accepted, last-written-value, value-count-of, group-count-of, items-by, Over-a-history}
 use Rattle.histories.specs.Spelled.{count-spelled, element-alone}
-use Rattle.histories.proofs.Written.{null-stored}
+use Rattle.values.proofs.Stored.{null-stored}
 use Rattle.histories.proofs.Keep.{value-ok, sized-bound}
 use Rattle.histories.proofs.Reading.{reads-item, stored-itself}
 use Rattle.histories.proofs.Demand.{Holds, history-holds, demand-3}

@@ -24,7 +24,7 @@ use Rattle.rules.proofs.Home.{home}
 use Rattle.rules.proofs.Laid.{occurrences-at}
 use Rattle.rules.proofs.Entries.{Two-bytes}
 use Rattle.rules.proofs.FieldHomes.{find-here, find-skip}
-use Rattle.histories.proofs.Written.{first-allowed}
+use Rattle.values.proofs.Stored.{first-allowed}
 
 -- ---- values are short
 

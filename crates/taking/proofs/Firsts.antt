@@ -1,15 +1,14 @@
 -- Where value 1 of each field in occurrence 1 stands, with one assignment more: it stays where one was noted, and else it is the new one, if
 -- that is given to it.
 use mathlib.Core.Path.{_≡_, refl, sym, _∙_, ap, subst}
-use mathlib.Core.Bool.{Bool, true, false, cond, _&&_}
-use mathlib.Core.Logic.{_⊎_, inl, inr, ⊎-elim}
+use mathlib.Core.Bool.{Bool, true, false, _&&_}
 use mathlib.Core.List.{List, [], _∷_, _++_, append-assoc}
-use mathlib.Core.Option.{Option, none, some}
+use mathlib.Core.Option.{none, some}
 use Prim.Native.Nat.{ℕ, zero, suc, _+_, _≤_, _<_}
 use native.Mathlib.Omega.{arith}
-use borrow.Author.Tests.{eqb-true, eqb-false, eq-eqb, ne-eqb}
+use borrow.Author.Tests.{eqb-true, ne-eqb}
 use lib.Dec.{eqb}
-use lib.ListN.{length, getD, set, length-set}
+use lib.ListN.{length, getD, length-set}
 use lib.Seq.{getD-set-same, getD-set-other}
 use Rattle.rules.specs.Limits.{most-entries}
 use Rattle.rules.specs.Lists.{Bytes}
@@ -23,7 +22,7 @@ use Rattle.rules.proofs.Assigned.{same-place-eq, same-self}
 use Rattle.tables.specs.Entries.{blank, is-group}
 use Rattle.tables.specs.Groups.{field-at, field-by}
 use Rattle.tables.proofs.Names.{one-name}
-use Rattle.assignments.specs.Notes.{firsts-from, uses-from, note-place, first-noted, place-at, bytes-given, Stands-in, Takes-at, Firsts, Unindexed}
+use Rattle.assignments.specs.Notes.{firsts-from, uses-from, note-place, first-noted, place-at, bytes-given, Takes-at, Firsts, Unindexed}
 use Rattle.assignments.specs.Answers.{first-put}
 use Rattle.taking.specs.Taking.{noted}
 

@@ -4,13 +4,12 @@ use mathlib.Core.Bool.{true, false, true≢false}
 use mathlib.Core.List.{List, [], _∷_, _++_, append-nil, append-assoc}
 use Prim.Native.Nat.{ℕ, zero, suc, _+_, _-_, _*_, _≤_, _<_}
 use native.Mathlib.Omega.{arith}
-use native.Mathlib.Nat.{sub-zero}
 use native.Mathlib.Numerals.{add-one}
 use borrow.Author.Tests.{ltb-true, ltb-false}
 use lib.Dec.{ltb}
-use lib.ListN.{length, take, drop, getD, set, length-set, length-append}
+use lib.ListN.{length, drop, getD, set, length-set, length-append}
 use lib.Seq.{getD-set-same, getD-set-other}
-use Rattle.rules.specs.Outcome.{done, refused, _>>=_}
+use Rattle.rules.specs.Outcome.{done, refused}
 use Rattle.rules.specs.Limits.{most-entries, longest-new-record}
 use Rattle.rules.specs.Lists.{Bytes, run, join}
 use Rattle.rules.specs.Numbers.{refusal-number}
@@ -25,7 +24,7 @@ use Rattle.tables.specs.Entries.{Valid, entries-of}
 use Rattle.uses.specs.Meant.{use-meant}
 use Rattle.uses.specs.Kept.{numbers-kept, use-at, uses-kept, Good-uses}
 use Rattle.uses.specs.declared.Use.{Use}
-use Rattle.assignments.specs.Notes.{note-bound, note-place, firsts-from, start-noted, place-at, bytes-given, assignments-in, given-first, Takes-at, Listed}
+use Rattle.assignments.specs.Notes.{note-bound, note-place, firsts-from, start-noted, place-at, bytes-given, assignments-in, given-first, Takes-at}
 use Rattle.taking.specs.Taking.{Holds, Takes, Gave}
 use Rattle.taking.specs.declared.Taking.{Taking}
 use Rattle.taking.specs.declared.Taken.{Taken}
@@ -51,10 +50,6 @@ items-parts g i (suc m) k j e =
 module _ (es : List Entry) (f : Bytes) (kept : List ℕ) (count : ℕ) where
   abbrev pub left : ℕ → List Item
   left i = items (run (λ j. use-meant es f (use-at kept j)) i (count - i))
-
-  pub left-all : items (uses-kept es f kept count) ≡ left 0
-  unfolding uses-kept
-  left-all = rw sub-zero
 
   pub left-none : (i : ℕ) → count ≤ i → left i ≡ []
   left-none i h = let e : count - i ≡ 0 = omega arith in rw e (no-items (λ j. use-meant es f (use-at kept j)) i)

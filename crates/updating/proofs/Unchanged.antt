@@ -1,21 +1,21 @@
 -- A periodic group or a field outside periodic groups that an update does not name adds the bytes that it had, which stand between its part and the next.
-use mathlib.Core.Path.{_≡_, refl, sym, _∙_, ap, subst}
-use mathlib.Core.Bool.{Bool, true, false, true≢false}
-use mathlib.Core.List.{List, [], _∷_, _++_, append-nil}
+use mathlib.Core.Path.{_≡_, refl, sym, _∙_, ap}
+use mathlib.Core.Bool.{true, false, true≢false}
+use mathlib.Core.List.{List, [], _∷_, _++_}
 use mathlib.Core.Option.{none, some}
-use Prim.Native.Nat.{ℕ, suc, pred, _+_, _-_, _≤_, _<_}
+use Prim.Native.Nat.{ℕ, suc, _+_, _-_, _≤_, _<_}
 use native.Mathlib.Numerals.{add-one}
 use native.Mathlib.Omega.{arith}
 use lib.Dec.{T}
 use lib.ListN.{length, take, drop, getD, length-append, length-drop}
 use lib.Seq.{slice, slice-empty, take-at}
-use Rattle.rules.specs.Outcome.{Outcome, done, is-done}
+use Rattle.rules.specs.Outcome.{done, is-done}
 use Rattle.rules.specs.Limits.{record-head-size}
-use Rattle.rules.specs.Lists.{Bytes, all}
-use Rattle.rules.specs.Table.{Field, What, field, group, Entry, Part, differ, names, member, fields-below, alone, parts, table}
+use Rattle.rules.specs.Lists.{Bytes}
+use Rattle.rules.specs.Table.{Field, What, field, group, Entry, Part, differ, names, member, alone, parts, table}
 use Rattle.rules.specs.Record.{Occurrence, Record, values-at, group-count-at, stored-part, stored-cell, part-bytes, cell-bytes}
-use Rattle.rules.specs.Update.{Assignment, to-part, highest-occurrence, update-plan}
-use Rattle.rules.proofs.Steps.{by-option, by-outcome, not-both, true-T}
+use Rattle.rules.specs.Update.{Assignment, highest-occurrence, update-plan}
+use Rattle.rules.proofs.Steps.{by-option, by-outcome, true-T}
 use Rattle.rules.proofs.Back.{Beside, Part-ok, Record-ok}
 use Rattle.rules.proofs.Kept.{stored-ok}
 use Rattle.rules.proofs.Readers.{Sound, counted-sound, each-sound, value-sound}

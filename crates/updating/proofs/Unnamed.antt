@@ -1,5 +1,5 @@
 -- What an update does not name: no occurrence of a part whose highest one named is 0. A cell that it does not name has the same count and the same values.
-use mathlib.Core.Path.{_≡_, refl, sym, _∙_, ap, subst}
+use mathlib.Core.Path.{_≡_, refl, sym, _∙_, ap}
 use mathlib.Core.Bool.{Bool, true, false, _&&_}
 use mathlib.Core.List.{List, [], _∷_, map}
 use mathlib.Core.Option.{none, some}
@@ -10,7 +10,7 @@ use lib.ListN.{length, getD}
 use Rattle.rules.specs.Lists.{Bytes, absent, filter, maximum, run}
 use Rattle.rules.specs.Values.{null}
 use Rattle.rules.specs.Table.{Field, Part, Entry, member}
-use Rattle.rules.specs.Record.{Cell, Record, values-at, value-at, value-count-at, laid-cell, count-or-one}
+use Rattle.rules.specs.Record.{Record, values-at, value-at, value-count-at, laid-cell, count-or-one}
 use Rattle.rules.specs.Use.{Place}
 use Rattle.rules.specs.Update.{Assignment, same-place, assigned, to-field, to-part, bare-only, highest-value, highest-occurrence, new-value-count, new-group-count, new-value, update-plan}
 use Rattle.rules.proofs.Steps.{by-test, and-left, true-T}

@@ -7,3 +7,4 @@ pub mod Converted
 pub mod Chosen
 pub mod Written
 pub mod Meant
+pub mod Stored

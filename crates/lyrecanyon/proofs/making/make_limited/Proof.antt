@@ -1,7 +1,7 @@
 -- `lyrecanyon::making::make_limited` meets its contract: the record buffer is cut to its limit.
 use mathlib.Core.Path.{_≡_, sym, _∙_, ap}
 use native.Mathlib.Omega.{arith}
-use lib.ListN.{length, take}
+use lib.ListN.{take}
 use lib.Seq.{length-take-le}
 use Rattle.rules.specs.Limits.{longest-items}
 use Rattle.tables.specs.Entries.{entries-of}

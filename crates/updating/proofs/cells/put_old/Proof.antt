@@ -1,14 +1,12 @@
 -- `updating::cells::put_old` meets its contract: a value that stands at a place is the bytes up to where it ends, and else it is null.
 use mathlib.Core.Path.{sym, subst, _∙_}
-use Prim.Native.Nat.{_-_, _≤_}
-use native.Mathlib.Omega.{arith}
-use lib.ListN.{length}
+use Prim.Native.Nat.{_-_}
 use Rattle.rules.specs.Lists.{Bytes}
 use Rattle.rules.specs.Values.{null}
 use Rattle.value_formats.specs.Formats.{format-at}
 use Rattle.records.specs.declared.places.Cell.the-variants.{At}
 use Rattle.updating.specs.New.{Was}
-use Rattle.updating.proofs.OldValues.{was-ends, was-ordered, was-within, was-bytes, null-alone, filling-as}
+use Rattle.updating.proofs.OldValues.{null-alone, filling-as}
 use borrow.Author.Needs.{needs}
 use Rattle.updating.proofs.cells.put_old.Statement.{statement}
 use Rattle.updating.proofs.cells.put_old.Tie as tie

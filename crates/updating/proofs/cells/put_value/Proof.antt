@@ -2,7 +2,6 @@
 use mathlib.Core.Path.{sym, ap}
 use mathlib.Core.Option.{Option}
 use Prim.Native.Nat.{_-_}
-use native.Mathlib.Omega.{arith}
 use Rattle.rules.specs.Lists.{Bytes}
 use Rattle.value_formats.specs.Formats.{format-at}
 use Rattle.updating.specs.New.{taken}

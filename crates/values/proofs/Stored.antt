@@ -1,4 +1,4 @@
--- Null and every value that is converted-bytes to a field are stored as a record keeps them: the reader of values takes them.
+-- Null and every value that is converted to a field are stored as a record keeps them: the reader of values takes them.
 use mathlib.Core.Path.{_≡_, refl}
 use mathlib.Core.Bool.{true, false≢true, _&&_}
 use mathlib.Core.List.{[], _∷_, _++_}
@@ -9,7 +9,7 @@ use lib.Dec.{leb, le→leb, leb→le}
 use lib.ListN.{length}
 use Rattle.rules.specs.Outcome.{done}
 use Rattle.rules.specs.Limits.{longest-alpha}
-use Rattle.rules.specs.Lists.{Bytes}
+use Rattle.rules.specs.Lists.{Bytes, cut}
 use Rattle.rules.specs.Values.{Format, alpha, binary, fixed, packed, unpacked, Value, text, number, allowed, meaning, normal, null, null-value, first-value, content, with-length-byte, in-normal-form, conversion, in-range, converted, converted-bytes}
 use Rattle.rules.specs.Table.{Field}
 use Rattle.rules.specs.Record.{stored-value}
@@ -102,3 +102,6 @@ first-allowed g zero (n ∷ bs) c rest e a =
     let h = leb→le n (suc longest-alpha) (and-right (leb 1 n) (leb n (suc longest-alpha)) t) in
     zero-allowed g (length c) a (omega arith)
 first-allowed g (suc n) bs c rest e a = let (l, q) = cut-sound 7 (suc n) bs c rest e in rw l a
+
+pub cut-below : (k n : ℕ) (bs xs rest : Bytes) → cut k n bs ≡ done (xs, rest) → Below 256 bs → Below 256 rest
+cut-below k n bs xs rest e b = let (l, q) = cut-sound k n bs xs rest e in below-right xs rest (rw q at b)
