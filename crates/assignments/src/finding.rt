@@ -104,6 +104,7 @@ fn use_of(kept: &[Index], list: &[u16], i: usize, o: usize) -> usize
 }
 
 // Where the values that use n gives to entry i, a field of a standard length, in occurrence o begin.
+// The values of one field are passed over one by one; several fields have fixed lengths, so their widths tell.
 fn cell_start(
     kept: &[Index],
     list: &[u16],
