@@ -43,7 +43,7 @@ bytes-one : (v : Assignment) → bytes-given (v ∷ []) ≡ v .bytes
 unfolding join
 bytes-one v = append-nil (v .bytes)
 
--- The values from k on stand after so many bytes.
+-- The values from k on stand after p bytes.
 pub record Values-left (es : List Entry) (ws : List Assignment) (i o upto k p : ℕ) : Type 0 where
   pub before : List Assignment
   pub block : List Assignment

@@ -37,7 +37,7 @@ pub all-read-back : {es : List Entry} {f : Bytes} {kept : List ℕ} {count : ℕ
 all-read-back {es} {f} {kept} {count} {ws = ws} l =
     taking-reads (items (uses-kept es f kept count)) (l .buffer) ws (l .rest) (uses-allowed es (listed-allowed l) f kept count (l .uses)) (l .small) (l .given)
 
--- An assignment that stands after so many bytes is read back from that place of the stage, and ends within it.
+-- An assignment that stands after p bytes is read back from place p of the stage, and ends within it.
 pub read-there : {stage : Bytes} {ws : List Assignment} {p : ℕ} {a : Assignment} → On-stage stage ws → Stands-in ws p a → Reads-back a
     → (p ≤ length stage) × (rest : Bytes) × (stored-value (a .place .field .format) (a .place .field .size) (drop p stage) ≡ done (a .bytes, rest))
 unfolding join

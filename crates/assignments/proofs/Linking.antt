@@ -192,7 +192,7 @@ unfolding chained
 chained-end list zero = refl
 chained-end list (suc f) = refl
 
--- A chain that begins at use m or behind it stays where the next uses from there on do, however many uses it may have.
+-- A chain that begins at use m or after it stays where the next uses from there on do, however many uses it may have.
 chain-same : (list after : List ℕ) (count m : ℕ) → Ascending list count m → ((k : ℕ) → m ≤ k → next-noted after k ≡ next-noted list k)
     → (f g n : ℕ) → n ≤ count → (0 < n → m < n) → (0 < n → count < f + n) → (0 < n → count < g + n) → chained after g n ≡ chained list f n
 unfolding chained

@@ -82,7 +82,7 @@ Of-each kept list P = (es : List Entry) (f : Bytes) (count : ℕ) (stage : Bytes
 abbrev pub Has-index : List ℕ → List ℕ → Type 0
 Has-index kept list = (es : List Entry) × (f : Bytes) × (count : ℕ) × (stage : Bytes) × (ws : List Assignment) × Indexed es f kept count list stage ws
 
--- The same, and there are so many entries at least.
+-- The same, and there are at least `end` entries.
 abbrev pub Has-entries : List ℕ → List ℕ → ℕ → Type 0
 Has-entries kept list end = (es : List Entry) × (f : Bytes) × (count : ℕ) × (stage : Bytes) × (ws : List Assignment) × Indexed es f kept count list stage ws × (end ≤ length es)
 
@@ -103,7 +103,7 @@ chains-for list i o = cond (ltb (highest-noted list i) o) 0 3
 abbrev pub Reads-back : Assignment → Type 0
 Reads-back a = (rest : Bytes) → stored-value (a .place .field .format) (a .place .field .size) (a .bytes ++ rest) ≡ done (a .bytes, rest)
 
--- What a span gives to entry i in occurrence o stands among the assignments after so many bytes, value by value.
+-- What a span gives to entry i in occurrence o stands among the assignments after p bytes, value by value.
 pub record Block (es : List Entry) (ws : List Assignment) (i o : ℕ) (s : Span) (p : ℕ) : Type 0 where
   pub before : List Assignment
   pub block : List Assignment

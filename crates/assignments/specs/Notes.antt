@@ -92,7 +92,7 @@ assignments-in (refused n) = []
 unfoldable pub given-first : List Entry → Bytes → List ℕ → Bytes → ℕ → List Assignment
 given-first es f kept buffer n = assignments-in (taking (items (uses-kept es f kept n)) buffer)
 
--- An assignment stands among others after so many bytes.
+-- An assignment stands among others after p bytes.
 pub record Stands-in (ws : List Assignment) (p : ℕ) (a : Assignment) : Type 0 where
   pub before : List Assignment
   pub after : List Assignment

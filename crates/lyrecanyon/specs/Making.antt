@@ -41,7 +41,7 @@ pub record Apart (es : List Entry) (f : Bytes) (kept : List ℕ) (n : ℕ) : Typ
   pub room : numbers-kept * n ≤ length kept
   pub once : named-twice (uses-kept es f kept n) ≡ false
 
--- The list has room for so many uses, and nothing is noted in it yet.
+-- The list has room for n uses, and nothing is noted in it yet.
 pub record Fresh (n : ℕ) (list : List ℕ) : Type 0 where
   pub few : n < note-bound
   pub room : note-place n ≤ length list
