@@ -8,9 +8,10 @@ use Rattle.rules.specs.Outcome.{done}
 use Rattle.rules.specs.Limits.{deepest-level, formats}
 use Rattle.rules.specs.Lists.{Bytes}
 use Rattle.rules.specs.Values.{Format, allowed}
-use Rattle.rules.specs.Table.{What, field, group, fields-below, parts-from}
+use Rattle.rules.specs.Table.{What, field, group, Entry, fields-below, parts-from}
 use Rattle.rules.specs.Use.{find}
-use Rattle.tables.specs.Entries.{Valid, entries-of, blank, is-group, format-at, format-number, size-of}
+use Rattle.tables.specs.Entries.{Valid, entries-of, blank, is-group, is-multiple, is-periodic, format-at, format-number, size-of, decoded}
+use Rattle.tables.specs.declared.Entry.{Entry as Decoded}
 use Rattle.tables.specs.Places.{found-at}
 use Rattle.tables.specs.Groups.{group-end}
 use Rattle.tables.proofs.Names.{one-name, find-name}
@@ -24,6 +25,20 @@ field-numbers : (l : ℕ) (w : What) → is-group w ≡ false → Sound l w
     → (format-number w < formats) × (allowed (format-at (format-number w)) (size-of w) ≡ true)
 field-numbers l (field f s m) e k = (number-small f, ap (λ (g : Format). allowed g s) (number-back f) ∙ k)
 field-numbers l (group p) e k = absurd (true≢false e)
+
+-- an entry as the code has it, where its format and its length were read by themselves
+abbrev pub read-apart : Entry → ℕ → ℕ → Decoded
+read-apart e f n = record {
+  name = e .name;
+  level = e .level;
+  format = f;
+  size = n;
+  multiple = is-multiple (e .what);
+  periodic = is-periodic (e .what);
+}
+
+pub apart-decoded : (e : Entry) (f n : ℕ) → f ≡ format-number (e .what) → n ≡ size-of (e .what) → read-apart e f n ≡ decoded e
+apart-decoded e f n a b = rw (a, b)
 
 module _ (t : Bytes) (v : Valid t) where
   -- entries of one name are one entry

@@ -6,7 +6,7 @@ ghost use lib.ListN.{length, getD};
 ghost use lib.Dec.{eqb};
 ghost use Rattle.rules.specs.Limits.{entry-size};
 ghost use Rattle.rules.specs.Table.{name-of};
-ghost use Rattle.tables.specs.Entries.{is-group, is-multiple, is-periodic, size-of, entry-of-bytes, group-letter, Has-entry, bytes-at, Valid, entries-of, decoded, blank};
+ghost use Rattle.tables.specs.Entries.{is-group, is-multiple, is-periodic, size-of, format-number, entry-of-bytes, group-letter, Has-entry, bytes-at, Valid, entries-of, decoded, blank};
 
 // The places of its bytes in an entry.
 pub const NAME_FIRST: usize = 0;
@@ -117,6 +117,14 @@ pub fn level_at(t: &[u8], i: usize) -> u8
     ensures { λ r. ⌜ r ≡ getD (entries-of (now (t .entry))) i blank .level ⌝ }
 {
     level_in(t, i)
+}
+
+// The number of the format of entry i: GROUP where it is a group.
+pub fn format_at(t: &[u8], i: usize) -> usize
+    requires { ⌜ Valid (now t) × (i < length (entries-of (now t))) ⌝ }
+    ensures { λ r. ⌜ r ≡ format-number (getD (entries-of (now (t .entry))) i blank .what) ⌝ }
+{
+    value_formats::format_number(entry_byte(t, i, FORMAT))
 }
 
 // The standard length of entry i: 0 where it is a group.

@@ -6,6 +6,7 @@ mod validity;
 
 pub use entries::count;
 pub use entries::entry_at;
+pub use entries::format_at;
 pub use entries::group_at;
 pub use entries::level_at;
 pub use entries::multiple_at;

@@ -53,9 +53,8 @@ fn given_at(t: &[u8], i: usize, s: Span) -> Given
     requires { ⌜ Valid (now t) × Good-span (entries-of (now t)) s × (s .first ≤ i) × (i < s .end) × (is-group (getD (entries-of (now t)) i blank .what) ≡ false) ⌝ }
     ensures { λ g. ⌜ (g .entry ≡ i) × (g .bare ≡ s .bare) × Gives (entries-of (now (t .entry))) g × (asked-given (entries-of (now (t .entry))) g ≡ asked-as (s .standard) s (field-at (entries-of (now (t .entry))) i)) ⌝ }
 {
-    let e = tables::entry_at(t, i);
-    let own = e.format as usize;
-    let standard = e.size as usize;
+    let own = tables::format_at(t, i);
+    let standard = tables::size_at(t, i);
     if s.standard {
         return Given {
             entry: i,

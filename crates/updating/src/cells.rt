@@ -164,10 +164,11 @@ fn put_counted(
     requires { ⌜ Valid (now t) × (i < length (entries-of (now t))) × (is-multiple (getD (entries-of (now t)) i blank .what) ≡ true) × (1 ≤ o) × (o ≤ highest-index) × Has-cell (entries-of (now t)) (now b) (now kept) (now list) (now stage) i o cell × Roomy at end (now out) ⌝ }
     ensures { λ n. ⌜ Puts-cell (entries-of (now (t .entry))) (now (b .entry)) (now (kept .entry)) (now (list .entry)) (now (stage .entry)) i o cell (λ w. cell-laid w o (field-at (entries-of (now (t .entry))) i)) at end (now (out .entry)) (now (out .exit)) n ⌝ }
 {
-    let e = tables::entry_at(t, i);
+    let format = tables::format_at(t, i);
+    let size = tables::size_at(t, i);
     let old = old_values(b, cell);
     let mut by = [0u16; assignments::VALUES];
-    let named = assignments::named(kept, list, stage, i, o, e.size as usize, &mut by);
+    let named = assignments::named(kept, list, stage, i, o, size, &mut by);
     let n = if named.bare {
         named.highest
     } else {
@@ -175,18 +176,7 @@ fn put_counted(
     };
     match put_count(n, out, at, end) {
         Next::Refused(x) => Next::Refused(x),
-        Next::At(p) => put_values(
-            b,
-            stage,
-            &by,
-            old,
-            n,
-            e.format as usize,
-            e.size as usize,
-            out,
-            p,
-            end,
-        ),
+        Next::At(p) => put_values(b, stage, &by, old, n, format, size, out, p, end),
     }
 }
 
@@ -207,12 +197,12 @@ fn put_plain(
     requires { ⌜ Valid (now t) × (i < length (entries-of (now t))) × (is-group (getD (entries-of (now t)) i blank .what) ≡ false) × (is-multiple (getD (entries-of (now t)) i blank .what) ≡ false) × (1 ≤ o) × (o ≤ highest-index) × Has-cell (entries-of (now t)) (now b) (now kept) (now list) (now stage) i o cell × Roomy at end (now out) ⌝ }
     ensures { λ n. ⌜ Puts-cell (entries-of (now (t .entry))) (now (b .entry)) (now (kept .entry)) (now (list .entry)) (now (stage .entry)) i o cell (λ w. cell-laid w o (field-at (entries-of (now (t .entry))) i)) at end (now (out .entry)) (now (out .exit)) n ⌝ }
 {
+    let size = tables::size_at(t, i);
     let staged = assignments::assigned(t, kept, list, stage, i, o);
     if 0 < staged {
-        return put_stored(stage, staged - 1, tables::size_at(t, i), out, at, end);
+        return put_stored(stage, staged - 1, size, out, at, end);
     }
-    let e = tables::entry_at(t, i);
-    put_old(b, cell, e.format as usize, e.size as usize, out, at, end)
+    put_old(b, cell, tables::format_at(t, i), size, out, at, end)
 }
 
 // The cell of entry i, a field, in occurrence o.

@@ -13,9 +13,10 @@ use Rattle.rules.specs.Table.{Entry, parts}
 use Rattle.rules.specs.Record.{Record, count-bytes}
 use Rattle.rules.specs.Update.{Assignment, assigned, update-plan}
 use Rattle.value_formats.specs.Formats.{format-at}
-use Rattle.tables.specs.Entries.{entries-of, blank, is-group}
+use Rattle.tables.specs.Entries.{entries-of, blank, decoded, is-group}
 use Rattle.tables.specs.Groups.{field-at}
 use Rattle.tables.specs.declared.Entry.{Entry as Decoded}
+use Rattle.tables.proofs.Known.{read-apart, apart-decoded}
 use Rattle.records.specs.Places.{Cell-of}
 use Rattle.records.proofs.Placed.{multiple-field}
 use Rattle.assignments.specs.Notes.{place-at}
@@ -30,10 +31,29 @@ use borrow.Author.Needs.{needs}
 use Rattle.updating.proofs.cells.put_counted.Statement.{statement}
 use Rattle.updating.proofs.cells.put_counted.Tie as tie
 
+-- Where the function begins, seen from where the format and the length of the entry are read; and the entry by these.
+abbrev origin : tie.After-size-at → tie.Start
+origin c = c .before .before .before .before .before .before .before .before
+
+abbrev whole : tie.After-size-at → Entry
+whole c = getD (entries-of (origin c .args .t .now)) (origin c .args .i) blank
+
+abbrev entry : tie.After-size-at → Decoded
+entry c = read-apart (whole c) (c .before .format-at .result) (c .size-at .result)
+
+entry-is : (c : tie.After-size-at) → entry c ≡ decoded (whole c)
+entry-is c = apart-decoded (whole c) _ _ (c .before .format-at .ensures) (c .size-at .ensures .0)
+
 -- Where the function begins, seen from where the names are to be counted and from where they are; and that place, seen from where the new
 -- count is put.
+abbrev seen : tie.After-by → tie.After-size-at
+seen c = c .before .before
+
 abbrev begin : tie.After-by → tie.Start
-begin c = c .before .before .before .before .before .before .before .before .before .before
+begin c = origin (seen c)
+
+abbrev read : tie.After-named → tie.After-size-at
+read c = seen (c .before)
 
 abbrev start : tie.After-named → tie.Start
 start c = begin (c .before)
@@ -65,7 +85,7 @@ what c = multiple-field (getD (entries c) (start c .args .i) blank .what) (start
 
 -- The entry can be named.
 able : (c : tie.After-by) (ws : List Assignment) (a : Assigns (entries-of (begin c .args .t .now)) (begin c .args .kept .now) (begin c .args .list .now) (begin c .args .stage .now) ws)
-    → Can-name (entries-of (begin c .args .t .now)) (a .format) (begin c .args .kept .now) (a .count) (begin c .args .list .now) (begin c .args .stage .now) ws (begin c .args .i) (c .before .before .before .entry-at .result .size)
+    → Can-name (entries-of (begin c .args .t .now)) (a .format) (begin c .args .kept .now) (a .count) (begin c .args .list .now) (begin c .args .stage .now) ws (begin c .args .i) (seen c .size-at .result)
 able c ws a =
     let s = begin c in
     let es = entries-of (s .args .t .now) in
@@ -75,7 +95,7 @@ able c ws a =
       entry = s .pre .1;
       field = field;
       multiple = s .pre .2;
-      size-is = ap (λ (e : Decoded). e .size) (c .before .before .before .entry-at .ensures) ∙ standard-length es (s .args .i) field;
+      size-is = seen c .size-at .ensures .0 ∙ standard-length es (s .args .i) field;
     }
 
 names : (c : tie.After-named) (ws : List Assignment) → Assigned c ws → Names (entries c) ws (start c .args .i) (start c .args .o) (by c) (c .named .result)
@@ -86,19 +106,19 @@ abbrev given : tie.After-named → List Assignment → ℕ → Option Bytes
 given c ws k = assigned ws (place-at (entries c) (start c .args .i) (start c .args .o) k)
 
 notes : (c : tie.After-named) (ws : List Assignment) → Assigned c ws
-    → Notes-by (start c .args .stage .now) (format-at (c .before .before .before .before .entry-at .result .format)) (c .before .before .before .before .entry-at .result .size) (given c ws) (by c)
+    → Notes-by (start c .args .stage .now) (format-at (read c .before .format-at .result)) (read c .size-at .result) (given c ws) (by c)
 notes c ws a k h =
     let s = start c in
-    let e = c .before .before .before .before .entry-at in
-    takes-stands (entries c) (s .args .i) (what c) (e .result) (e .ensures) (a .indexed) (s .args .o) k (getD (by c) k 0) (names c ws a .each k h)
+    let e = read c in
+    takes-stands (entries c) (s .args .i) (what c) (entry e) (entry-is e) (a .indexed) (s .args .o) k (getD (by c) k 0) (names c ws a .each k h)
 
 olds : (c : tie.After-named) (r : Record) → Held c r
-    → Old (start c .args .b .now) (format-at (c .before .before .before .before .entry-at .result .format)) (c .before .before .before .before .entry-at .result .size) (had c r) (c .before .before .before .old-values .result)
+    → Old (start c .args .b .now) (format-at (read c .before .format-at .result)) (read c .size-at .result) (had c r) (c .before .before .old-values .result)
 olds c r x =
     let s = start c in
-    let e = c .before .before .before .before .entry-at in
-    c .before .before .before .old-values .ensures (format-at (e .result .format)) (e .result .size) (had c r)
-    (multiple-had (entries c) (s .args .i) (what c) (e .result) (e .ensures) r (s .args .o) (s .args .b .now) (s .pre .2) (s .args .cell) x)
+    let e = read c in
+    c .before .before .old-values .ensures (format-at (e .before .format-at .result)) (e .size-at .result) (had c r)
+    (multiple-had (entries c) (s .args .i) (what c) (entry e) (entry-is e) r (s .args .o) (s .args .b .now) (s .pre .2) (s .args .cell) x)
 
 -- The new count is the plan's.
 count : (c : tie.Joined1) (r : Record) (ws : List Assignment) → Held (c .before) r → Assigned (c .before) ws
@@ -106,48 +126,47 @@ count : (c : tie.Joined1) (r : Record) (ws : List Assignment) → Held (c .befor
 count c r ws x a =
     let d = c .before in
     let s = start d in
-    let e = d .before .before .before .before .entry-at in
+    let e = read d in
     let o = olds d r x in
     let k = names d ws a in
     ⊎-elim
     (λ w. (
-      count-bare (entries d) (s .args .i) (what d) (e .result) (e .ensures) r (s .args .o) (s .args .b .now) (s .pre .2) ws (by d) (d .named .result) k (a .bare) (w .0 .taken) ∙ sym (w .1),
+      count-bare (entries d) (s .args .i) (what d) (entry e) (entry-is e) r (s .args .o) (s .args .b .now) (s .pre .2) ws (by d) (d .named .result) k (a .bare) (w .0 .taken) ∙ sym (w .1),
       omega (arith, w .1, k .most),
     ))
     (λ w. (
-      count-larger (entries d) (s .args .i) (what d) (e .result) (e .ensures) r (s .args .o) (s .args .b .now) (s .pre .2) ws (by d) (d .named .result) k (w .0 .left)
+      count-larger (entries d) (s .args .i) (what d) (entry e) (entry-is e) r (s .args .o) (s .args .b .now) (s .pre .2) ws (by d) (d .named .result) k (w .0 .left)
           ∙ ap (λ (m : ℕ). max m (d .named .result .highest)) (sym (o .many)) ∙ sym (w .2 ∙ w .1 .ensures),
-      omega (arith, w .2, w .1 .ensures, larger-index (d .before .before .before .old-values .result .count) (d .named .result .highest) (o .most) (k .most)),
+      omega (arith, w .2, w .1 .ensures, larger-index (d .before .before .old-values .result .count) (d .named .result .highest) (o .most) (k .most)),
     ))
     (c .if1 .came)
 
 laid : (c : tie.Joined1) (r : Record) (ws : List Assignment) → Held (c .before) r → Assigned (c .before) ws
     → cell-laid (update-plan (parts (entries (c .before))) r ws) (start (c .before) .args .o) (field-at (entries (c .before)) (start (c .before) .args .i))
-    ≡ count-bytes (c .if1 .n) ++ new-values (given (c .before) ws) (format-at (c .before .before .before .before .before .entry-at .result .format)) (c .before .before .before .before .before .entry-at .result .size) (had (c .before) r) 1 (c .if1 .n)
+    ≡ count-bytes (c .if1 .n) ++ new-values (given (c .before) ws) (format-at (read (c .before) .before .format-at .result)) (read (c .before) .size-at .result) (had (c .before) r) 1 (c .if1 .n)
 laid c r ws x a =
     let d = c .before in
     let s = start d in
-    let e = d .before .before .before .before .entry-at in
+    let e = read d in
     let n = count c r ws x a in
-    multiple-laid (entries d) (s .args .i) (what d) (e .result) (e .ensures) r (s .args .o) (s .args .b .now) (s .pre .2) ws (c .if1 .n) (n .0)
+    multiple-laid (entries d) (s .args .i) (what d) (entry e) (entry-is e) r (s .args .o) (s .args .b .now) (s .pre .2) ws (c .if1 .n) (n .0)
 
-entry-at-requires : tie.Need-entry-at-requires
-entry-at-requires c κs = search needs
+format-at-requires : tie.Need-format-at-requires
+format-at-requires c κs = search needs
+
+size-at-requires : tie.Need-size-at-requires
+size-at-requires c κs = search needs
 
 old-values-requires : tie.Need-old-values-requires
 old-values-requires c κs =
-    let s = c .before .before .before .before .before .before .before in
+    let s = origin c in
     let es = entries-of (s .args .t .now) in
-    let e = c .entry-at in
     let x = s .pre .5 .0 in (
-      format-at (e .result .format),
-      e .result .size,
+      format-at (c .before .format-at .result),
+      c .size-at .result,
       _,
-      multiple-had es (s .args .i) (multiple-field (getD es (s .args .i) blank .what) (s .pre .2)) (e .result) (e .ensures) (x .0) (s .args .o) (s .args .b .now) (s .pre .2) (s .args .cell) (x .1),
+      multiple-had es (s .args .i) (multiple-field (getD es (s .args .i) blank .what) (s .pre .2)) (entry c) (entry-is c) (x .0) (s .args .o) (s .args .b .now) (s .pre .2) (s .args .cell) (x .1),
     )
-
-cast-named : tie.Need-cast-named
-cast-named c = search needs
 
 named-requires : tie.Need-named-requires
 named-requires c κs =
@@ -171,27 +190,21 @@ enum-known-x c = search needs
 enum-known-p : tie.Need-enum-known-p
 enum-known-p c = search needs
 
-cast-put-values : tie.Need-cast-put-values
-cast-put-values c = search needs
-
-cast-put-values-2 : tie.Need-cast-put-values-2
-cast-put-values-2 c = search needs
-
 put-values-requires : tie.Need-put-values-requires
 put-values-requires c κs =
-    let p = put (c .before .before .before .before) in
+    let p = put (c .before .before) in
     let j = joined p in
     let d = j .before in
     let s = start d in
     let h = s .pre .5 in
-    let e = d .before .before .before .before .entry-at in
-    let k = entry-known (s .args .t .now) (s .pre .0) (s .args .i) (s .pre .1) (what d) (e .result) (e .ensures) in (
+    let e = read d in
+    let k = entry-known (s .args .t .now) (s .pre .0) (s .args .i) (s .pre .1) (what d) (entry e) (entry-is e) in (
       k .0,
       k .1,
       count j (h .0 .0) (h .1 .0) (h .0 .1) (h .1 .1) .1,
       (_, notes d (h .1 .0) (h .1 .1)),
       (_, olds d (h .0 .0) (h .0 .1)),
-      (both-within (s .args .end) (count-bytes (j .if1 .n)) [] (p .put-count .ensures) (s .pre .6 .0) (s .pre .6 .1) _ (c .before .before .before .before .before .p .given .1), omega (arith, p .put-count .ensures .same, s .pre .6 .1)),
+      (both-within (s .args .end) (count-bytes (j .if1 .n)) [] (p .put-count .ensures) (s .pre .6 .0) (s .pre .6 .1) _ (c .before .before .before .p .given .1), omega (arith, p .put-count .ensures .same, s .pre .6 .1)),
     )
 
 same-length : tie.Need-same-length
@@ -208,7 +221,7 @@ same-length-2 c = search needs
 
 returns-2 : tie.Need-returns-2
 returns-2 c r ws x a =
-    let k = c .before .before .before .before .before .before .before in
+    let k = c .before .before .before .before .before in
     let p = put k in
     let d = joined p .before in
     let s = start d in
@@ -220,16 +233,14 @@ pub put-counted-spec : {M : Type 1} → statement M
 put-counted-spec =
     tie.close
     (tie.spec
-    entry-at-requires
+    format-at-requires
+    size-at-requires
     old-values-requires
-    cast-named
     named-requires
     larger-requires
     put-count-requires
     enum-known-x
     enum-known-p
-    cast-put-values
-    cast-put-values-2
     put-values-requires
     same-length
     returns
