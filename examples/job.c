@@ -1,4 +1,4 @@
-// A job record from nothing: the empty record of the specimen table, updates, reads of what was stored, and two refusals.
+// A job record from nothing: the empty record of the specimen table, updates, reads of what was stored, and three refusals.
 #include "lyrecanyon.h"
 #include <stdio.h>
 #include <string.h>
@@ -68,6 +68,19 @@ static void show_read(const uint8_t *record, size_t length, const char *text)
     show(text, number, buffer, used);
 }
 
+// The same, and the length that a value needs where it does not fit.
+static void show_read_needing(const uint8_t *record, size_t length, const char *text)
+{
+    struct format format = format_of(text);
+    uint8_t buffer[64];
+    size_t used, needed;
+    uint8_t number = lyrecanyon_read_needing(table, sizeof table, record, length, format.bytes, format.length, buffer, sizeof buffer, &used,
+                                             &needed);
+    show(text, number, buffer, used);
+    if (needed != 0)
+        printf("%s needs length %lu\n", text, (unsigned long)needed);
+}
+
 int main(void)
 {
     uint8_t empty[LYRECANYON_LONGEST_RECORD], job[LYRECANYON_LONGEST_RECORD];
@@ -83,6 +96,7 @@ int main(void)
     show("the update", number, job, job_length);
     show_read(job, job_length, "AA,AB,5,U,MFC,MF1-3.");
     show_read(job, job_length, "AA,QQ.");
+    show_read_needing(job, job_length, "AB,1.");
 
     // In place: 1,200 kilograms, and then a value with A for a digit, which leaves the record as it is.
     const uint8_t weights[][3] = {{0x01, 0x20, 0x0F}, {0x00, 0x1A, 0x5F}};

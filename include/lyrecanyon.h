@@ -1,14 +1,16 @@
 // Lyrecanyon: stored records, read and updated by format buffers. C99 and later, and C++. Link with liblyrecanyon.a (x86-64).
-// What tables, records and formats are, and when each number is returned, are the rules of document 01, in crates/rules/specs, with two
-// requests of document 02: a format of a read may have N, the last occurrence or value (M-100), and a packed or unpacked value of an update
-// may have any of the signs A, C, E and F for plus and B and D for minus, of which F and D are stored (M-101).
+// What tables, records and formats are, and when each number is returned, are the rules of document 01, in crates/rules/specs, with three
+// requests of document 02: a format of a read may have N, the last occurrence or value (M-100), a packed or unpacked value of an update may
+// have any of the signs A, C, E and F for plus and B and D for minus, of which F and D are stored (M-101), and a read that is refused with
+// 9 can say which length the value needs (M-103).
 //
 // Every call takes all inputs, ends, and does nothing undefined: no byte of a lent slice has to be checked before. Each returns a number:
 // LYRECANYON_DONE, or the number of a refusal. A refusal changes no byte of the slices; done writes as many bytes as the length used says,
 // from the start of the slice, and none after.
 //
-// A slice is a pointer to its first byte and the number of its bytes. Where the number is 0 the pointer may be null; `used` is never null.
-// Slices that are only read may overlap each other in any way. The slice that is written and `used` overlap nothing else that is lent.
+// A slice is a pointer to its first byte and the number of its bytes. Where the number is 0 the pointer may be null; `used` and `needed`
+// are never null. Slices that are only read may overlap each other in any way. The slice that is written, `used` and `needed` overlap
+// nothing else that is lent.
 //
 // The library has no state, calls nothing but memcpy and memset, and takes no memory but the stack. Any number of threads may call it at
 // once, each with its own slices to write.
@@ -21,7 +23,7 @@
 // The minor version rises with each function, number, form of a format or of a value that is added. A function keeps its parameters, and a
 // number its meaning, for as long as the major version stays.
 #define LYRECANYON_VERSION_MAJOR 1
-#define LYRECANYON_VERSION_MINOR 2
+#define LYRECANYON_VERSION_MINOR 3
 
 // The longest that a record and the answer of a read can be: slices of these lengths have room for every one.
 #define LYRECANYON_LONGEST_RECORD 4096
@@ -29,6 +31,7 @@
 
 // The bytes of the stack that a call of each function needs at most.
 #define LYRECANYON_STACK_READ 20480
+#define LYRECANYON_STACK_READ_NEEDING 20480
 #define LYRECANYON_STACK_UPDATE 24576
 #define LYRECANYON_STACK_APPLY 24576
 #define LYRECANYON_STACK_EMPTY 12288
@@ -87,6 +90,13 @@ static inline const char *lyrecanyon_meaning(uint8_t number)
 // the buffer is as it was.
 uint8_t lyrecanyon_read(const uint8_t *table, size_t table_length, const uint8_t *stored, size_t stored_length, const uint8_t *format,
                         size_t format_length, uint8_t *buffer, size_t buffer_length, size_t *used);
+
+// Reads as lyrecanyon_read does, and also says how long. With LYRECANYON_OUT_OF_RANGE, *needed is the smallest length from 1 up, in the
+// format in effect, that would have held the value that was refused, or 0 where that value is outside the conversion range. With every
+// other number, LYRECANYON_DONE among them, *needed is 0.
+uint8_t lyrecanyon_read_needing(const uint8_t *table, size_t table_length, const uint8_t *stored, size_t stored_length,
+                                const uint8_t *format, size_t format_length, uint8_t *buffer, size_t buffer_length, size_t *used,
+                                size_t *needed);
 
 // Updates: stores the values of the record buffer by a format, and writes the new record to the room, which lies apart from the old one.
 // Done: *used is the length of the new record. Refused: *used is 0 and the room is as it was.

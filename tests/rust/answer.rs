@@ -13,14 +13,17 @@ use lines::{bytes, number};
 
 const MOST_RECORD: usize = 4096;
 
-type Answer = Result<(u8, Vec<u8>), &'static str>;
+/// The number and the bytes written.
+type Written = (u8, Vec<u8>);
+
+type Answer<T> = Result<T, &'static str>;
 
 fn main() -> io::Result<()> {
     let mut out = BufWriter::new(io::stdout());
     for (i, line) in io::stdin().lock().lines().enumerate() {
         let line = line?;
         match answer(&line) {
-            Ok((number, bytes)) => writeln!(out, "{} {} {}", number, bytes.len(), hexadecimal(&bytes))?,
+            Ok(words) => writeln!(out, "{}", words)?,
             Err(trouble) => {
                 out.flush()?;
                 eprintln!("line {}: {}", i + 1, trouble);
@@ -31,35 +34,45 @@ fn main() -> io::Result<()> {
     out.flush()
 }
 
-/// The number and the bytes written.
-fn answer(line: &str) -> Answer {
+/// The words of an answer. A read's has four, also that after the updates of a journal, and all others three.
+fn answer(line: &str) -> Answer<String> {
     let words: Vec<&str> = line.split_whitespace().collect();
     match words[..] {
-        ["R", table, record, format, length] => {
-            let (table, record, format) = (bytes(table)?, bytes(record)?, bytes(format)?);
-            lend(number(length)?, |buffer| service::read(&table, &record, &format, buffer))
-        }
+        ["R", table, record, format, length] => read(&bytes(table)?, &bytes(record)?, &bytes(format)?, number(length)?),
         ["U", table, record, format, buffer, length] => {
             let (table, record, format, buffer) = (bytes(table)?, bytes(record)?, bytes(format)?, bytes(buffer)?);
-            lend(number(length)?, |room| service::update(&table, &record, &format, &buffer, room))
+            lend(number(length)?, |room| service::update(&table, &record, &format, &buffer, room)).map(spell)
         }
         ["E", table, length] => {
             let table = bytes(table)?;
-            lend(number(length)?, |room| service::empty(&table, room))
+            lend(number(length)?, |room| service::empty(&table, room)).map(spell)
         }
         ["H", table, journal, format, length] => {
             let (table, journal, format) = (bytes(table)?, bytes(journal)?, bytes(format)?);
             match carry_out(&table, &journal)? {
-                (0, record) => lend(number(length)?, |buffer| service::read(&table, &record, &format, buffer)),
-                refusal => Ok(refusal),
+                (0, record) => read(&table, &record, &format, number(length)?),
+                refusal => Ok(spell(refusal) + " 0"),
             }
         }
         _ => Err("not a call"),
     }
 }
 
+fn read(table: &[u8], record: &[u8], format: &[u8], length: usize) -> Answer<String> {
+    let mut needed = 0;
+    let answer = lend(length, |buffer| {
+        let (number, written, smallest) = service::read(table, record, format, buffer);
+        needed = smallest;
+        (number, written)
+    })?;
+    if answer.0 != 9 && needed != 0 {
+        return Err("a smallest length without 9");
+    }
+    Ok(format!("{} {}", spell(answer), needed))
+}
+
 /// The record after the updates of a journal, or the refusal of the empty record that they start from.
-fn carry_out(table: &[u8], mut journal: &[u8]) -> Answer {
+fn carry_out(table: &[u8], mut journal: &[u8]) -> Answer<Written> {
     let (number, mut record) = lend(MOST_RECORD, |room| service::empty(table, room))?;
     while let (0, Some((format, buffer, rest))) = (number, entry(journal)) {
         if let (0, new) = lend(MOST_RECORD, |room| service::update(table, &record, format, buffer, room))? {
@@ -78,7 +91,7 @@ fn entry(journal: &[u8]) -> Option<(&[u8], &[u8], &[u8])> {
 }
 
 /// Lends a slice of that length to a service and looks at all of it afterwards.
-fn lend(length: usize, service: impl FnOnce(&mut [u8]) -> (u8, usize)) -> Answer {
+fn lend(length: usize, service: impl FnOnce(&mut [u8]) -> (u8, usize)) -> Answer<Written> {
     let before: Vec<u8> = (0..length).map(|i| (i * 167 + 91) as u8).collect();
     let mut lent = before.clone();
     let (number, written) = service(&mut lent);
@@ -90,6 +103,10 @@ fn lend(length: usize, service: impl FnOnce(&mut [u8]) -> (u8, usize)) -> Answer
     }
     lent.truncate(written);
     Ok((number, lent))
+}
+
+fn spell((number, bytes): Written) -> String {
+    format!("{} {} {}", number, bytes.len(), hexadecimal(&bytes))
 }
 
 fn hexadecimal(bytes: &[u8]) -> String {

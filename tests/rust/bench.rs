@@ -25,7 +25,10 @@ fn proved(call: &Call, lent: &mut [u8]) -> (u8, usize) {
 /// The services in Rust.
 fn rust(call: &Call, lent: &mut [u8]) -> (u8, usize) {
     match &call.values {
-        None => service::read(&call.table, &call.record, &call.format, lent),
+        None => {
+            let (number, length, _) = service::read(&call.table, &call.record, &call.format, lent);
+            (number, length)
+        }
         Some(values) => service::update(&call.table, &call.record, &call.format, values, lent),
     }
 }

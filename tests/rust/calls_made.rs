@@ -29,6 +29,7 @@ pub struct Lent {
     pub room: Vec<u8>,
     pub place: Vec<u8>,
     pub used: usize,
+    pub needed: usize,
     pub length: usize,
 }
 
@@ -57,6 +58,7 @@ fn lent(call: rows::Call) -> Lent {
         room: vec![0; call.lent],
         place,
         used: 0,
+        needed: 0,
     }
 }
 
@@ -78,7 +80,8 @@ fn deep_groups() -> Vec<rows::Call> {
     ]
 }
 
-/// The calls of what is lent: a read, or an update to the room and one in place; and the empty record of its table.
+/// The calls of what is lent: a read and one that is asked how long, or an update to the room and one in place; and the empty record of its
+/// table.
 pub fn made(lent: &mut Lent) -> Vec<Call> {
     let slice = |bytes: &[u8]| vec![bytes.as_ptr() as usize, bytes.len()];
     let (table, stored, format) = (slice(&lent.table), slice(&lent.stored), slice(&lent.format));
@@ -92,6 +95,8 @@ pub fn made(lent: &mut Lent) -> Vec<Call> {
         calls.push(call("lyrecanyon_apply", exports::lyrecanyon_apply as usize, &parts));
     } else {
         calls.push(call("lyrecanyon_read", exports::lyrecanyon_read as usize, &[&table, &stored, &format, &room]));
+        let parts = [&table, &stored, &format, &room, &vec![&mut lent.needed as *mut usize as usize]];
+        calls.push(call("lyrecanyon_read_needing", exports::lyrecanyon_read_needing as usize, &parts));
     }
     calls
 }

@@ -254,6 +254,9 @@ fn length_for(random: &mut Random, format: u8, wide: bool) -> u8 {
         0 => least,
         1 if wide => greatest,
         2 | 3 if wide => random.between(least, greatest),
+        // As many digits for both.
+        _ if format == b'P' => random.between(1, 7),
+        _ if format == b'U' => random.between(1, 13),
         _ => random.between(1, 6),
     };
     length as u8
@@ -361,58 +364,60 @@ fn bad_table(random: &mut Random, table: &[Entry]) -> Vec<u8> {
 
 // Values.
 
-const LANDMARKS: [u128; 16] = [
-    9,
-    10,
-    99,
-    127,
-    128,
-    255,
-    256,
-    999,
-    9_999,
-    32_767,
-    32_768,
-    65_535,
-    65_536,
-    2_147_483_647,
-    2_147_483_648,
-    4_294_967_295,
-];
-
-fn magnitude(random: &mut Random) -> u128 {
-    match random.below(6) {
-        0 => 0,
-        1 | 2 => random.pick(&LANDMARKS) + random.below(2) as u128,
-        3 => random.below(1000) as u128,
-        _ => u128::from(random.next()) << random.below(48) >> random.below(64),
-    }
-}
-
-/// The largest magnitude that a numeric form holds for sure.
-fn capacity(form: Form) -> u128 {
+/// The largest magnitude that a numeric form holds for sure, above or below zero.
+fn capacity(form: Form, negative: bool) -> u128 {
     let length = u32::from(form.length);
     match form.format {
         b'B' => (1u128 << (8 * length.min(15))) - 1,
-        b'F' => (1 << (8 * length - 1)) - 1,
+        b'F' => (1 << (8 * length - 1)) - u128::from(!negative),
         b'P' => 10u128.pow(2 * length - 1) - 1,
         _ => 10u128.pow(length) - 1,
     }
 }
 
+/// The numbers up to one above the most that need another digit or byte than those below them, or end a range.
+fn edges(most: u128) -> Vec<u128> {
+    let digits = (1..30).map(|digits| 10u128.pow(digits));
+    let bytes = (1..16).map(|bytes| 1 << (8 * bytes));
+    let ranges = vec![1 << 15, 1 << 31, 1 << 31];
+    digits.chain(bytes).chain(ranges).filter(|&edge| edge <= most + 1).collect()
+}
+
+/// A magnitude up to the most, which is 9 or more.
+fn magnitude(random: &mut Random, most: u128) -> u128 {
+    let magnitude = match random.below(6) {
+        0 => 0,
+        1 | 2 => random.pick(&edges(most)) - 1 + random.below(3) as u128,
+        3 => random.below(1000) as u128,
+        _ => u128::from(random.next()) << random.below(48) >> random.below(64),
+    };
+    magnitude % (most + 1)
+}
+
 /// A value of the form whose meaning fits another form too. A loose one need not be in normal form.
 fn make_value(random: &mut Random, form: Form, fit: Form, loose: bool) -> Vec<u8> {
-    if form.format == b'A' {
-        return make_text(random, form, fit, loose);
+    const WORD: Form = Form { format: b'F', length: 4 };
+    match (form.format, fit.format) {
+        (b'A', _) => return make_text(random, form, fit, loose),
+        (b'B', b'B') if random.chance(25) => return make_binary(random, form, fit),
+        _ => {}
     }
-    let mut most = capacity(form).min(capacity(fit));
-    if form.format != fit.format && [form, fit].iter().any(|form| matches!(form.format, b'B' | b'F')) {
-        most = most.min(2_147_483_647);
-    }
-    let magnitude = magnitude(random) % (most + 1);
     let signed = form.format != b'B' && fit.format != b'B';
-    let negative = signed && random.chance(30) && (magnitude > 0 || loose);
-    put_number(random, form, magnitude, negative, loose)
+    let negative = signed && random.chance(30);
+    let mut most = capacity(form, negative).min(capacity(fit, negative));
+    if form.format != fit.format && [form, fit].iter().any(|form| matches!(form.format, b'B' | b'F')) {
+        most = most.min(capacity(WORD, negative));
+    }
+    let magnitude = magnitude(random, most);
+    put_number(random, form, magnitude, negative && (magnitude > 0 || loose), loose)
+}
+
+/// A binary value that may have more bytes than the numbers here.
+fn make_binary(random: &mut Random, form: Form, fit: Form) -> Vec<u8> {
+    let significant = random.between(0, form.length.min(fit.length).into());
+    let mut bytes = vec![0; usize::from(form.length) - significant];
+    bytes.extend((0..significant).map(|_| random.pick(&[0x00, 0x01, 0x7F, 0x80, 0xFF])));
+    bytes
 }
 
 fn put_number(random: &mut Random, form: Form, magnitude: u128, negative: bool, loose: bool) -> Vec<u8> {
@@ -458,7 +463,8 @@ fn make_text(random: &mut Random, form: Form, fit: Form, loose: bool) -> Vec<u8>
     let most = room(form).min(room(fit));
     let length = match random.below(12) {
         0 => most,
-        1 | 2 => 0,
+        1 => random.between(0, most),
+        2 => 0,
         _ => random.between(0, most.min(8)),
     };
     let mut text: Vec<u8> = (0..length).map(|_| random.pick(&[0xC1, 0xE9, 0xF5, 0x40, 0x00, 0xFF])).collect();
@@ -560,8 +566,8 @@ fn fill_record(random: &mut Random, last: &Entry, at: usize, record: &mut Vec<u8
     }
 }
 
-/// The ends of the P and U values of a record, with their forms. It may be a record of another table, and its bytes run out.
-fn decimals_of(table: &[Entry], record: &[u8]) -> Vec<(usize, Form)> {
+/// Where the numbers of a record end, with their forms. It may be a record of another table, and its bytes run out.
+fn numbers_of(table: &[Entry], record: &[u8]) -> Vec<(usize, Form)> {
     let (mut at, mut part, mut found) = (5, 0, Vec::new());
     let byte = |at: usize| record.get(at).copied().unwrap_or(0);
     let counted = |at: &mut usize| {
@@ -578,7 +584,7 @@ fn decimals_of(table: &[Entry], record: &[u8]) -> Vec<(usize, Form)> {
             let values = if field.is_multiple() { counted(&mut at) } else { 1 };
             for _ in 0..values {
                 at += usize::from(if field.is_variable() { byte(at) } else { field.length });
-                if at <= record.len() && matches!(field.format, b'P' | b'U') {
+                if at <= record.len() && field.format != b'A' {
                     found.push((at, field.form()));
                 }
             }
@@ -590,10 +596,23 @@ fn decimals_of(table: &[Entry], record: &[u8]) -> Vec<(usize, Form)> {
 
 /// Gives a P or U value of a record some half byte as its sign.
 fn sign_otherwise(random: &mut Random, table: &[Entry], record: &mut [u8]) {
-    let decimals = decimals_of(table, record);
+    let mut decimals = numbers_of(table, record);
+    decimals.retain(|(_, form)| matches!(form.format, b'P' | b'U'));
     if !decimals.is_empty() {
         let (end, form) = random.pick(&decimals);
         put_sign(form, random.below(16) as u8, &mut record[..end]);
+    }
+}
+
+/// Makes numbers of a record the ends of ranges, or those beside them, where they have the room.
+fn put_ends(random: &mut Random, table: &[Entry], record: &mut [u8]) {
+    for (end, form) in numbers_of(table, record) {
+        let magnitude = random.pick(&[1 << 15, 1 << 31, 1 << 31]) - 1 + random.below(3) as u128;
+        let negative = form.format != b'B' && random.chance(50);
+        if magnitude <= capacity(form, negative) && random.chance(50) {
+            let value = put_number(random, form, magnitude, negative, false);
+            record[end - value.len()..end].copy_from_slice(&value);
+        }
     }
 }
 
@@ -930,12 +949,14 @@ impl Maker<'_> {
         if !any && random.chance(60) {
             return None;
         }
-        let format = if standard.format == b'A' { b'A' } else { random.pick(&FORMATS[1..]) };
+        let own = standard.format == b'A' || any && random.chance(25);
+        let format = if own { standard.format } else { random.pick(&FORMATS[1..]) };
         for _ in 0..8 {
             let form = Form { format, length: length_for(random, format, true) };
             let holds = match format {
                 b'A' => form.length == 0 || (form.length >= standard.length && standard.length > 0),
-                _ => capacity(form) >= capacity(standard).min(99_999) && (format != b'B' || standard.format == b'B'),
+                b'B' if standard.format != b'B' => false,
+                _ => capacity(form, false) >= capacity(standard, false).min(99_999),
             };
             if any || holds || random.chance(4) {
                 return Some(form);
@@ -1086,15 +1107,18 @@ impl Story {
             (6, Plan::Name),
             (8, Plan::Use),
             (6, Plan::Short),
-            (9, Plan::Misfit),
+            (13, Plan::Misfit),
             (1, Plan::Room),
             (8, Plan::Bare),
         ];
         let plan = plan(random, &PLANS);
         let elements = Maker::make(random, &self.table, plan, false);
-        let (table, record, format) = self.lend(random, plan, &elements);
+        let (table, mut record, format) = self.lend(random, plan, &elements);
+        if plan == Plan::Misfit && random.chance(60) {
+            put_ends(random, &self.table, &mut record);
+        }
         let mut buffer = vec![0; 32_800];
-        let (_, length) = service::read(&table, &record, &format, &mut buffer);
+        let (_, length, _) = service::read(&table, &record, &format, &mut buffer);
         let length = choose_length(random, length, plan == Plan::Short);
         let (table, record, format) = (hexadecimal(&table), hexadecimal(&record), hexadecimal(&format));
         writeln!(out, "R {} {} {} {}", table, record, format, length)

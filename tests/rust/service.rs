@@ -1,4 +1,5 @@
-//! Read, update and make the empty record, by the rules of document 01 and, for N, of document 02.
+//! Read, update and make the empty record, by the rules of document 01 and, for N, the signs of old hosts and the length
+//! that goes with 9, of document 02.
 //!
 //! Nothing is allocated. A call decodes what it was lent once: the table into entries, the record into the places of
 //! its entries and occurrences, the format into elements. A read then goes over its elements twice, to test and to
@@ -34,15 +35,33 @@ enum Refusal {
 
 type Outcome<T> = Result<T, Refusal>;
 
+/// A refusal of a read. "With 9, a read shall also return the smallest length" in the format in effect.
+struct Refused {
+    refusal: Refusal,
+    needed: usize,
+}
+
+/// "All other answers carry 0 there."
+impl From<Refusal> for Refused {
+    fn from(refusal: Refusal) -> Refused {
+        Refused { refusal, needed: 0 }
+    }
+}
+
 // The services.
 
-/// Fills the record buffer with the items that the format names.
-pub fn read(table: &[u8], record: &[u8], format: &[u8], buffer: &mut [u8]) -> (u8, usize) {
-    answer(if is_usual(record, format) {
+/// Fills the record buffer with the items that the format names. The last of what it gives is the smallest length "that
+/// would have held that value", where it is refused with 9.
+pub fn read(table: &[u8], record: &[u8], format: &[u8], buffer: &mut [u8]) -> (u8, usize, usize) {
+    let outcome = if is_usual(record, format) {
         read_within::<32, 256>(table, record, format, buffer)
     } else {
         read_within::<683, MOST_RECORD>(table, record, format, buffer)
-    })
+    };
+    match outcome {
+        Ok(length) => (0, length, 0),
+        Err(Refused { refusal, needed }) => (refusal as u8, 0, needed),
+    }
 }
 
 /// Writes to the room the record in which every occurrence that the format names has its value from the record buffer.
@@ -77,7 +96,7 @@ fn read_within<const ELEMENTS: usize, const STARTS: usize>(
     record: &[u8],
     format: &[u8],
     buffer: &mut [u8],
-) -> Outcome<usize> {
+) -> Result<usize, Refused> {
     let mut entries = Table::NONE;
     entries.load(table)?;
     let mut starts = [0; STARTS];
@@ -388,6 +407,11 @@ fn text(value: &[u8], form: Form) -> &[u8] {
     &bytes[..length]
 }
 
+/// The bytes of a binary value from the first that isn't 0.
+fn significant(value: &[u8]) -> &[u8] {
+    &value[value.iter().take_while(|&&byte| byte == 0).count()..]
+}
+
 /// The number that a value means, if conversion between unlike formats takes it at all.
 fn number(value: &[u8], form: Form) -> Option<i32> {
     match form.format {
@@ -395,11 +419,11 @@ fn number(value: &[u8], form: Form) -> Option<i32> {
         Format::F if value.len() == 2 => Some(i32::from(i16::from_be_bytes([value[0], value[1]]))),
         Format::F => Some(i32::from_be_bytes([value[0], value[1], value[2], value[3]])),
         Format::B => {
-            let significant = &value[value.iter().take_while(|&&byte| byte == 0).count()..];
-            if significant.len() > 4 {
+            let bytes = significant(value);
+            if bytes.len() > 4 {
                 return None;
             }
-            i32::try_from(significant.iter().fold(0, |number, &byte| number << 8 | u32::from(byte))).ok()
+            i32::try_from(bytes.iter().fold(0, |number, &byte| number << 8 | u32::from(byte))).ok()
         }
         Format::P | Format::U => {
             let magnitude = magnitude(value, form.format)?;
@@ -457,6 +481,48 @@ fn fits(value: &[u8], from: Form, to: Form) -> bool {
         }
         Way::Digits => (to.digits()..from.digits()).all(|right| digit(value, from.format, right) == 0),
         Way::Number => number(value, from).map_or(false, |number| number_fits(number, to)),
+    }
+}
+
+/// "The smallest length from 1 up in the format in effect" that holds the value, "or 0 for a value outside the conversion
+/// range". An empty text takes one byte, and zero one byte or digit.
+fn smallest_length(value: &[u8], from: Form, to: Form) -> usize {
+    match (way(from, to), from.format) {
+        (Way::Never, _) => 0,
+        (Way::Same, Format::A) => max(text(value, from).len(), 1),
+        (Way::Same, Format::B) => max(significant(value).len(), 1),
+        (Way::Same | Way::Digits, Format::P | Format::U) => decimal_length(significant_digits(value, from), to.format),
+        _ => number(value, from).map_or(0, |number| number_length(number, to.format)),
+    }
+}
+
+/// How many digits a decimal value has from the first that isn't 0.
+fn significant_digits(value: &[u8], form: Form) -> usize {
+    (1..form.digits()).rev().find(|&right| digit(value, form.format, right) != 0).map_or(1, |right| right + 1)
+}
+
+/// The length of a decimal value with so many digits. In P the sign takes half a byte, in U it takes none.
+fn decimal_length(digits: usize, format: Format) -> usize {
+    if format == Format::P {
+        digits / 2 + 1
+    } else {
+        digits
+    }
+}
+
+/// The smallest length of a number by its conversion from another format, or from F to itself. B takes none below zero,
+/// and F has two lengths only.
+fn number_length(number: i32, format: Format) -> usize {
+    match format {
+        Format::A => 0,
+        Format::B if number < 0 => 0,
+        Format::B => max(significant(&number.to_be_bytes()).len(), 1),
+        Format::F if i16::try_from(number).is_ok() => 2,
+        Format::F => 4,
+        Format::P | Format::U => {
+            let digits = 1 + (1..10).take_while(|&right| number.unsigned_abs() >= 10u32.pow(right)).count();
+            decimal_length(digits, format)
+        }
     }
 }
 
@@ -873,7 +939,7 @@ impl<'a> Record<'a> {
 
 impl Record<'_> {
     /// Tests the items of an element that begins at that place of the record buffer, and gives the place after them.
-    fn measure(&self, element: &Element, at: usize, limit: usize) -> Outcome<usize> {
+    fn measure(&self, element: &Element, at: usize, limit: usize) -> Result<usize, Refused> {
         let end = match element.kind {
             Items::Blanks | Items::Text => at + usize::from(element.form.length),
             Items::Count => at + 1,
@@ -881,7 +947,7 @@ impl Record<'_> {
             Items::Values if element.standard => at + self.standard_length(element),
             Items::Values => return self.measure_converted(element, at, limit),
         };
-        within(end, limit)
+        Ok(within(end, limit)?)
     }
 
     fn piece(&self, element: &Element) -> &[u8] {
@@ -901,14 +967,14 @@ impl Record<'_> {
         element.occurrences().map(length).sum()
     }
 
-    fn measure_converted(&self, element: &Element, mut end: usize, limit: usize) -> Outcome<usize> {
+    fn measure_converted(&self, element: &Element, mut end: usize, limit: usize) -> Result<usize, Refused> {
         let (from, to) = (self.table.entries[element.first()].form, element.form);
         for occurrence in element.occurrences() {
             let (mut at, exist) = self.stored(element, occurrence);
             for _ in 0..exist {
                 let value = &self.bytes[at..at + from.length_at(self.bytes, at)];
                 if !fits(value, from, to) {
-                    return Err(Refusal::NoFit);
+                    return Err(Refused { refusal: Refusal::NoFit, needed: smallest_length(value, from, to) });
                 }
                 end = within(end + converted_length(value, from, to), limit)?;
                 at += value.len();

@@ -4,7 +4,7 @@
 use super::{encode, hexadecimal, length_for, make_value, put_sign, table_bytes, Entry, Form, Random, Update, MOST_RECORD};
 use std::io::{self, Write};
 
-pub fn write_signs(random: &mut Random, rounds: u64, out: &mut impl Write) -> io::Result<()> {
+pub(crate) fn write_signs(random: &mut Random, rounds: u64, out: &mut impl Write) -> io::Result<()> {
     let packed = (1..=15).map(|length| Form { format: b'P', length });
     let unpacked = (1..=29).map(|length| Form { format: b'U', length });
     let forms: Vec<Form> = packed.chain(unpacked).collect();

@@ -1,6 +1,6 @@
 //! Runs calls on stacks that are as large as the header says: `threads NAME BYTES ...`, a name and a bound for each function. A thread
 //! makes the calls of `calls_made.rs` on a stack of exactly that many bytes, arguments among them, right after an unreadable page. Each has
-//! to come back, with the number and the length that it has on an ordinary stack. That the page guards is seen first.
+//! to come back, with the number and the lengths that it has on an ordinary stack. That the page guards is seen first.
 
 use std::env;
 use std::process::exit;
@@ -23,8 +23,8 @@ use pages::{in_child, Area, Place};
 
 const PAGE: usize = 4096;
 
-/// The number and the length of an answer.
-type Answer = (u8, usize);
+/// The number, the length and, where it is asked for, the length needed.
+type Answer = (u8, usize, usize);
 
 /// A function, the bytes that the header says, and its calls with their answers on an ordinary stack.
 struct Function<'a> {
@@ -95,7 +95,7 @@ impl<'a> Function<'a> {
 
     fn answer(&self, top: usize, mut lent: Lent) -> Answer {
         let number = unsafe { call_on(top, &self.call(&mut lent)) };
-        (number, if self.name == "lyrecanyon_apply" { lent.length } else { lent.used })
+        (number, if self.name == "lyrecanyon_apply" { lent.length } else { lent.used }, lent.needed)
     }
 
     fn call(&self, lent: &mut Lent) -> Call {
@@ -106,11 +106,13 @@ impl<'a> Function<'a> {
 /// The answer on an ordinary stack, if what is lent is for a call of that function.
 fn ordinary(name: &str, mut lent: Lent) -> Option<Answer> {
     let Lent { table, stored, format, buffer, room, place, length, .. } = &mut lent;
-    match (name, buffer) {
-        ("lyrecanyon_read", None) => Some(exports::read(table, stored, format, room)),
-        ("lyrecanyon_update", Some(buffer)) => Some(exports::update(table, stored, format, buffer, room)),
-        ("lyrecanyon_apply", Some(buffer)) => Some((exports::apply(table, place, length, format, buffer), *length)),
-        ("lyrecanyon_empty", _) => Some(exports::empty(table, room)),
-        _ => None,
-    }
+    let (number, used) = match (name, buffer) {
+        ("lyrecanyon_read_needing", None) => return Some(exports::read_needing(table, stored, format, room)),
+        ("lyrecanyon_read", None) => exports::read(table, stored, format, room),
+        ("lyrecanyon_update", Some(buffer)) => exports::update(table, stored, format, buffer, room),
+        ("lyrecanyon_apply", Some(buffer)) => (exports::apply(table, place, length, format, buffer), *length),
+        ("lyrecanyon_empty", _) => exports::empty(table, room),
+        _ => return None,
+    };
+    Some((number, used, 0))
 }

@@ -7,7 +7,7 @@ use crate::service;
 /// The update that stores what a read gives.
 pub fn stored_again(call: &Call) -> Call {
     let mut buffer = vec![0; call.lent];
-    let (_, length) = service::read(&call.table, &call.record, &call.format, &mut buffer);
+    let (_, length, _) = service::read(&call.table, &call.record, &call.format, &mut buffer);
     buffer.truncate(length);
     Call {
         row: call.row.replacen("read", "update", 1),

@@ -13,8 +13,8 @@ ghost use Rattle.calls.specs.Areas.{room-size, line-size, Areas};
 // so a call that asks for more than 40,000 bytes is answered as with 40,000.
 const ROOM_SIZE: usize = 40000;
 
-// The line of an answer: two digits for each byte of room, and 16 more.
-const LINE_SIZE: usize = 2 * ROOM_SIZE + 16;
+// The line of an answer: two digits for each byte of room, and 24 more.
+const LINE_SIZE: usize = 2 * ROOM_SIZE + 24;
 
 fn room_area() -> [u8; ROOM_SIZE]
     ensures { λ r. ⌜ room-size ≡ length r ⌝ }
@@ -28,10 +28,12 @@ fn output_area() -> [u8; LINE_SIZE]
     [0; LINE_SIZE]
 }
 
-// The number and the length that a service returned. What is no call has no known answer.
+// What a service returned: the number and the length, and of a read the length that is needed. What is no call has no known answer.
 struct Answered {
     number: u8,
     length: usize,
+    needed: u8,
+    read: bool,
     known: bool,
 }
 
@@ -41,6 +43,8 @@ fn no_call() -> Answered
     Answered {
         number: 0,
         length: 0,
+        needed: 0,
+        read: false,
         known: false,
     }
 }
@@ -52,6 +56,8 @@ fn answer_read(table: &[u8], stored: &[u8], format: &[u8], room: &mut [u8]) -> A
     Answered {
         number: answer.number(),
         length: answer.length(),
+        needed: answer.needed(),
+        read: true,
         known: true,
     }
 }
@@ -63,6 +69,8 @@ fn answer_history(table: &[u8], journal: &[u8], format: &[u8], room: &mut [u8]) 
     Answered {
         number: answer.number(),
         length: answer.length(),
+        needed: answer.needed(),
+        read: true,
         known: true,
     }
 }
@@ -80,6 +88,8 @@ fn answer_update(
     Answered {
         number: answer.number(),
         length: answer.length(),
+        needed: 0,
+        read: false,
         known: true,
     }
 }
@@ -91,6 +101,8 @@ fn answer_empty(table: &[u8], room: &mut [u8]) -> Answered
     Answered {
         number: answer.number(),
         length: answer.length(),
+        needed: 0,
+        read: false,
         known: true,
     }
 }
@@ -183,11 +195,13 @@ fn put(a: Answered, room: &[u8], out: &mut [u8]) -> usize
     ensures { λ r. ⌜ r ≤ line-size ⌝ }
 {
     let used = a.length;
-    if a.known {
-        protocol::put_answer(a.number, &room[..used], out, 0)
-    } else {
-        protocol::put_no_call(out, 0)
+    if !a.known {
+        return protocol::put_no_call(out, 0);
     }
+    if a.read {
+        return protocol::put_read_answer(a.number, &room[..used], a.needed as usize, out, 0);
+    }
+    protocol::put_answer(a.number, &room[..used], out, 0)
 }
 
 fn answer_line(line: &[u8], bytes: &mut [u8], room: &mut [u8], out: &mut [u8])

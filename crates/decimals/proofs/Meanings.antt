@@ -9,7 +9,7 @@ use lib.ListN.{length, take, getD}
 use borrow.Author.Tests.{le-leb, lt-leb, eq-eqb, ne-eqb}
 use Rattle.rules.specs.Outcome.{done, refused, is-done}
 use Rattle.rules.specs.Lists.{Bytes, all, spelled, but-last, last}
-use Rattle.rules.specs.Numbers.{refusal-number}
+use Rattle.rules.specs.Numbers.{refusal, refusal-number}
 use Rattle.rules.specs.declared.Refusal.the-variants.{BadValue}
 use Rattle.rules.specs.Values.{signed, halves, accepted-plus, accepted-minus, sign-means, decimal, meaning}
 use Rattle.rules.proofs.Bools.{and-regrouped, and-crossed}
@@ -24,7 +24,7 @@ sign-is-done : (s : ℕ) → is-done (sign-means s) ≡ is-sign s
 unfolding sign-means is-sign
 sign-is-done s = go (accepted-plus s) (accepted-minus s)
   where
-    go : (a b : Bool) → is-done {A = Bool} (elim a [ true ↦ done false | false ↦ elim b [ true ↦ done true | false ↦ refused (refusal-number BadValue) ] ]) ≡ (a || b)
+    go : (a b : Bool) → is-done {A = Bool} (elim a [ true ↦ done false | false ↦ elim b [ true ↦ done true | false ↦ refused (refusal BadValue) ] ]) ≡ (a || b)
     go true b = refl
     go false true = refl
     go false false = refl

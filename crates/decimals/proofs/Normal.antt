@@ -26,7 +26,7 @@ use Rattle.decimals.proofs.Sound.{Sound, sound, readable, below-ten}
 
 module _ (p : Bool) (n : ℕ) (below : Bool) (x : ℕ) where
   normal-is : normal (decimal-format p) n (number below x)
-      ≡ (need (ltb x (10 ^ places p n)) (refusal-number OutOfRange) >>= λ _. done (written p n below x))
+      ≡ (need (ltb x (10 ^ places p n)) (refusal-number (OutOfRange 0)) >>= λ _. done (written p n below x))
   unfolding normal decimal-format places encoded written
   normal-is = elim p [ true ↦ refl | false ↦ refl ]
 

@@ -9,7 +9,7 @@ use lib.ListN.{length, getD}
 use Rattle.rules.specs.Outcome.{Outcome, done, refused, is-done}
 use Rattle.rules.specs.Limits.{longest-alpha}
 use Rattle.rules.specs.Lists.{Bytes, all, spelled, but-last, last}
-use Rattle.rules.specs.Numbers.{refusal-number}
+use Rattle.rules.specs.Numbers.{refusal, refusal-number}
 use Rattle.rules.specs.declared.Refusal.the-variants.{BadValue}
 use Rattle.rules.specs.Values.{Value, number, signed, halves, pairs, zoned, accepted-plus, accepted-minus, sign-means, decimal, meaning}
 use Rattle.rules.proofs.Steps.{true-T, T-true, and-left, and-right, not-done, from-bind, from-need, done-inj}
@@ -26,7 +26,7 @@ sign-done : (s : ℕ) (m : Bool) → sign-means s ≡ done m → m ≡ accepted-
 unfolding sign-means
 sign-done s m e = go (accepted-plus s) (accepted-minus s) (plus-not-minus s) e
   where
-    go : (a b : Bool) → (a ≡ true → b ≡ false) → _≡_ {A = Outcome Bool} (elim a [ true ↦ done false | false ↦ elim b [ true ↦ done true | false ↦ refused (refusal-number BadValue) ] ]) (done m) → m ≡ b
+    go : (a b : Bool) → (a ≡ true → b ≡ false) → _≡_ {A = Outcome Bool} (elim a [ true ↦ done false | false ↦ elim b [ true ↦ done true | false ↦ refused (refusal BadValue) ] ]) (done m) → m ≡ b
     go true b k e = let f = k refl in cc
     go false true k e = cc
     go false false k e = absurd (not-done e)

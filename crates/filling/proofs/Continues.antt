@@ -9,8 +9,9 @@ use native.Mathlib.Omega.{arith}
 use lib.Dec.{leb, leb→le}
 use lib.ListN.{length, length-append}
 use Rattle.rules.specs.Outcome.{Outcome, done, refused, _>>=_, is-done}
+use Rattle.rules.specs.Outcome as outcome
 use Rattle.rules.specs.Lists.{Bytes, bytes-of}
-use Rattle.rules.specs.Numbers.{refusal-number}
+use Rattle.rules.specs.Numbers.{refusal}
 use Rattle.rules.specs.declared.Refusal.{Refusal}
 use Rattle.rules.proofs.Steps.{from-bind, from-need, need-true, done-inj, refused-inj, not-done, by-test, by-outcome, not-both}
 use Rattle.buffer.specs.Splice.{splice}
@@ -55,7 +56,7 @@ append-on room (done b ∷ xs) ys a p =
     rw (need-true (leb (length b) room) 7 t, append-on (room - length b) xs ys cs h, ← e, m) (before-both b cs (together (room - length b - length cs) ys))
 append-on room (refused n ∷ xs) ys a p = absurd (not-done p)
 
-pub append-off : (room : ℕ) (xs ys : List (Outcome Bytes)) (k : ℕ) → together room xs ≡ refused k → together room (xs ++ ys) ≡ refused k
+pub append-off : (room : ℕ) (xs ys : List (Outcome Bytes)) (k : outcome.Refusal) → together room xs ≡ refused k → together room (xs ++ ys) ≡ refused k
 unfolding together
 append-off room [] ys k p = absurd (not-done (sym p))
 append-off room (done b ∷ xs) ys k p = by-test (leb (length b) room)
@@ -92,7 +93,7 @@ left-empty false at o out e = refl
 left-empty true at o out e = ap (λ bs. splice at bs out) e ∙ splice-nil at out
 
 -- Both are refused alike, and nothing is written where nothing is to be.
-pub continues-both-off : {whole rest : Outcome Bytes} {start at : ℕ} {write : Bool} {out₀ out : Bytes} (k : ℕ) → whole ≡ refused k → rest ≡ refused k → length out ≡ length out₀
+pub continues-both-off : {whole rest : Outcome Bytes} {start at : ℕ} {write : Bool} {out₀ out : Bytes} (k : outcome.Refusal) → whole ≡ refused k → rest ≡ refused k → length out ≡ length out₀
     → (write ≡ false → out ≡ out₀) → Continues whole rest start at write out₀ out
 continues-both-off {start = start} {at} {write} {out₀} {out} k w r l u = record {
   answer = ap (placed at) r ∙ sym (ap (placed start) w);
@@ -129,7 +130,7 @@ module _ {whole rest : Outcome Bytes} {start at : ℕ} {write : Bool} {out₀ ou
       }
 
   -- A stop: what is left is refused, and so is the whole; its bytes count only where nothing was written.
-  pub continues-off : (x : Refusal) → rest ≡ refused (refusal-number x) → (write ≡ false → out′ ≡ out) → Filling whole start write out₀ out′ (Refused x)
+  pub continues-off : (x : Refusal) → rest ≡ refused (refusal x) → (write ≡ false → out′ ≡ out) → Filling whole start write out₀ out′ (Refused x)
   continues-off x o u = record {
     answer = ap (placed at) (sym o) ∙ g .answer;
     same = same ∙ g .same;
@@ -148,7 +149,7 @@ module _ {o : Outcome Bytes} {at : ℕ} {write : Bool} {out out′ : Bytes} {n :
       (λ a h. k a h (done-inj (sym (f .answer ∙ ap (placed at) h) ∙ ap ended q)) (f .bytes (λ w. ap is-done h) ∙ ap (λ x. left-as write at x out) h))
       (λ j h. absurd (not-done (sym (f .answer ∙ ap (placed at) h) ∙ ap ended q)))
 
-  pub put-off : (x : Refusal) → n ≡ Refused x → o ≡ refused (refusal-number x)
+  pub put-off : (x : Refusal) → n ≡ Refused x → o ≡ refused (refusal x)
   put-off x q = by-outcome o
       (λ a h. absurd (not-done (sym (ap ended q) ∙ f .answer ∙ ap (placed at) h)))
       (λ j h. h ∙ ap refused (refused-inj (sym (f .answer ∙ ap (placed at) h) ∙ ap ended q)))
@@ -169,7 +170,7 @@ module _ (end : ℕ) (xs ys : List (Outcome Bytes)) {whole : Outcome Bytes} {sta
       continues-on g (f .same) a (together (end - at′) ys) at′ o e (omega arith) b
 
   pub stop : (x : Refusal) → n ≡ Refused x → Filling whole start write out₀ out′ (Refused x)
-  stop x q = continues-off g (f .same) x (append-off (end - at) xs ys (refusal-number x) (put-off f x q)) (put-unwritten f)
+  stop x q = continues-off g (f .same) x (append-off (end - at) xs ys (refusal x) (put-off f x q)) (put-unwritten f)
 
 -- The end: nothing is left.
 pub continues-end : (room : ℕ) {whole : Outcome Bytes} {start at : ℕ} {write : Bool} {out₀ out : Bytes}

@@ -7,9 +7,9 @@ use native.Mathlib.Nat.{add-zero}
 use native.Mathlib.Omega.{arith}
 use borrow.Author.Tests.{le-leb, lt-leb}
 use lib.ListN.{length}
-use Rattle.rules.specs.Outcome.{Outcome, done, refused}
+use Rattle.rules.specs.Outcome.{Outcome, done, refused, by}
 use Rattle.rules.specs.Lists.{Bytes, bytes-of}
-use Rattle.rules.specs.Numbers.{refusal-number}
+use Rattle.rules.specs.Numbers.{refusal}
 use Rattle.rules.specs.declared.Refusal.{Refusal}
 use Rattle.rules.specs.declared.Refusal.the-variants.{BeyondBuffer}
 use Rattle.buffer.specs.Splice.{splice}
@@ -22,14 +22,14 @@ inside-room : (room : ℕ) (bs : Bytes) → length bs ≤ room → in-room room 
 unfolding in-room
 inside-room room bs h = rw (le-leb (length bs) room h) refl
 
-beyond-room : (room : ℕ) (bs : Bytes) → room < length bs → in-room room (done bs) ≡ refused 7
+beyond-room : (room : ℕ) (bs : Bytes) → room < length bs → in-room room (done bs) ≡ refused (by 7)
 unfolding in-room
 beyond-room room bs h = rw (lt-leb (length bs) room h) refl
 
 module _ (room at : ℕ) (bs out : Bytes) (write : Bool) where
   pub item-beyond : room < length bs → Filling (in-room room (done bs)) at write out out (Refused BeyondBuffer)
   unfolding bytes-of
-  item-beyond h = rw (beyond-room room bs h) (record { answer = refl; same = refl; bytes = λ k. sym (left-empty write at (refused 7) out refl) })
+  item-beyond h = rw (beyond-room room bs h) (record { answer = refl; same = refl; bytes = λ k. sym (left-empty write at (refused (by 7)) out refl) })
 
   pub item-tested : (n : ℕ) → write ≡ false → length bs ≤ room → n ≡ at + length bs → Filling (in-room room (done bs)) at write out out (At n)
   item-tested n w h e = rw (inside-room room bs h, e, w) (record { answer = refl; same = refl; bytes = λ k. refl })
@@ -50,9 +50,9 @@ Long o n = (o ≡ done (bytes-of o)) × (n ≡ length (bytes-of o))
 -- The same of an outcome: its refusal, or how long its bytes are.
 module _ (o : Outcome Bytes) where
   module _ (room at : ℕ) (out : Bytes) (write : Bool) where
-    pub value-refused : (x : Refusal) → o ≡ refused (refusal-number x) → Filling (in-room room o) at write out out (Refused x)
+    pub value-refused : (x : Refusal) → o ≡ refused (refusal x) → Filling (in-room room o) at write out out (Refused x)
     unfolding in-room bytes-of
-    value-refused x e = rw e (record { answer = refl; same = refl; bytes = λ k. sym (left-empty write at (refused (refusal-number x)) out refl) })
+    value-refused x e = rw e (record { answer = refl; same = refl; bytes = λ k. sym (left-empty write at (refused (refusal x)) out refl) })
 
     module _ (n : ℕ) (e : Long o n) where
       pub value-beyond : room < n → Filling (in-room room o) at write out out (Refused BeyondBuffer)

@@ -7,7 +7,7 @@ use lib.Dec.{leb}
 use lib.ListN.{length}
 use Rattle.rules.specs.Outcome.{Outcome, done, refused, _>>=_, need, is-done}
 use Rattle.rules.specs.Lists.{Bytes, bytes-of}
-use Rattle.rules.specs.Numbers.{refusal-number}
+use Rattle.rules.specs.Numbers.{refusal}
 use Rattle.buffer.specs.Splice.{splice}
 use Rattle.filling.specs.declared.Next.{Next}
 use Rattle.filling.specs.declared.Next.the-variants.{At, Refused}
@@ -19,7 +19,7 @@ Roomy at end out = (at ≤ end) × (end ≤ length out)
 -- Where what was put ends, or the number of its refusal.
 abbrev pub ended : Next → Outcome ℕ
 ended (At p) = done p
-ended (Refused x) = refused (refusal-number x)
+ended (Refused x) = refused (refusal x)
 
 -- Where bytes that begin at a place end.
 abbrev pub placed : ℕ → Outcome Bytes → Outcome ℕ

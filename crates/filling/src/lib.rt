@@ -12,6 +12,7 @@ ghost use Rattle.rules.specs.Values.{allowed, null};
 ghost use Rattle.value_formats.specs.Formats.{format-at};
 ghost use Rattle.filling.specs.Filling.{Roomy, Filling, in-room};
 
+pub mod lengths;
 pub mod value;
 
 use rules::Refusal;

@@ -20,7 +20,7 @@ fn put_alpha(s: &[u8], size: usize, out: &mut [u8], at: usize, end: usize, write
 {
     let len = values::texts::text_length(s);
     if !values::texts::length_fits(len, size) {
-        return Next::Refused(Refusal::OutOfRange);
+        return Next::Refused(Refusal::OutOfRange(0));
     }
     let n = values::texts::length_at(len, size);
     if end - at < n {
@@ -48,7 +48,7 @@ fn put_every(
     ensures { λ r. ⌜ Filling (in-room (end - at) (converted-bytes (format-at own) (format-at format) size (now (s .entry)))) at write (now (out .entry)) (now (out .exit)) r ⌝ }
 {
     if !values::conversion::every_fits(s, own, format, size) {
-        return Next::Refused(Refusal::OutOfRange);
+        return Next::Refused(Refusal::OutOfRange(0));
     }
     let n = values::conversion::converted_size(s, size);
     if end - at < n {
@@ -78,10 +78,10 @@ fn put_word(
 {
     let word = values::numbers::to_word(s, own);
     match word {
-        Word::Outside => Next::Refused(Refusal::OutOfRange),
+        Word::Outside => Next::Refused(Refusal::OutOfRange(0)),
         Word::Number(v) => {
             if !values::conversion::word_fits(v, format, size, natural) {
-                return Next::Refused(Refusal::OutOfRange);
+                return Next::Refused(Refusal::OutOfRange(0));
             }
             if end - at < size {
                 return Next::Refused(Refusal::BeyondBuffer);

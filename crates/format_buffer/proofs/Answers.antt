@@ -3,7 +3,7 @@ use mathlib.Core.Path.{_≡_, refl, ap, _∙_}
 use mathlib.Core.Bool.{true≢false}
 use Prim.Native.Nat.{ℕ, _≤_}
 use native.Mathlib.Omega.{arith}
-use Rattle.rules.specs.Outcome.{Outcome, done, refused}
+use Rattle.rules.specs.Outcome.{Outcome, done, refused, by}
 use Rattle.rules.specs.Limits.{greatest-length}
 use Rattle.rules.specs.Lists.{Bytes}
 use Rattle.rules.specs.Format as rules
@@ -22,16 +22,16 @@ pub bracketed-values : {o : Outcome rules.Indexing} {r : Bracket} {x : Indexing}
     → (o ≡ done (indexing-of x)) × Small-indexing x
 bracketed-values w q = (w .answer ∙ ap bracket-of q, rw q at (w .small))
 
-pub bracketed-bad : {o : Outcome rules.Indexing} {r : Bracket} → Bracketed o r → r ≡ bracket.Bad → o ≡ refused 3
+pub bracketed-bad : {o : Outcome rules.Indexing} {r : Bracket} → Bracketed o r → r ≡ bracket.Bad → o ≡ refused (by 3)
 bracketed-bad w q = w .answer ∙ ap bracket-of q
 
-pub pieced-bad : {f : Bytes} {o : Outcome rules.Piece} → o ≡ refused 3 → Pieced f o piece.Bad
+pub pieced-bad : {f : Bytes} {o : Outcome rules.Piece} → o ≡ refused (by 3) → Pieced f o piece.Bad
 pieced-bad e = record { answer = e; sound = tt }
 
 pub pieced-from : {f : Bytes} {o o′ : Outcome rules.Piece} {r : Piece} → o ≡ o′ → Pieced f o′ r → Pieced f o r
 pieced-from e w = record { answer = e ∙ w .answer; sound = w .sound }
 
-pub element-bad : {f : Bytes} {o : Outcome rules.Element} → o ≡ refused 3 → Pieced f (as-piece o) piece.Bad
+pub element-bad : {f : Bytes} {o : Outcome rules.Element} → o ≡ refused (by 3) → Pieced f (as-piece o) piece.Bad
 element-bad e = record { answer = rw e refl; sound = tt }
 
 pub element-is : {f : Bytes} {o : Outcome rules.Element} {e e′ : Element} → e ≡ e′ → o ≡ done (element-of f e′) → sound f e′ → unfinished e′

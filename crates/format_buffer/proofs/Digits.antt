@@ -8,7 +8,7 @@ use native.Mathlib.Omega.{arith}
 use lib.Dec.{eqb, leb, lit<}
 use lib.ListN.{length, getD}
 use borrow.Author.Tests.{le-leb, lt-leb, leb-true}
-use Rattle.rules.specs.Outcome.{Outcome, done, refused, _>>=_, need}
+use Rattle.rules.specs.Outcome.{Outcome, done, refused, by, _>>=_, need}
 use Rattle.rules.specs.Limits.{most-digits}
 use Rattle.rules.specs.Characters.{digit, digit-0}
 use Rattle.rules.specs.Lists.{Bytes, spelled, nothing}
@@ -49,7 +49,7 @@ end : (k n : ℕ) → 1 ≤ k → k ≤ most-digits → spelling k n (leading-di
 unfolding spelling leading-digits spelled
 end k n lo hi = rw (add-zero, le-leb _ _ lo, le-leb _ _ hi) refl
 
-many : (k n b : ℕ) (bs : Bytes) → most-digits ≤ k → digit b ≡ true → spelling k n (leading-digits (b ∷ bs)) ≡ refused 3
+many : (k n b : ℕ) (bs : Bytes) → most-digits ≤ k → digit b ≡ true → spelling k n (leading-digits (b ∷ bs)) ≡ refused (by 3)
 unfolding spelling leading-digits
 many k n b bs hi e =
     let l : most-digits < k + suc (length (leading-digits bs .0)) = omega arith in
@@ -100,17 +100,17 @@ module _ {f : Bytes} {at upto n i : ℕ} (w : Read f at upto n i) (h : i < upto)
   pub read-stop : digit (getD f i 0) ≡ false → number-first (part f at upto) ≡ done (n, part f i upto)
   read-stop b = w .left ∙ rw first (stop (i - at) n (getD f i 0) (part f (i + 1) upto) (omega arith) (omega arith) b)
 
-  pub read-many : digit (getD f i 0) ≡ true → i - at ≡ most-digits → number-first (part f at upto) ≡ refused 3
+  pub read-many : digit (getD f i 0) ≡ true → i - at ≡ most-digits → number-first (part f at upto) ≡ refused (by 3)
   read-many b m = w .left ∙ rw first (many (i - at) n (getD f i 0) (part f (i + 1) upto) (omega arith) b)
 
 pub read-end : {f : Bytes} {at upto n i : ℕ} → Read f at upto n i → upto ≤ i → number-first (part f at upto) ≡ done (n, part f i upto)
 read-end {f} {at} {upto} {n} {i} w h = w .left ∙ rw (part-nil f i upto h) (end (i - at) n (omega arith) (omega arith))
 
-pub read-nothing : (f : Bytes) (at upto : ℕ) → at ≡ upto → number-first (part f at upto) ≡ refused 3
+pub read-nothing : (f : Bytes) (at upto : ℕ) → at ≡ upto → number-first (part f at upto) ≡ refused (by 3)
 unfolding number-first leading-digits
 read-nothing f at upto e = rw (part-nil f at upto (omega arith)) refl
 
-pub read-none : (f : Bytes) (at upto : ℕ) → at < upto → upto ≤ length f → digit (getD f at 0) ≡ false → number-first (part f at upto) ≡ refused 3
+pub read-none : (f : Bytes) (at upto : ℕ) → at < upto → upto ≤ length f → digit (getD f at 0) ≡ false → number-first (part f at upto) ≡ refused (by 3)
 unfolding number-first leading-digits
 read-none f at upto h k e = rw (part-cons f at upto h k, e, leading-digits) refl
 

@@ -7,7 +7,7 @@ use native.Mathlib.Omega.{arith}
 use lib.Dec.{eqb}
 use lib.ListN.{length, getD}
 use borrow.Author.Tests.{eq-eqb, ne-eqb, eqb-true, eqb-false}
-use Rattle.rules.specs.Outcome.{Outcome, done, refused, _>>=_, need}
+use Rattle.rules.specs.Outcome.{Outcome, done, refused, by, _>>=_, need}
 use Rattle.rules.specs.Characters.{hyphen, letter-N}
 use Rattle.rules.specs.Lists.{Bytes}
 use Rattle.rules.specs.Format as rules
@@ -27,7 +27,7 @@ module _ {f : Bytes} {at upto : ℕ} {o : Outcome (rules.Indexing × Bytes)} {r 
   pub indexes-at : {x : Indexing} {p : ℕ} → r ≡ At x p → (o ≡ done (indexing-of x, part f p upto)) × ((at ≤ p) × (p ≤ upto) × Small-indexing x)
   indexes-at q = (w .answer ∙ ap (indexes-and-rest f upto) q, rw q at (w .place))
 
-  pub indexes-bad : r ≡ Bad → o ≡ refused 3
+  pub indexes-bad : r ≡ Bad → o ≡ refused (by 3)
   indexes-bad q = w .answer ∙ ap (indexes-and-rest f upto) q
 
 -- What was read from a later place on.
@@ -79,7 +79,7 @@ module _ (x : Indexing) where
 
 -- An index.
 module _ (f : Bytes) (at upto : ℕ) where
-  pub index-nothing : at ≡ upto → index-first (part f at upto) ≡ refused 3
+  pub index-nothing : at ≡ upto → index-first (part f at upto) ≡ refused (by 3)
   unfolding index-first
   index-nothing e = rw (part-nil f at upto (omega arith)) refl
 
@@ -108,12 +108,12 @@ index-scope bs x s {cs} e =
 
 -- A range that begins with x.
 module _ (x : Indexing) (bs : Bytes) where
-  pub range-to-none : (x .scope ≡ written-scope → ⊥) → range-to (indexing-of x) bs ≡ refused 3
+  pub range-to-none : (x .scope ≡ written-scope → ⊥) → range-to (indexing-of x) bs ≡ refused (by 3)
   unfolding range-to
-  range-to-none e = by-scope x (λ y. range-to y bs ≡ refused 3) (λ a. absurd (e a)) (λ _. refl) (λ _ _. refl)
+  range-to-none e = by-scope x (λ y. range-to y bs ≡ refused (by 3)) (λ a. absurd (e a)) (λ _. refl) (λ _ _. refl)
 
   module _ (e : x .scope ≡ written-scope) where
-    pub range-to-bad : index-first bs ≡ refused 3 → range-to (indexing-of x) bs ≡ refused 3
+    pub range-to-bad : index-first bs ≡ refused (by 3) → range-to (indexing-of x) bs ≡ refused (by 3)
     unfolding range-to reaching
     range-to-bad q = rw (e, q) refl
 
@@ -130,7 +130,7 @@ module _ (x : Indexing) (bs : Bytes) where
         pub range-to-last : x .from ≡ 1 → range-to (indexing-of x) bs ≡ done (reaching all-scope (range 1 1), cs)
         range-to-last o = range-behind ∙ rw (eq-eqb _ _ o) refl
 
-        pub range-to-other : (x .from ≡ 1 → ⊥) → range-to (indexing-of x) bs ≡ refused 3
+        pub range-to-other : (x .from ≡ 1 → ⊥) → range-to (indexing-of x) bs ≡ refused (by 3)
         range-to-other o = range-behind ∙ rw (ne-eqb _ _ o) refl
 
 -- An index, or a range where a hyphen follows.

@@ -8,7 +8,7 @@ use native.Mathlib.Omega.{arith}
 use lib.Dec.{eqb}
 use lib.ListN.{length, take, drop, getD, drop-of-length-le}
 use lib.Seq.{drop-cons, drop-drop}
-use Rattle.rules.specs.Outcome.{Outcome, done, refused, _>>=_}
+use Rattle.rules.specs.Outcome.{Outcome, done, refused, by, _>>=_}
 use Rattle.rules.specs.Characters.{period, digit}
 use Rattle.rules.specs.Lists.{Bytes}
 use Rattle.rules.specs.Values.{strip}
@@ -30,7 +30,7 @@ use Rattle.buffer.proofs.Cases.{by-order}
 
 -- A text, and the texts after the comma or the period that ends it.
 unfoldable then : Bytes → Bytes → Outcome (List Bytes)
-then t [] = refused 3
+then t [] = refused (by 3)
 then t (b ∷ bs) = elim (eqb b period) [ true ↦ done (t ∷ []) | false ↦ texts false bs >>= (λ ts. done (t ∷ ts)) ]
 
 onto-then : (b : ℕ) (t s : Bytes) → (then t s >>= λ ts. done (onto b ts)) ≡ then (b ∷ t) s

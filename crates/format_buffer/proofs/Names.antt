@@ -9,7 +9,7 @@ use lib.Dec.{eqb}
 use lib.ListN.{length, getD}
 use borrow.Author.Tests.{ne-eqb}
 use Rattle.buffer.proofs.Cases.{by-order}
-use Rattle.rules.specs.Outcome.{Outcome, done, refused, _>>=_, need}
+use Rattle.rules.specs.Outcome.{Outcome, done, refused, by, _>>=_, need}
 use Rattle.rules.specs.Characters.{hyphen, open-parenthesis, close-parenthesis, letter-C}
 use Rattle.rules.specs.Lists.{Bytes, nothing}
 use Rattle.rules.specs.Table.{is-name, name-of}
@@ -27,7 +27,7 @@ pub numbered-value : {f : Bytes} {at upto : ℕ} {o : Outcome (ℕ × Bytes)} {r
     → (o ≡ done (n, part f p upto)) × ((at ≤ p) × (p ≤ upto) × (n < number-bound))
 numbered-value {f} {at} {upto} w q = (w .answer ∙ ap (number-and-rest f upto) q, rw q at (w .place))
 
-pub numbered-bad : {f : Bytes} {at upto : ℕ} {o : Outcome (ℕ × Bytes)} {r : Number} → Numbered f at upto o r → r ≡ Bad → o ≡ refused 3
+pub numbered-bad : {f : Bytes} {at upto : ℕ} {o : Outcome (ℕ × Bytes)} {r : Number} → Numbered f at upto o r → r ≡ Bad → o ≡ refused (by 3)
 numbered-bad {f} {at} {upto} w q = w .answer ∙ ap (number-and-rest f upto) q
 
 -- `)` and nothing more.
@@ -36,18 +36,18 @@ unfolding closing byte-alone
 closing-shut x [] e = absurd (false≢true e)
 closing-shut x (b ∷ bs) e = rw e refl
 
-closing-open : (x : Indexing) (bs : Bytes) → byte-alone close-parenthesis bs ≡ false → closing x bs ≡ refused 3
+closing-open : (x : Indexing) (bs : Bytes) → byte-alone close-parenthesis bs ≡ false → closing x bs ≡ refused (by 3)
 unfolding closing byte-alone
 closing-open x [] e = refl
 closing-open x (b ∷ bs) e = rw e refl
 
 -- A parenthesis is an index, the end of a range and what closes it.
-pub parenthesis-none : (bs : Bytes) → index-first bs ≡ refused 3 → parenthesis bs ≡ refused 3
+pub parenthesis-none : (bs : Bytes) → index-first bs ≡ refused (by 3) → parenthesis bs ≡ refused (by 3)
 unfolding parenthesis
 parenthesis-none bs e = rw e refl
 
 module _ (bs : Bytes) {k : Indexing} {cs : Bytes} (e : index-first bs ≡ done (k, cs)) where
-  pub parenthesis-bad : range-end k cs ≡ refused 3 → parenthesis bs ≡ refused 3
+  pub parenthesis-bad : range-end k cs ≡ refused (by 3) → parenthesis bs ≡ refused (by 3)
   unfolding parenthesis
   parenthesis-bad h = rw (e, h) refl
 
@@ -56,7 +56,7 @@ module _ (bs : Bytes) {k : Indexing} {cs : Bytes} (e : index-first bs ≡ done (
     unfolding parenthesis
     parenthesis-shut t = rw (e, h) (closing-shut x ds t)
 
-    pub parenthesis-open : byte-alone close-parenthesis ds ≡ false → parenthesis bs ≡ refused 3
+    pub parenthesis-open : byte-alone close-parenthesis ds ≡ false → parenthesis bs ≡ refused (by 3)
     unfolding parenthesis
     parenthesis-open t = rw (e, h) (closing-open x ds t)
 
@@ -67,11 +67,11 @@ module _ (n : ℕ) (x : Indexing) (f : Bytes) (at upto : ℕ) where
   after-range-nothing e = rw (part-nil f at upto (omega arith)) refl
 
   module _ (h : at < upto) (k : upto ≤ length f) where
-    pub after-range-all : takes-parenthesis x ≡ false → after-range n x (part f at upto) ≡ refused 3
+    pub after-range-all : takes-parenthesis x ≡ false → after-range n x (part f at upto) ≡ refused (by 3)
     unfolding after-range
     after-range-all e = rw (part-cons f at upto h k, e) refl
 
-    pub after-range-none : (getD f at 0 ≡ open-parenthesis → ⊥) → after-range n x (part f at upto) ≡ refused 3
+    pub after-range-none : (getD f at 0 ≡ open-parenthesis → ⊥) → after-range n x (part f at upto) ≡ refused (by 3)
     unfolding after-range
     after-range-none e = rw (part-cons f at upto h k, ne-eqb _ _ e, and-false) refl
 
@@ -100,7 +100,7 @@ module _ (n : ℕ) (f : Bytes) (at upto : ℕ) (k : upto ≤ length f) where
   series-two e =
       rw (part-cons f at upto (omega arith) k, part-cons f (at + 1) upto (omega arith) k, part-nil f (at + 1 + 1) upto (omega arith), and-true) refl
 
-  pub series-other : (upto - at ≡ 2 → ⊥) → series-to n (part f at upto) ≡ refused 3
+  pub series-other : (upto - at ≡ 2 → ⊥) → series-to n (part f at upto) ≡ refused (by 3)
   unfolding series-to nothing
   series-other e =
       by-order at upto

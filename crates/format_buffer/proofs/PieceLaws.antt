@@ -7,7 +7,7 @@ use native.Mathlib.Omega.{arith}
 use lib.Dec.{eqb, leb}
 use lib.ListN.{length, getD}
 use borrow.Author.Tests.{le-leb, lt-leb, ne-eqb, eq-eqb}
-use Rattle.rules.specs.Outcome.{done, refused, _>>=_, need}
+use Rattle.rules.specs.Outcome.{done, refused, by, _>>=_, need}
 use Rattle.rules.specs.Limits.{greatest-length, longest-blanks, longest-text}
 use Rattle.rules.specs.Characters.{digit, digit-0, apostrophe, letter-X}
 use Rattle.rules.specs.Lists.{Bytes, all}
@@ -26,7 +26,7 @@ module _ (n : ℕ) (f : Bytes) (at upto : ℕ) where
   unfolding after-number
   number-length e h = rw (part-nil f at upto (omega arith), le-leb _ _ h) refl
 
-  pub number-large : at ≡ upto → greatest-length < n → after-number n (part f at upto) ≡ refused 3
+  pub number-large : at ≡ upto → greatest-length < n → after-number n (part f at upto) ≡ refused (by 3)
   unfolding after-number
   number-large e h = rw (part-nil f at upto (omega arith), lt-leb _ _ h) refl
 
@@ -36,10 +36,10 @@ module _ (n : ℕ) (f : Bytes) (at upto : ℕ) where
     unfolding after-number byte-alone
     number-behind = rw (part-cons f at upto h k) refl
 
-    pub number-zero : n ≡ 0 → after-number n (part f at upto) ≡ refused 3
+    pub number-zero : n ≡ 0 → after-number n (part f at upto) ≡ refused (by 3)
     number-zero e = number-behind ∙ rw e (simp and-false)
 
-    pub number-long : longest-blanks < n → after-number n (part f at upto) ≡ refused 3
+    pub number-long : longest-blanks < n → after-number n (part f at upto) ≡ refused (by 3)
     number-long e = number-behind ∙ rw (lt-leb _ _ e) (simp and-false)
 
     pub number-blanks : byte-alone letter-X (part f at upto) ≡ true → 1 ≤ n → n ≤ longest-blanks
@@ -49,7 +49,7 @@ module _ (n : ℕ) (f : Bytes) (at upto : ℕ) where
     pub number-only : only-element (after-number n (part f at upto))
     number-only q e = from-need (byte-alone letter-X (part f at upto) && leb 1 n && leb n longest-blanks) 3 _ (sym number-behind ∙ e) λ _ l. (blanks n, sym (done-inj l))
 
-    pub number-other : byte-alone letter-X (part f at upto) ≡ false → after-number n (part f at upto) ≡ refused 3
+    pub number-other : byte-alone letter-X (part f at upto) ≡ false → after-number n (part f at upto) ≡ refused (by 3)
     number-other t = number-behind ∙ rw t refl
 
 -- A test of every byte, one at a time.
@@ -81,19 +81,19 @@ module _ (f : Bytes) (at upto : ℕ) (h : at < upto) (k : upto ≤ length f) whe
   text-behind =
       rw (part-snoc f at upto h k, last-snoc, but-last-snoc, length-part f at (upto - 1) (omega arith) (omega arith)) refl
 
-  pub text-unclosed : (getD f (upto - 1) 0 ≡ apostrophe → ⊥) → text-piece (part f at upto) ≡ refused 3
+  pub text-unclosed : (getD f (upto - 1) 0 ≡ apostrophe → ⊥) → text-piece (part f at upto) ≡ refused (by 3)
   text-unclosed e = text-behind ∙ rw (ne-eqb _ _ e) refl
 
-  pub text-empty : upto - 1 ≡ at → text-piece (part f at upto) ≡ refused 3
+  pub text-empty : upto - 1 ≡ at → text-piece (part f at upto) ≡ refused (by 3)
   text-empty e =
       let z : upto - 1 - at ≡ 0 = omega arith in
       text-behind ∙ rw z (still-refused closed 3)
 
-  pub text-long : longest-text < upto - 1 - at → text-piece (part f at upto) ≡ refused 3
+  pub text-long : longest-text < upto - 1 - at → text-piece (part f at upto) ≡ refused (by 3)
   text-long l = text-behind ∙ rw (lt-leb _ _ l, and-false) (still-refused closed 3)
 
   module _ (e : getD f (upto - 1) 0 ≡ apostrophe) where
-    pub text-broken : no-apostrophe (part f at (upto - 1)) ≡ false → text-piece (part f at upto) ≡ refused 3
+    pub text-broken : no-apostrophe (part f at (upto - 1)) ≡ false → text-piece (part f at upto) ≡ refused (by 3)
     text-broken t = text-behind ∙ rw (t, and-false) refl
 
     pub text-is : no-apostrophe (part f at (upto - 1)) ≡ true → 1 ≤ upto - 1 - at → upto - 1 - at ≤ longest-text
@@ -110,13 +110,13 @@ module _ (b : ℕ) where
   unfolding piece
   single-format e h = rw (e, piece, h) refl
 
-  pub single-bad : digit b ≡ false → is-override b ≡ false → piece (b ∷ []) ≡ refused 3
+  pub single-bad : digit b ≡ false → is-override b ≡ false → piece (b ∷ []) ≡ refused (by 3)
   unfolding piece
   single-bad e h = rw (e, piece, h) refl
 
 -- A piece, by its first bytes.
 module _ (f : Bytes) (at upto : ℕ) (k : upto ≤ length f) where
-  pub piece-nothing : at ≡ upto → piece (part f at upto) ≡ refused 3
+  pub piece-nothing : at ≡ upto → piece (part f at upto) ≡ refused (by 3)
   unfolding piece
   piece-nothing e = rw (part-nil f at upto (omega arith)) refl
 

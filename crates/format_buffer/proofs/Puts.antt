@@ -4,7 +4,7 @@ use mathlib.Core.Bool.{Bool, true, false, false≢true}
 use mathlib.Core.List.{List, _∷_}
 use mathlib.Core.Option.{Option, none, some}
 use Prim.Native.Nat.{ℕ}
-use Rattle.rules.specs.Outcome.{Outcome, done, refused, _>>=_, need}
+use Rattle.rules.specs.Outcome.{Outcome, done, refused, by, _>>=_, need}
 use Rattle.rules.specs.Lists.{Bytes, absent}
 use Rattle.rules.specs.Format.{Element, element, length-piece, format-piece, Pending, texts, settled, completed, put-before, assembled}
 use Rattle.rules.proofs.Steps.{from-bind, done-inj, still-refused}
@@ -88,11 +88,11 @@ module _ (k : Pending → Outcome (List Element)) where
   put-format b x h (done p) = through (settled p) (both none (some b) (p .elements)) (done (x ∷ p .elements)) (h (p .elements))
   put-format b x h (refused n) = refl
 
-  pub put-format-bad : (b : ℕ) → ((es : List Element) → k (both none (some b) es) ≡ refused 3) → (m : Outcome Pending) → Only (Is 3) m
-      → ((m >>= put-before (format-piece b)) >>= k) ≡ refused 3
+  pub put-format-bad : (b : ℕ) → ((es : List Element) → k (both none (some b) es) ≡ refused (by 3)) → (m : Outcome Pending) → Only (Is 3) m
+      → ((m >>= put-before (format-piece b)) >>= k) ≡ refused (by 3)
   unfolding put-before
   put-format-bad b h (done p) w =
-      through (settled p) (both none (some b) (p .elements)) (refused 3) (h (p .elements)) ∙ still-refused (settled p) 3
+      through (settled p) (both none (some b) (p .elements)) (refused (by 3)) (h (p .elements)) ∙ still-refused (settled p) 3
   put-format-bad b h (refused n) w = ap refused w
 
   pub put-length : (l : ℕ) (x : Pending → Element) → ((p : Pending) → k (both (some l) (p .format) (p .elements)) ≡ done (x p ∷ p .elements))
@@ -102,9 +102,9 @@ module _ (k : Pending → Outcome (List Element)) where
   put-length l x h (done p) = through (absent (p .size)) (both (some l) (p .format) (p .elements)) (done (x p ∷ p .elements)) (h p)
   put-length l x h (refused n) = refl
 
-  pub put-length-bad : (l : ℕ) → ((p : Pending) → k (both (some l) (p .format) (p .elements)) ≡ refused 3) → (m : Outcome Pending) → Only (Is 3) m
-      → ((m >>= put-before (length-piece l)) >>= k) ≡ refused 3
+  pub put-length-bad : (l : ℕ) → ((p : Pending) → k (both (some l) (p .format) (p .elements)) ≡ refused (by 3)) → (m : Outcome Pending) → Only (Is 3) m
+      → ((m >>= put-before (length-piece l)) >>= k) ≡ refused (by 3)
   unfolding put-before
   put-length-bad l h (done p) w =
-      through (absent (p .size)) (both (some l) (p .format) (p .elements)) (refused 3) (h p) ∙ still-refused (absent (p .size)) 3
+      through (absent (p .size)) (both (some l) (p .format) (p .elements)) (refused (by 3)) (h p) ∙ still-refused (absent (p .size)) 3
   put-length-bad l h (refused n) w = ap refused w

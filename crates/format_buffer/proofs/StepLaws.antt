@@ -7,7 +7,7 @@ use Prim.Native.Nat.{ℕ, _+_, _≤_, _<_}
 use lib.Dec.{eqb, leb}
 use lib.ListN.{length, drop, getD}
 use borrow.Author.Tests.{eq-eqb, ne-eqb, le-leb, lt-leb}
-use Rattle.rules.specs.Outcome.{Outcome, done, refused, _>>=_, need, is-done}
+use Rattle.rules.specs.Outcome.{Outcome, done, refused, by, _>>=_, need, is-done}
 use Rattle.rules.specs.Limits.{longest-format}
 use Rattle.rules.specs.Characters.{period}
 use Rattle.rules.specs.Lists.{Bytes, absent}
@@ -43,7 +43,7 @@ looked-as {f} {at} {r} w e = record {
 pub stepped-from : {f : Bytes} {at : ℕ} {o o′ : Outcome (List rules.Element)} {r : Step} → o ≡ o′ → Stepped f at o′ r → Stepped f at o r
 stepped-from e w = record { answer = e ∙ w .answer; place = w .place }
 
-pub stepped-bad : {f : Bytes} {at : ℕ} {o : Outcome (List rules.Element)} → o ≡ refused 3 → Stepped f at o Bad
+pub stepped-bad : {f : Bytes} {at : ℕ} {o : Outcome (List rules.Element)} → o ≡ refused (by 3) → Stepped f at o Bad
 stepped-bad e = record { answer = e; place = tt }
 
 pending-only : (bs : Bytes) → Only (Is 3) (pending bs)
@@ -122,11 +122,11 @@ module _ (f : Bytes) (end : ℕ) (n : Named) where
     followed : {m : Outcome Pending} → pending (drop (end + 1) f) ≡ m → (k : Pending → Outcome (List rules.Element)) → (rest f end >>= k) ≡ (m >>= k)
     followed w k = ap (λ r. r >>= k) (rest-comma f end (ne-eqb (getD f end 0) period e) ∙ w)
 
-    pub format-bad : (size : ℕ) → pending (drop (end + 1) f) ≡ refused 3 → then-format f end n size ≡ refused 3
+    pub format-bad : (size : ℕ) → pending (drop (end + 1) f) ≡ refused (by 3) → then-format f end n size ≡ refused (by 3)
     unfolding then-format
     format-bad size w = followed w (at-length n size)
 
-    pub name-bad : (l b : Option ℕ) → pending (drop (end + 1) f) ≡ refused 3 → then-completed f end (named-of n l b) ≡ refused 3
+    pub name-bad : (l b : Option ℕ) → pending (drop (end + 1) f) ≡ refused (by 3) → then-completed f end (named-of n l b) ≡ refused (by 3)
     unfolding then-completed
     name-bad l b w = followed w (name-alone n l b)
 
@@ -138,7 +138,7 @@ module _ (f : Bytes) (end : ℕ) (n : Named) where
           let x = named-of n (some size) (some b) in
           followed w (at-length n size) ∙ put-format (at-length n size) b x (λ es. refl) (rest f end′) ∙ at-settled f end′ x
 
-      pub format-length : (size l : ℕ) → pending (drop (end + 1) f) ≡ (rest f end′ >>= put-before (rules.length-piece l)) → then-format f end n size ≡ refused 3
+      pub format-length : (size l : ℕ) → pending (drop (end + 1) f) ≡ (rest f end′ >>= put-before (rules.length-piece l)) → then-format f end n size ≡ refused (by 3)
       unfolding then-format absent
       format-length size l w = followed w (at-length n size) ∙ put-length-bad (at-length n size) l (λ p. refl) (rest f end′) (rest-only f end′)
 
@@ -185,17 +185,17 @@ module _ (f : Bytes) (at end : ℕ) where
   unfolding then-completed
   first-element e w = parsed-pending (drop at f) ∙ ap (λ m. m >>= settle) (w .answer) ∙ put-completed (element-of f e) (rest f end)
 
-  pub first-length : (l : ℕ) → Looked f at (record { piece = piece.Length l; end = end }) → parsed (drop at f) ≡ refused 3
+  pub first-length : (l : ℕ) → Looked f at (record { piece = piece.Length l; end = end }) → parsed (drop at f) ≡ refused (by 3)
   unfolding settled absent
   first-length l w =
       parsed-pending (drop at f) ∙ ap (λ m. m >>= settle) (w .answer) ∙ put-length-bad settle l (λ p. refl) (rest f end) (rest-only f end)
 
-  pub first-format : (b : ℕ) → Looked f at (record { piece = piece.Format b; end = end }) → parsed (drop at f) ≡ refused 3
+  pub first-format : (b : ℕ) → Looked f at (record { piece = piece.Format b; end = end }) → parsed (drop at f) ≡ refused (by 3)
   unfolding settled absent
   first-format b w =
       parsed-pending (drop at f) ∙ ap (λ m. m >>= settle) (w .answer) ∙ put-format-bad settle b (λ es. refl) (rest f end) (rest-only f end)
 
-  pub first-bad : Looked f at (record { piece = piece.Bad; end = end }) → parsed (drop at f) ≡ refused 3
+  pub first-bad : Looked f at (record { piece = piece.Bad; end = end }) → parsed (drop at f) ≡ refused (by 3)
   first-bad w = parsed-pending (drop at f) ∙ ap (λ m. m >>= settle) (w .answer)
 
 -- The whole format: a limit on all its bytes, and then its elements.
@@ -206,7 +206,7 @@ elements-limited f = refl
 pub elements-parsed : (f : Bytes) → length f ≤ longest-format → rules.elements f ≡ parsed f
 elements-parsed f h = elements-limited f ∙ rw (le-leb _ _ h) refl
 
-pub elements-long : (f : Bytes) → longest-format < length f → rules.elements f ≡ refused 3
+pub elements-long : (f : Bytes) → longest-format < length f → rules.elements f ≡ refused (by 3)
 elements-long f h = elements-limited f ∙ rw (lt-leb _ _ h) refl
 
 pub is-done-before : (x : rules.Element) (o : Outcome (List rules.Element)) → is-done (element-before x o) ≡ is-done o

@@ -4,7 +4,7 @@ use mathlib.Core.Bool.{Bool, false, _&&_}
 use mathlib.Core.List.{[], _∷_}
 use Prim.Native.Nat.{ℕ, _≤_, _<_}
 use lib.Dec.{eqb}
-use Rattle.rules.specs.Outcome.{Outcome, done, refused}
+use Rattle.rules.specs.Outcome.{Outcome, done, refused, by}
 use Rattle.rules.specs.Lists.{Bytes, nothing}
 use Rattle.rules.specs.Format as rules
 use Rattle.format_buffer.specs.Part.{part}
@@ -17,7 +17,7 @@ use Rattle.format_buffer.specs.declared.numbers.Number.the-variants.{Val
 -- A number and the bytes after it, up to a place.
 abbrev pub number-and-rest : Bytes → ℕ → Number → Outcome (ℕ × Bytes)
 number-and-rest f upto (Value n p) = done (n, part f p upto)
-number-and-rest f upto Bad = refused 3
+number-and-rest f upto Bad = refused (by 3)
 
 -- Where the bytes after it begin, and how large a number is.
 abbrev pub number-place : ℕ → ℕ → Number → Type 0
@@ -32,7 +32,7 @@ pub record Numbered (f : Bytes) (at upto : ℕ) (o : Outcome (ℕ × Bytes)) (r 
 -- Indexes and the bytes after them, up to a place; where those begin, and how large the numbers are.
 abbrev pub indexes-and-rest : Bytes → ℕ → IndexesRead → Outcome (rules.Indexing × Bytes)
 indexes-and-rest f upto (read.At x p) = done (indexing-of x, part f p upto)
-indexes-and-rest f upto read.Bad = refused 3
+indexes-and-rest f upto read.Bad = refused (by 3)
 
 abbrev pub indexes-place : ℕ → ℕ → IndexesRead → Type 0
 indexes-place at upto (read.At x p) = (at ≤ p) × (p ≤ upto) × Small-indexing x

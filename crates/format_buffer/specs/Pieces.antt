@@ -3,7 +3,7 @@ use mathlib.Core.Path.{_≡_}
 use mathlib.Core.Bool.{Bool, false, not}
 use Prim.Native.Nat.{_≤_}
 use lib.Dec.{eqb}
-use Rattle.rules.specs.Outcome.{Outcome, done, refused, _>>=_}
+use Rattle.rules.specs.Outcome.{Outcome, done, refused, by, _>>=_}
 use Rattle.rules.specs.Limits.{greatest-length}
 use Rattle.rules.specs.Characters.{apostrophe}
 use Rattle.rules.specs.Lists.{Bytes, all}
@@ -21,7 +21,7 @@ use Rattle.format_buffer.specs.declared.pieces.Piece.the-variants as pie
 -- Values in parentheses.
 abbrev pub bracket-of : Bracket → Outcome rules.Indexing
 bracket-of (bracket.Values x) = done (indexing-of x)
-bracket-of bracket.Bad = refused 3
+bracket-of bracket.Bad = refused (by 3)
 
 -- How large their numbers are.
 abbrev pub bracket-small : Bracket → Type 0
@@ -37,7 +37,7 @@ abbrev pub piece-of : Bytes → Piece → Outcome rules.Piece
 piece-of f (piece.Element e) = done (rules.element (element-of f e))
 piece-of f (piece.Length n) = done (rules.length-piece n)
 piece-of f (piece.Format b) = done (rules.format-piece b)
-piece-of f piece.Bad = refused 3
+piece-of f piece.Bad = refused (by 3)
 
 -- A name that has no length and no format yet; anything else.
 abbrev pub unfinished : Element → Type 0
@@ -68,7 +68,7 @@ abbrev pub trails : Outcome rules.Piece → Trailer → Type 0
 trails o (trailer.Length n) = (o ≡ done (rules.length-piece n)) × (n ≤ greatest-length)
 trails o (trailer.Format b) = o ≡ done (rules.format-piece b)
 trails o trailer.Neither = only-element o
-trails o trailer.Bad = o ≡ refused 3
+trails o trailer.Bad = o ≡ refused (by 3)
 
 -- An element as a piece.
 abbrev pub as-piece : Outcome rules.Element → Outcome rules.Piece

@@ -6,7 +6,7 @@ use mathlib.Core.Option.{some}
 use Prim.Native.Nat.{ℕ, _+_, _≤_, _<_}
 use lib.Dec.{eqb}
 use lib.ListN.{length, drop, getD}
-use Rattle.rules.specs.Outcome.{Outcome, done, refused, _>>=_, need}
+use Rattle.rules.specs.Outcome.{Outcome, done, refused, by, _>>=_, need}
 use Rattle.rules.specs.Characters.{period}
 use Rattle.rules.specs.Lists.{Bytes, absent}
 use Rattle.rules.specs.Format as rules
@@ -37,7 +37,7 @@ elements-behind f stop = elim (eqb (getD f stop 0) period) [ true ↦ done [] | 
 -- The elements from a place on, by a step of the code: an element and those after it.
 abbrev pub by-step : Bytes → Step → Outcome (List rules.Element)
 by-step f (At e stop) = element-before (element-of f e) (elements-behind f stop)
-by-step f Bad = refused 3
+by-step f Bad = refused (by 3)
 
 -- The comma or period after an element stands in the format, after the characters of the element, and the element's numbers are as
 -- large as they may be.

@@ -7,10 +7,11 @@ use Prim.Native.Nat.{ℕ, _-_, _≤_, _<_, min}
 use native.Mathlib.Omega.{arith}
 use lib.Dec.{leb, leb→le}
 use lib.ListN.{length, getD}
-use Rattle.rules.specs.Outcome.{Outcome, done, refused, _>>=_, need}
+use Rattle.rules.specs.Outcome.{Refusal, Outcome, done, refused, _>>=_, need}
 use Rattle.rules.specs.Limits.{longest-items, longest-record, longest-new-record}
 use Rattle.rules.specs.Lists.{Bytes}
-use Rattle.rules.specs.Values.{null, converted-bytes, content}
+use Rattle.rules.specs.Values.{null, read-value, content}
+use Rattle.rules.proofs.Lengths.{read-done}
 use Rattle.rules.specs.Table.{Field, Part, Entry, table, parts, part-named}
 use Rattle.rules.specs.Record.{Record, stored, record-bytes, value-at, value-count-at, group-count-at, empty-record}
 use Rattle.rules.specs.Format.{Element, elements}
@@ -73,7 +74,7 @@ item-told es b us r h (group-count n) s = let (q, at, m) = s in ap (λ k. done (
 item-told es b us r h (value-count n i) s = let (q, g, z, at, o, m) = s in
     ap (λ k. done (k ∷ [])) (subst (λ k. value-count-at (parts es) r k i ≡ value-count-of us k i) z (h .value-counts q g i (subst (λ k. home k (parts es) ≡ some (q, g)) (sym z) at) o m))
 item-told es b us r h (value-item p g n bare) s = let (q, at, o) = s in
-    ap (λ v. converted-bytes (p .field .format) g n (content (p .field .size) v)) (h .values q (p .field) (p .occurrence) (p .value) at o)
+    ap (λ v. read-value (p .field .format) g n (content (p .field .size) v)) (h .values q (p .field) (p .occurrence) (p .value) at o)
 
 items-told : (es : List Entry) (b : Bytes) (us : List Writes) (r : Record) → Holds es b us r → (xs : List Item) → All (Stands es) xs → (room : ℕ) → filled (parts es) r room xs ≡ told-items es us room xs
 unfolding filled told-items
@@ -86,7 +87,7 @@ module _ (t start : Bytes) (c : Call) (earlier : History) where
   unfolding record-after left-by
   after-done new e = rw e
 
-  after-refused : (n : ℕ) → answer t (record-after t start earlier) c ≡ refused n → record-after t start (c ∷ earlier) ≡ record-after t start earlier
+  after-refused : (n : Refusal) → answer t (record-after t start earlier) c ≡ refused n → record-after t start (c ∷ earlier) ≡ record-after t start earlier
   unfolding record-after left-by
   after-refused n e = rw e
 
@@ -94,7 +95,7 @@ module _ (t start : Bytes) (c : Call) (earlier : History) where
   unfolding accepted
   accepted-done new e = rw (e, accepted)
 
-  accepted-refused : (n : ℕ) → answer t (record-after t start earlier) c ≡ refused n → accepted t start (c ∷ earlier) ≡ accepted t start earlier
+  accepted-refused : (n : Refusal) → answer t (record-after t start earlier) c ≡ refused n → accepted t start (c ∷ earlier) ≡ accepted t start earlier
   unfolding accepted
   accepted-refused n e = rw (e, accepted)
 
@@ -150,10 +151,10 @@ module _ (t : Bytes) (es : List Entry) (is-table : table t ≡ done es) where
 
   -- At its standard length and format an occurrence is told as it was written.
   standard-told : (p : Place) (bare : Bool) → Stands es (value-item p (p .field .format) (p .field .size) bare) → {b : Bytes} {us : List Writes} (r : Record) → Holds es b us r → Record-ok (parts es) r
-      → converted-bytes (p .field .format) (p .field .format) (p .field .size) (content (p .field .size) (last-written-value us p)) ≡ done (last-written-value us p)
+      → read-value (p .field .format) (p .field .format) (p .field .size) (content (p .field .size) (last-written-value us p)) ≡ done (last-written-value us p)
   standard-told p bare s r h ok = let (q, at, g) = s in
-      stored-itself (p .field) _ (subst (Stored (p .field)) (h .values q (p .field) (p .occurrence) (p .value) at g)
-      (value-ok (parts es) r q (p .field) (p .occurrence) (p .value) ok at (null-known q (p .field) at)))
+      read-done (p .field .format) (p .field .format) (p .field .size) _ (stored-itself (p .field) _ (subst (Stored (p .field)) (h .values q (p .field) (p .occurrence) (p .value) at g)
+      (value-ok (parts es) r q (p .field) (p .occurrence) (p .value) ok at (null-known q (p .field) at))))
 
   same-meanings : (xs : List Element) (b : Bytes) (us : List Writes) (r : Record) → Holds es b us r → (room : ℕ)
       → (meanings es [] [] xs >>= (λ ms. filled (parts es) r room (items-read (parts es) (counts-in (parts es) r) ms)))

@@ -12,6 +12,7 @@ use Rattle.rules.specs.Limits.{longest-items, longest-new-record}
 use Rattle.rules.specs.Characters.{letter-C}
 use Rattle.rules.specs.Lists.{Bytes}
 use Rattle.rules.specs.Values.{null}
+use Rattle.rules.proofs.Lengths.{read-done}
 use Rattle.rules.specs.Table.{Field, field, Entry, Part, differ, names, name-of, table, parts, part-named}
 use Rattle.rules.specs.Record.{Record, stored, record-bytes, values-at, value-at, value-count-at, group-count-at}
 use Rattle.rules.specs.Use.{value-count, group-count, Found, find}
@@ -72,7 +73,7 @@ module _ (t : Bytes) (es : List Entry) (is-table : table t ≡ done es) (start :
         let (format, e, _) = each-occurrence t es is-table start is-start h sent f among i k oi ok (one-occurrence i (g .single)) (g .plain) in
         let own = value-ok (parts es) r p f i k (stored-ok (parts es) b r held) at null-known in
         let asked = over .occurrences format (record { field = f; occurrence = i; value = k }) false e longest-items (stored-short f _ (field-allowed es sound f among) s) in
-        let there = reads-item t b es r format (standard f i k) (value-at (parts es) r f i k) is-table held e (stored-itself f _ own) longest-items (stored-short f _ (field-allowed es sound f among) own) in
+        let there = reads-item t b es r format (standard f i k) (value-at (parts es) r f i k) is-table held e (read-done (f .format) (f .format) (f .size) _ (stored-itself f _ own)) longest-items (stored-short f _ (field-allowed es sound f among) own) in
         done-inj (sym there ∙ asked)
 
     count-format : (i : ℕ) → Index i → (p .periodic ≡ false → i ≡ 1) → f .multiple ≡ true → (format : Bytes) × (items-by es format ≡ done (value-count (f .name) i ∷ []))

@@ -7,7 +7,7 @@ use Prim.Native.Nat.{ℕ, zero, suc, _<_}
 use native.Mathlib.Omega.{arith}
 use lib.Dec.{T}
 use lib.ListN.{getD}
-use Rattle.rules.specs.Outcome.{Outcome, done, refused}
+use Rattle.rules.specs.Outcome.{Outcome, done, refused, by}
 use Rattle.rules.specs.Limits.{longest-items, longest-new-record}
 use Rattle.rules.specs.Lists.{Bytes, bytes-of, all}
 use Rattle.rules.specs.Values.{unpacked}
@@ -165,7 +165,7 @@ conversions-agrees = tt
 unfoldable pub no-bytes : History
 no-bytes = call (0xC1 ∷ 0xC2 ∷ 0x6B ∷ 0xF2 ∷ 0x6B ∷ 0xC6 ∷ 0x4B ∷ []) (300 ∷ 0 ∷ []) ∷ []
 
-pub bytes-needed : read job-table (record-after job-table job-start no-bytes) (0xC1 ∷ 0xC2 ∷ 0x4B ∷ []) longest-items ≡ refused 2
+pub bytes-needed : read job-table (record-after job-table job-start no-bytes) (0xC1 ∷ 0xC2 ∷ 0x4B ∷ []) longest-items ≡ refused (by 2)
 unfolding agrees no-bytes
 bytes-needed = refl
 

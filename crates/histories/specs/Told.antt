@@ -8,7 +8,7 @@ use Rattle.rules.specs.Outcome.{Outcome, done, _>>=_, need}
 use Rattle.rules.specs.Limits.{longest-items}
 use Rattle.rules.specs.Characters.{space}
 use Rattle.rules.specs.Lists.{Bytes}
-use Rattle.rules.specs.Values.{content, converted-bytes}
+use Rattle.rules.specs.Values.{content, read-value}
 use Rattle.rules.specs.Table.{Entry, table, parts}
 use Rattle.rules.specs.Format.{elements}
 use Rattle.rules.specs.Use.{Item, blanks-item, text-item, group-count, value-count, value-item}
@@ -20,7 +20,7 @@ told-item es us (blanks-item n) = done (replicate n space)
 told-item es us (text-item t) = done t
 told-item es us (group-count n) = done (group-count-of es us n ∷ [])
 told-item es us (value-count n i) = done (value-count-of us n i ∷ [])
-told-item es us (value-item p g n bare) = converted-bytes (p .field .format) g n (content (p .field .size) (last-written-value us p))
+told-item es us (value-item p g n bare) = read-value (p .field .format) g n (content (p .field .size) (last-written-value us p))
 
 unfoldable pub told-items : List Entry → List Writes → ℕ → List Item → Outcome Bytes
 told-items es us room [] = done []

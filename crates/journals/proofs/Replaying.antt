@@ -10,7 +10,7 @@ use lib.ListN.{length, take}
 use Rattle.rules.specs.Outcome.{done, refused}
 use Rattle.rules.specs.Limits.{longest-new-record}
 use Rattle.rules.specs.Lists.{Bytes}
-use Rattle.rules.specs.Numbers.{refusal-number}
+use Rattle.rules.specs.Numbers.{refusal}
 use Rattle.rules.specs.Services.{read, empty}
 use Rattle.rules.specs.declared.Refusal.{Refusal}
 use Rattle.rules.proofs.Numbered.{empty-numbered}
@@ -141,7 +141,7 @@ module _ (t j : Bytes) where
 -- ---- the record, and a read of it
 
 module _ (t j stored stored′ : Bytes) (room : length stored ≡ longest-new-record) where
-  pub replay-refused : (x : Refusal) → Settled (empty t (length stored)) stored stored′ (Refused x) → replayed t j ≡ refused (refusal-number x)
+  pub replay-refused : (x : Refusal) → Settled (empty t (length stored)) stored stored′ (Refused x) → replayed t j ≡ refused (refusal x)
   unfolding replayed
   replay-refused x s = rw (ap (empty t) (sym room) ∙ refused-back (empty t (length stored)) stored stored′ x s .0)
 

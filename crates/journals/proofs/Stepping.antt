@@ -5,6 +5,7 @@ use Prim.Native.Nat.{ℕ, _+_, _≤_}
 use native.Mathlib.Omega.{arith}
 use lib.ListN.{length, take, drop}
 use Rattle.rules.specs.Outcome.{Outcome, done, refused}
+use Rattle.rules.specs.Outcome as outcome
 use Rattle.rules.specs.Limits.{longest-new-record}
 use Rattle.rules.specs.Lists.{Bytes, bytes-of}
 use Rattle.rules.specs.Services.{update}
@@ -39,7 +40,7 @@ left-done : (o : Outcome Bytes) (old new : Bytes) → o ≡ done new → left-by
 unfolding left-by
 left-done o old new e = rw e
 
-left-refused : (o : Outcome Bytes) (old : Bytes) (n : ℕ) → o ≡ refused n → left-by o old ≡ old
+left-refused : (o : Outcome Bytes) (old : Bytes) (n : outcome.Refusal) → o ≡ refused n → left-by o old ≡ old
 unfolding left-by
 left-refused o old n e = rw e
 

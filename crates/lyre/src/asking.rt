@@ -18,10 +18,11 @@ pub enum Service {
     Record,
 }
 
-// The number that is returned, and how many bytes stand at the front of the room.
+// The number that is returned, how many bytes stand at the front of the room, and the length that a value needs which is not held.
 pub struct Reply {
     pub number: u8,
     pub used: usize,
+    pub needed: u8,
 }
 
 pub(crate) fn read(t: &[u8], record: &[u8], f: &[u8], room: &mut [u8]) -> Reply
@@ -31,6 +32,7 @@ pub(crate) fn read(t: &[u8], record: &[u8], f: &[u8], room: &mut [u8]) -> Reply
     Reply {
         number: answer.number(),
         used: answer.length(),
+        needed: answer.needed(),
     }
 }
 
@@ -41,6 +43,7 @@ fn update(t: &[u8], record: &[u8], f: &[u8], values: &[u8], room: &mut [u8]) -> 
     Reply {
         number: answer.number(),
         used: answer.length(),
+        needed: 0,
     }
 }
 
@@ -51,13 +54,18 @@ fn empty(t: &[u8], room: &mut [u8]) -> Reply
     Reply {
         number: answer.number(),
         used: answer.length(),
+        needed: 0,
     }
 }
 
 fn by_number(number: u8) -> Reply
     ensures { λ r. ⌜ r .used ≡ 0 ⌝ }
 {
-    Reply { number, used: 0 }
+    Reply {
+        number,
+        used: 0,
+        needed: 0,
+    }
 }
 
 // The number of a table by itself.

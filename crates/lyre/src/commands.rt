@@ -103,7 +103,7 @@ fn answer(service: Service, t: &[u8], record: &[u8], f: &[u8], values: &[u8]) {
     if a.number == 0 {
         say_answer(service, t, record, f, &room[..used]);
     } else {
-        refusals::refuse(service, t, record, f, values, a.number);
+        refusals::refuse(service, t, record, f, values, a);
     }
 }
 

@@ -1,5 +1,6 @@
 // A refusal in words: its number, its meaning, and the element that it is about.
 use crate::asking;
+use crate::asking::Reply;
 use crate::asking::Service;
 use crate::letters;
 use crate::plain;
@@ -195,15 +196,18 @@ fn tell_element(service: Service, t: &[u8], record: &[u8], f: &[u8], values: &[u
     }
 }
 
+// How long the value is that a read did not hold, where a length is said.
+fn tell_needed(needed: u8) {
+    if 0 < needed {
+        tell(b"  needs length ");
+        plain::write_number(STDERR_FILENO, needed as usize);
+        tell(b"\n");
+    }
+}
+
 // Refusals 3 to 9 are about an element. A format that is too long is refused with 3.
-pub(crate) fn refuse(
-    service: Service,
-    t: &[u8],
-    record: &[u8],
-    f: &[u8],
-    values: &[u8],
-    number: u8,
-) {
+pub(crate) fn refuse(service: Service, t: &[u8], record: &[u8], f: &[u8], values: &[u8], a: Reply) {
+    let number = a.number;
     tell(b"refused with ");
     plain::write_number(STDERR_FILENO, number as usize);
     tell(b": ");
@@ -216,6 +220,7 @@ pub(crate) fn refuse(
         4..=9 => {
             if f.len() <= rules::LONGEST_FORMAT {
                 tell_element(service, t, record, f, values, number);
+                tell_needed(a.needed);
             }
         }
         _ => {

@@ -6,7 +6,7 @@ use Prim.Native.Nat.{ℕ, _+_, _≤_, _<_, min}
 use native.Mathlib.Omega.{arith}
 use borrow.Author.Tests.{le-leb, lt-leb}
 use lib.ListN.{length}
-use Rattle.rules.specs.Outcome.{done, refused, is-done}
+use Rattle.rules.specs.Outcome.{done, refused, by, is-done}
 use Rattle.rules.specs.Limits.{longest-new-record}
 use Rattle.rules.specs.Lists.{Bytes}
 use Rattle.rules.specs.Table.{table, parts}
@@ -26,7 +26,7 @@ pub empty-size : (t : Bytes) → length (empty-bytes t) ≡ 5 + length (empty-fr
 unfolding empty-bytes record-head
 empty-size t = omega arith
 
-pub empty-refused : (t : Bytes) (room : ℕ) → is-done (table t) ≡ false → empty t room ≡ refused 1
+pub empty-refused : (t : Bytes) (room : ℕ) → is-done (table t) ≡ false → empty t room ≡ refused (by 1)
 unfolding empty
 empty-refused t room h = rw (no-table t h) refl
 
@@ -36,11 +36,11 @@ valid-empty t room v = by-outcome (table t)
     (λ es e. rw (e, empty-body-from false es) refl)
     (λ n e. absurd (not-both (sym (ap is-done e) ∙ v)))
 
-pub empty-over : (t : Bytes) (room : ℕ) → Valid t → longest-new-record < length (empty-bytes t) → empty t room ≡ refused 10
+pub empty-over : (t : Bytes) (room : ℕ) → Valid t → longest-new-record < length (empty-bytes t) → empty t room ≡ refused (by 10)
 unfolding fitting
 empty-over t room v h = valid-empty t room v ∙ rw (lt-leb (length (empty-bytes t)) (min room longest-new-record) (omega arith)) refl
 
-pub empty-cramped : (t : Bytes) (room : ℕ) → Valid t → room < length (empty-bytes t) → empty t room ≡ refused 10
+pub empty-cramped : (t : Bytes) (room : ℕ) → Valid t → room < length (empty-bytes t) → empty t room ≡ refused (by 10)
 unfolding fitting
 empty-cramped t room v h = valid-empty t room v ∙ rw (lt-leb (length (empty-bytes t)) (min room longest-new-record) (omega arith)) refl
 

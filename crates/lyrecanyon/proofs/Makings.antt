@@ -9,10 +9,11 @@ use borrow.Author.Tests.{leb-false, lt-leb}
 use lib.Dec.{leb, leb→le}
 use lib.ListN.{length, take, replicate, getD}
 use lib.Seq.{take-all, take-length}
-use Rattle.rules.specs.Outcome.{Outcome, done, refused, _>>=_, need, is-done}
+use Rattle.rules.specs.Outcome.{Outcome, done, refused, by, _>>=_, need, is-done}
+use Rattle.rules.specs.Outcome as outcome
 use Rattle.rules.specs.Limits.{longest-format, longest-items, longest-new-record}
 use Rattle.rules.specs.Lists.{Bytes, bytes-of}
-use Rattle.rules.specs.Numbers.{refusal-number}
+use Rattle.rules.specs.Numbers.{refusal}
 use Rattle.rules.specs.declared.Refusal.{Refusal}
 use Rattle.rules.specs.declared.Refusal.the-variants.{NoRoom}
 use Rattle.rules.specs.Table.{Entry, table, parts}
@@ -54,7 +55,7 @@ room-done : (room : ℕ) (bs a : Bytes) → in-room room (done bs) ≡ done a �
 unfolding in-room
 room-done room bs a p = from-need (leb (length bs) room) 7 _ p λ t k. (done-inj k, leb→le (length bs) room t)
 
-room-off : (room k : ℕ) (bs : Bytes) → in-room room (done bs) ≡ refused k → room < length bs
+room-off : (room : ℕ) (k : outcome.Refusal) (bs : Bytes) → in-room room (done bs) ≡ refused k → room < length bs
 unfolding in-room
 room-off room k bs p = by-test (leb (length bs) room) (λ t. absurd (not-done (sym (rw t at p)))) (λ t. leb-false (length bs) room t)
 
@@ -79,7 +80,7 @@ module _ (t : Bytes) (valid : Valid t) {b : Bytes} {places kept list : List ℕ}
       (omega (arith, put .same, m, z), d ∙ ap done (same ∙ sym (ap (take k) v ∙ take-splice c entry k z)))
 
   pub record-over : (x : Refusal) → n ≡ next.Refused x → Makes (new-record (entries-of t) r ws) exit (Refused NoRoom)
-  record-over x q = let l = room-off (longest-new-record - 0) (refusal-number x) new (put-off put x q) in too-long longest-new-record new (omega arith)
+  record-over x q = let l = room-off (longest-new-record - 0) (refusal x) new (put-off put x q) in too-long longest-new-record new (omega arith)
 
 -- What uses that are kept stand for.
 meant-by : (es : List Entry) (f : Bytes) (us : List Use) → uses-of es f ≡ done us → (xs : List Element) × (uses es [] xs ≡ done us)
@@ -92,7 +93,7 @@ module _ (t : Bytes) (valid : Valid t) {f : Bytes} {kept : List ℕ} {n : ℕ} (
   us = uses-kept (entries-of t) f kept n
 
   -- A stage that is full.
-  pub stage-over : longest-new-record < length (bytes-given ws) → (r : Record) → new-record (entries-of t) r ws ≡ refused 10
+  pub stage-over : longest-new-record < length (bytes-given ws) → (r : Record) → new-record (entries-of t) r ws ≡ refused (by 10)
   stage-over l r =
       let (xs, m) = meant-by (entries-of t) f us (apart .meant) in
       staged-beyond t (entries-of t) (tabled t valid) r xs us m (apart .once) buffer ws gives l longest-new-record
@@ -121,22 +122,22 @@ module _ (es : List Entry) (f buffer : Bytes) where
   unfolding assignments-of uses-of
   by-uses = by-outcome (elements f) (λ xs e. rw e) (λ n e. rw e)
 
-  pub uses-refused : (k : ℕ) → uses-of es f ≡ refused k → assignments-of es f buffer ≡ refused k
+  pub uses-refused : (k : outcome.Refusal) → uses-of es f ≡ refused k → assignments-of es f buffer ≡ refused k
   uses-refused k e = by-uses ∙ rw e
 
   module _ (us : List Use) (e : uses-of es f ≡ done us) where
-    pub named-refused : named-twice us ≡ true → assignments-of es f buffer ≡ refused 6
+    pub named-refused : named-twice us ≡ true → assignments-of es f buffer ≡ refused (by 6)
     named-refused h = by-uses ∙ rw (e, h)
 
     pub items-given : named-twice us ≡ false → assignments-of es f buffer ≡ assignments (items us) (take longest-items buffer)
     items-given h = by-uses ∙ rw (e, h)
 
-  long-off : longest-format < length f → uses-of es f ≡ refused 3
+  long-off : longest-format < length f → uses-of es f ≡ refused (by 3)
   unfolding uses-of elements
   long-off l = rw (lt-leb (length f) longest-format l)
 
-  pub format-long : longest-format < length f → assignments-of es f buffer ≡ refused 3
-  format-long l = uses-refused 3 (long-off l)
+  pub format-long : longest-format < length f → assignments-of es f buffer ≡ refused (by 3)
+  format-long l = uses-refused (by 3) (long-off l)
 
 -- What is made by an outcome is made by one that is the same.
 pub makes-by : (es : List Entry) (r : Record) {o p : Outcome (List Assignment)} (made : Bytes) (n : Answer) → o ≡ p → Makes (p >>= new-record es r) made n → Makes (o >>= new-record es r) made n

@@ -8,7 +8,8 @@ use lib.ListN.{length, take}
 use types.Run.{OneOf, miss}
 use denote.Enum.Declared.{tagOf}
 use Rattle.rules.proofs.Refusal.{the-type}
-use Rattle.rules.specs.Outcome.{Outcome, done, refused, _>>=_, is-done}
+use Rattle.rules.specs.Outcome.{Outcome, done, refused, by, _>>=_, is-done}
+use Rattle.rules.specs.Outcome as outcome
 use Rattle.rules.specs.Limits.{longest-items}
 use Rattle.rules.specs.Lists.{Bytes, bytes-of}
 use Rattle.rules.specs.Table.{Entry, table, parts}
@@ -16,7 +17,7 @@ use Rattle.rules.specs.Record.{Record, stored}
 use Rattle.rules.specs.Format.{elements}
 use Rattle.rules.specs.Last.{counts-in, items-read}
 use Rattle.rules.specs.Services.{filled, read}
-use Rattle.rules.specs.Numbers.{refusal-number}
+use Rattle.rules.specs.Numbers.{refusal, refusal-number}
 use Rattle.rules.specs.declared.Refusal.{Refusal}
 use Rattle.rules.specs.declared.Refusal.the-variants.{BadTable, BadRecord, BadSyntax, UnknownName, UseRule, NamedTwice, BeyondBuffer, BadValue, OutOfRange, NoRoom}
 use Rattle.rules.proofs.Refusals.{no-table, no-record}
@@ -36,7 +37,7 @@ use Rattle.lyrecanyon.specs.Answers.{Settled}
 use Rattle.lyrecanyon.specs.declared.Answer.the-variants.{Done, Refused}
 use Rattle.lyrecanyon.proofs.Settling.{settled-refused, settled-done}
 
-pub read-no-table : (t b f : Bytes) (room : ℕ) → is-done (table t) ≡ false → read t b f room ≡ refused 1
+pub read-no-table : (t b f : Bytes) (room : ℕ) → is-done (table t) ≡ false → read t b f room ≡ refused (by 1)
 unfolding read
 read-no-table t b f room h = rw (no-table t h) refl
 
@@ -53,7 +54,7 @@ read-stored t b f room v = by-outcome (table t)
     (λ n h. rw h refl)))
     (λ n e. absurd (not-both (sym (ap is-done e) ∙ v)))
 
-pub read-no-record : (t b f : Bytes) (room : ℕ) → Valid t → is-done (stored (parts (entries-of t)) b) ≡ false → read t b f room ≡ refused 2
+pub read-no-record : (t b f : Bytes) (room : ℕ) → Valid t → is-done (stored (parts (entries-of t)) b) ≡ false → read t b f room ≡ refused (by 2)
 read-no-record t b f room v h = read-stored t b f room v ∙ rw (no-record (parts (entries-of t)) b h) refl
 
 module _ (es : List Entry) (f : Bytes) (r : Record) where
@@ -67,13 +68,13 @@ module _ (es : List Entry) (f : Bytes) (r : Record) where
       (λ ms u. rw u (more-room (parts es) r room room′ (items-read (parts es) (counts-in (parts es) r) ms) bs l (rw u at e)))
       (λ n u. rw u (rw u at e))
 
-  made-refused : (room room′ n : ℕ) → room ≤ room′ → (n ≡ 7 → ⊥) → made es f room r ≡ refused n → made es f room′ r ≡ refused n
+  made-refused : (room room′ : ℕ) (n : outcome.Refusal) → room ≤ room′ → (n .number ≡ 7 → ⊥) → made es f room r ≡ refused n → made es f room′ r ≡ refused n
   made-refused room room′ n l z e = by-outcome (meanings-of es f)
       (λ ms u. rw u (more-room-refused (parts es) r room room′ (items-read (parts es) (counts-in (parts es) r) ms) n l z (rw u at e)))
       (λ k u. rw u (rw u at e))
 
 -- An outcome by where it ends.
-placed-refused : (o : Outcome Bytes) (x : Refusal) → ended (next.Refused x) ≡ placed 0 o → o ≡ refused (refusal-number x)
+placed-refused : (o : Outcome Bytes) (x : Refusal) → ended (next.Refused x) ≡ placed 0 o → o ≡ refused (refusal x)
 placed-refused (done bs) x e = absurd (not-done e)
 placed-refused (refused k) x e = ap refused (sym (refused-inj e))
 
@@ -91,7 +92,7 @@ not-beyond UseRule k e = omega (arith, e)
 not-beyond NamedTwice k e = omega (arith, e)
 not-beyond BeyondBuffer k e = miss (0 ∷ 1 ∷ 2 ∷ 3 ∷ 4 ∷ 5 ∷ 7 ∷ 8 ∷ 9 ∷ []) 6 tt k
 not-beyond BadValue k e = omega (arith, e)
-not-beyond OutOfRange k e = omega (arith, e)
+not-beyond (OutOfRange n) k e = omega (arith, e)
 not-beyond NoRoom k e = omega (arith, e)
 
 -- The items are to be made in room up to the end of the buffer, or to the limit.
@@ -115,14 +116,14 @@ module _ {t b : Bytes} {places : List ℕ} {f out : Bytes} {end : ℕ} (s : Read
 
     -- One that is refused.
     module _ {x : Refusal} (e : m ≡ next.Refused x) where
-      refused-with : given room ≡ refused (refusal-number x)
+      refused-with : given room ≡ refused (refusal x)
       refused-with = placed-refused _ x (sym (ap ended e) ∙ filling .answer)
 
       pub all-refused : room ≡ end → Settled (read t b f (length out)) out out (Refused x)
       all-refused l = settled-refused _ out x (read-given ∙ ap given (sym l) ∙ refused-with)
 
       pub less-refused : room ≤ end → (refusal-number x ≡ 7 → ⊥) → Settled (read t b f (length out)) out out (Refused x)
-      less-refused l z = settled-refused _ out x (read-given ∙ made-refused (entries-of t) f (s .holds .0) room end (refusal-number x) l z refused-with)
+      less-refused l z = settled-refused _ out x (read-given ∙ made-refused (entries-of t) f (s .holds .0) room end (refusal x) l z refused-with)
 
     -- One that makes all items.
     module _ {n : ℕ} (e : m ≡ next.At n) where

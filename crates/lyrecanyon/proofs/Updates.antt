@@ -8,7 +8,7 @@ use borrow.Author.Tests.{leb-false, le-leb, lt-leb}
 use lib.Dec.{leb, leb→le}
 use lib.ListN.{length, take}
 use lib.Seq.{length-take-le}
-use Rattle.rules.specs.Outcome.{Outcome, done, refused, _>>=_, is-done}
+use Rattle.rules.specs.Outcome.{Outcome, done, refused, by, _>>=_, is-done}
 use Rattle.rules.specs.Limits.{longest-new-record}
 use Rattle.rules.specs.Lists.{Bytes}
 use Rattle.rules.specs.Table.{table, parts}
@@ -29,11 +29,11 @@ use Rattle.rules.specs.declared.Refusal.the-variants.{NoRoom}
 use Rattle.lyrecanyon.proofs.Settling.{settled-refused, settled-done}
 use Rattle.lyrecanyon.proofs.Makings.{tabled}
 
-pub update-no-table : (t b f buffer : Bytes) (room : ℕ) → is-done (table t) ≡ false → update t b f buffer room ≡ refused 1
+pub update-no-table : (t b f buffer : Bytes) (room : ℕ) → is-done (table t) ≡ false → update t b f buffer room ≡ refused (by 1)
 unfolding update
 update-no-table t b f buffer room h = rw (no-table t h) refl
 
-pub update-no-record : (t b f buffer : Bytes) (room : ℕ) → Valid t → is-done (stored (parts (entries-of t)) b) ≡ false → update t b f buffer room ≡ refused 2
+pub update-no-record : (t b f buffer : Bytes) (room : ℕ) → Valid t → is-done (stored (parts (entries-of t)) b) ≡ false → update t b f buffer room ≡ refused (by 2)
 unfolding update
 update-no-record t b f buffer room v h = rw (tabled t v, no-record (parts (entries-of t)) b h)
 

@@ -5,7 +5,7 @@ use Prim.Native.Nat.{ℕ}
 use lib.ListN.{length, drop}
 use Rattle.rules.specs.Outcome.{Outcome, done, refused}
 use Rattle.rules.specs.Lists.{Bytes, bytes-of}
-use Rattle.rules.specs.Numbers.{refusal-number}
+use Rattle.rules.specs.Numbers.{refusal-number, refusal-length}
 use Rattle.lyrecanyon.specs.declared.Answer.{Answer}
 use Rattle.lyrecanyon.specs.declared.Answer.the-variants.{Done, Refused}
 
@@ -18,25 +18,38 @@ abbrev pub answer-length : Answer → ℕ
 answer-length (Done n) = n
 answer-length (Refused x) = 0
 
--- The number of an outcome of the rules.
+-- "With 9, a read shall also return the smallest length .. All other answers carry 0 there."
+abbrev pub answer-needed : Answer → ℕ
+answer-needed (Done n) = 0
+answer-needed (Refused x) = refusal-length x
+
+-- The number of an outcome of the rules, and its length of that kind.
 abbrev pub outcome-number : {A : Type 0} → Outcome A → ℕ
 outcome-number (done a) = 0
-outcome-number (refused n) = n
+outcome-number (refused x) = x .number
 
--- What a service returns, and the lent slice after it, are an outcome's: its number, its length, and every byte. "A refusal .. changes no
+abbrev pub outcome-needed : {A : Type 0} → Outcome A → ℕ
+outcome-needed (done a) = 0
+outcome-needed (refused x) = x .length
+
+-- What a service returns, and the lent slice after it, are an outcome's: its number, its lengths, and every byte. "A refusal .. changes no
 -- byte. Success writes the returned length from the start and no byte after."
-pub record Returns (o : Outcome Bytes) (entry exit : Bytes) (number size : ℕ) : Type 0 where
+pub record Returns (o : Outcome Bytes) (entry exit : Bytes) (number size needed : ℕ) : Type 0 where
   pub number-is : number ≡ outcome-number o
   pub size-is : size ≡ length (bytes-of o)
   pub bytes-are : exit ≡ bytes-of o ++ drop (length (bytes-of o)) entry
+  pub needed-is : needed ≡ outcome-needed o
 
 -- The same of an answer.
 abbrev pub Settled : Outcome Bytes → Bytes → Bytes → Answer → Type 0
-Settled o entry exit r = Returns o entry exit (answer-number r) (answer-length r)
+Settled o entry exit r = Returns o entry exit (answer-number r) (answer-length r) (answer-needed r)
 
--- The same as C has it: the length used is written, and the number returned.
+-- The same as C has it: the length used is written, and the number returned; and with the length that is needed.
 abbrev pub Exported : Outcome Bytes → Bytes → Bytes → ℕ → ℕ → Type 0
-Exported o entry exit used number = Returns o entry exit number used
+Exported o entry exit used number = Returns o entry exit number used (outcome-needed o)
+
+abbrev pub Exported-needing : Outcome Bytes → Bytes → Bytes → ℕ → ℕ → ℕ → Type 0
+Exported-needing o entry exit used needed number = Returns o entry exit number used needed
 
 -- The length of a record after an update in place: that of the new record, or where the update is refused the one that it had.
 abbrev pub length-left : Outcome Bytes → ℕ → ℕ

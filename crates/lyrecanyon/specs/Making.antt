@@ -8,7 +8,7 @@ use lib.ListN.{length, take, getD}
 use Rattle.rules.specs.Outcome.{Outcome, done, refused, _>>=_, need}
 use Rattle.rules.specs.Limits.{longest-new-record}
 use Rattle.rules.specs.Lists.{Bytes}
-use Rattle.rules.specs.Numbers.{refusal-number}
+use Rattle.rules.specs.Numbers.{refusal}
 use Rattle.rules.specs.Table.{Entry, parts}
 use Rattle.rules.specs.Record.{Record, record-bytes}
 use Rattle.rules.specs.Use.{items}
@@ -24,7 +24,7 @@ use Rattle.lyrecanyon.specs.declared.Answer.the-variants.{Done, Refused}
 -- An outcome stands at the front of an array, or it is refused.
 abbrev pub Makes : Outcome Bytes → Bytes → Answer → Type 0
 Makes o made (Done n) = (n ≤ length made) × (o ≡ done (take n made))
-Makes o made (Refused x) = o ≡ refused (refusal-number x)
+Makes o made (Refused x) = o ≡ refused (refusal x)
 
 -- The new record by what is assigned, as far as its own limit.
 abbrev pub new-record : List Entry → Record → List Assignment → Outcome Bytes

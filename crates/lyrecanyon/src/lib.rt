@@ -6,7 +6,7 @@ ghost use Rattle.rules.specs.Limits.{longest-items};
 ghost use Rattle.rules.specs.Services as Rules;
 ghost use Rattle.tables.specs.Entries.{Valid, entries-of};
 ghost use Rattle.records.specs.Places.{Has-record};
-ghost use Rattle.lyrecanyon.specs.Answers.{Settled, Exported, Applied, answer-number, answer-length};
+ghost use Rattle.lyrecanyon.specs.Answers.{Settled, Exported, Applied, answer-number, answer-length, answer-needed, Exported-needing};
 
 mod making;
 
@@ -47,6 +47,16 @@ impl Answer {
         match self {
             Answer::Done(n) => n,
             Answer::Refused(_) => 0,
+        }
+    }
+
+    // With 9 the smallest length that would have held the value that is read, or 0 outside the conversion range. Elsewhere 0.
+    pub fn needed(self) -> u8
+        ensures { λ r. ⌜ r ≡ answer-needed self ⌝ }
+    {
+        match self {
+            Answer::Done(_) => 0,
+            Answer::Refused(x) => rules::refusal_length(x),
         }
     }
 }
@@ -159,6 +169,24 @@ pub extern "C" fn lyrecanyon_read(
 {
     let answer = read(table, stored, format, buffer);
     *used = answer.length();
+    answer.number()
+}
+
+// The same, with the length that is needed too.
+#[no_mangle]
+pub extern "C" fn lyrecanyon_read_needing(
+    table: &[u8],
+    stored: &[u8],
+    format: &[u8],
+    buffer: &mut [u8],
+    used: &mut usize,
+    needed: &mut usize,
+) -> u8
+    ensures { λ r. ⌜ Exported-needing (Rules.read (now (table .entry)) (now (stored .entry)) (now (format .entry)) (length (now (buffer .entry)))) (now (buffer .entry)) (now (buffer .exit)) (now (used .exit)) (now (needed .exit)) r ⌝ }
+{
+    let answer = read(table, stored, format, buffer);
+    *used = answer.length();
+    *needed = answer.needed() as usize;
     answer.number()
 }
 

@@ -5,7 +5,7 @@ ghost use Prim.Native.Nat.{_+_, _*_, _≤_, _<_};
 ghost use lib.ListN.{length};
 ghost use Rattle.buffer.specs.Splice.{splice};
 ghost use Rattle.protocol.specs.Calls.{TakesThree, Called};
-ghost use Rattle.protocol.specs.Answers.{no-call-line, Answers};
+ghost use Rattle.protocol.specs.Answers.{no-call-line, Answers-words, Answers, Answers-read};
 
 // A call that a line makes: its letter, where the bytes of its table, record, format and record buffer end, and the length that it
 // asks for. A word that the call does not have is empty, and what is no call has the letter 0.
@@ -134,16 +134,34 @@ pub fn take_call(line: &[u8], out: &mut [u8]) -> CallLine
     }
 }
 
+// The words of an answer, to out from `at`; the place after them.
+fn put_words(number: u8, bytes: &[u8], out: &mut [u8], at: usize) -> usize
+    requires { ⌜ (length (now bytes) < 1000000) × (at + (2 * length (now bytes) + 15) ≤ length (now out)) ⌝ }
+    ensures { λ r. ⌜ Answers-words number (now (bytes .entry)) at (now (out .entry)) (now (out .exit)) r ⌝ }
+{
+    let after_number = hexadecimal::put_field(number as usize, b' ', out, at);
+    let after_length = hexadecimal::put_field(bytes.len(), b' ', out, after_number);
+    hexadecimal::encode(bytes, out, after_length)
+}
+
 // The line of an answer, to out from `at`; the place after it.
 pub fn put_answer(number: u8, bytes: &[u8], out: &mut [u8], at: usize) -> usize
     requires { ⌜ (length (now bytes) < 1000000) × (at + (2 * length (now bytes) + 16) ≤ length (now out)) ⌝ }
     ensures { λ r. ⌜ Answers number (now (bytes .entry)) at (now (out .entry)) (now (out .exit)) r ⌝ }
 {
-    let after_number = hexadecimal::put_field(number as usize, b' ', out, at);
-    let after_length = hexadecimal::put_field(bytes.len(), b' ', out, after_number);
-    let end = hexadecimal::encode(bytes, out, after_length);
+    let end = put_words(number, bytes, out, at);
     out[end] = 10;
     end + 1
+}
+
+// The line of a read's answer, which has the length that is needed as its last word, to out from `at`; the place after it.
+pub fn put_read_answer(number: u8, bytes: &[u8], needed: usize, out: &mut [u8], at: usize) -> usize
+    requires { ⌜ (length (now bytes) < 1000000) × (needed < 1000000) × (at + (2 * length (now bytes) + 24) ≤ length (now out)) ⌝ }
+    ensures { λ r. ⌜ Answers-read number (now (bytes .entry)) needed at (now (out .entry)) (now (out .exit)) r ⌝ }
+{
+    let end = put_words(number, bytes, out, at);
+    out[end] = b' ';
+    hexadecimal::put_field(needed, 10, out, end + 1)
 }
 
 // The line that answers what is no call.

@@ -11,7 +11,8 @@ use lib.Seq.{drop-cons, take-nil, take-at}
 use Rattle.rules.specs.Outcome.{Outcome, done}
 use Rattle.rules.specs.Limits.{greatest-count, highest-index}
 use Rattle.rules.specs.Lists.{Bytes, run, join}
-use Rattle.rules.specs.Values.{Format, content, converted-bytes, null}
+use Rattle.rules.specs.Values.{Format, content, converted-bytes, read-value, null}
+use Rattle.rules.proofs.Lengths.{read-done}
 use Rattle.rules.specs.Record.{times, stored-value}
 use Rattle.rules.specs.Format.{Range}
 use Rattle.rules.specs.Use.{over}
@@ -54,18 +55,18 @@ module _ (f : Bytes → Outcome Bytes) (d : Bytes) (vs : List Bytes) where
 
 -- Values that stand in the bytes, converted to their own format and length.
 own-converted : (f : Format) (m n : ℕ) (bs rest : Bytes) (us : List Bytes) → times n (stored-value f m) bs ≡ done (us, rest)
-    → map (λ v. converted-bytes f f m (content m v)) us ≡ map done us
+    → map (λ v. read-value f f m (content m v)) us ≡ map done us
 own-converted f m zero bs rest us p = let e = times-none (stored-value f m) bs p .0 in rw e refl
 own-converted f m (suc n) bs rest us p = times-first (stored-value f m) n bs p λ v ys mid e h t.
     value-first f m bs h λ c g k l i s.
-    let o : converted-bytes f f m (content m v) ≡ done v = ap (converted-bytes f f m) i ∙ converted-itself f m c k ∙ ap done (sym l) in
+    let o : read-value f f m (content m v) ≡ done v = read-done f f m (content m v) (ap (converted-bytes f f m) i ∙ converted-itself f m c k ∙ ap done (sym l)) in
     rw (e, o) (ap (λ (os : List (Outcome Bytes)). done v ∷ os) (own-converted f m n mid rest ys t))
 
 module _ (w : Wanted) (b : Bytes) (at n : ℕ) (us : List Bytes) (s : Stand w b at n us) where
   pub as-stored : w .own ≡ w .format → w .standard ≡ w .size → map (converted-to w) us ≡ map done us
   as-stored e e₂ =
-      ap (λ (k : ℕ). map (λ (v : Bytes). converted-bytes (format-at (w .own)) (format-at k) (w .size) (content (w .standard) v)) us) (sym e)
-      ∙ ap (λ (k : ℕ). map (λ (v : Bytes). converted-bytes (format-at (w .own)) (format-at (w .own)) k (content (w .standard) v)) us) (sym e₂)
+      ap (λ (k : ℕ). map (λ (v : Bytes). read-value (format-at (w .own)) (format-at k) (w .size) (content (w .standard) v)) us) (sym e)
+      ∙ ap (λ (k : ℕ). map (λ (v : Bytes). read-value (format-at (w .own)) (format-at (w .own)) k (content (w .standard) v)) us) (sym e₂)
       ∙ own-converted (format-at (w .own)) (w .standard) n (drop at b) (s .0) us (s .1)
 
   -- They are the bytes up to where they end.
@@ -103,7 +104,7 @@ module _ (w : Wanted) (h : Wants w) (b : Bytes) (vs : List Bytes) (few : length 
       by-range (converted-to w) (null (format-at (w .own)) (w .standard)) vs (values-meant w (length vs)) (meant-lies w (length vs) h few .first)
       ∙ ap (λ (n : ℕ). map (converted-to w) (existing w vs) ++ replicate n (converted-to w (null (format-at (w .own)) (w .standard)))) missing-is
       ∙ ap (λ (o : Outcome Bytes). map (converted-to w) (existing w vs) ++ replicate (r .missing) o)
-      (null-converted (format-at (w .own)) (format-at (w .format)) (w .standard) (w .size) (h .converts) (h .standard) (h .size))
+      (read-done (format-at (w .own)) (format-at (w .format)) (w .size) _ (null-converted (format-at (w .own)) (format-at (w .format)) (w .standard) (w .size) (h .converts) (h .standard) (h .size)))
 
   module _ (at end : ℕ) (write : Bool) {out out′ : Bytes} {m : Next} (fits : at ≤ end) (room : end ≤ length out) (f : Filling (together (end - at) (map (converted-to w) (existing w vs))) at write out out′ m) where
     begun : Continues (together (end - at) (wanted w vs)) (together (end - at) (map (converted-to w) (existing w vs) ++ nulls)) at at write out out

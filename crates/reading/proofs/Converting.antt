@@ -1,15 +1,16 @@
 -- A loop over values that stand in the bytes, each converted: what is left of them, from where it stands, ends and writes as all of them do.
-use mathlib.Core.Path.{_≡_, sym, _∙_, ap, subst}
+use mathlib.Core.Path.{_≡_, refl, sym, _∙_, ap, subst}
 use mathlib.Core.Bool.{Bool, true}
 use mathlib.Core.List.{List, [], _∷_, map}
 use Prim.Native.Nat.{ℕ, suc, _+_, _-_, _≤_, _<_}
 use native.Mathlib.Nat.{sub-zero}
 use native.Mathlib.Omega.{arith}
 use lib.ListN.{length, take, drop, length-take, length-drop}
-use Rattle.rules.specs.Outcome.{Outcome, done, is-done}
+use Rattle.rules.specs.Outcome.{Outcome, done, with-needed, is-done}
 use Rattle.rules.specs.Lists.{Bytes}
-use Rattle.rules.specs.Values.{allowed, meaning, converted-bytes, first-value}
+use Rattle.rules.specs.Values.{allowed, meaning, converted-bytes, smallest-length, read-value, first-value}
 use Rattle.rules.specs.Record.{times, stored-value}
+use Rattle.rules.specs.Numbers.{refusal}
 use Rattle.rules.specs.declared.Refusal.{Refusal}
 use Rattle.rules.proofs.Steps.{from-done}
 use Rattle.value_formats.specs.Formats.{format-at}
@@ -29,6 +30,7 @@ use Rattle.filling.specs.declared.Next.the-variants.{At, Refused}
 use Rattle.reading.specs.declared.cells.Wanted.{Wanted}
 use Rattle.filling.proofs.Continues.{continues-start, continues-end, turn, turn-within, stop}
 use Rattle.filling.proofs.Together.{together-one}
+use Rattle.filling.proofs.Held.{read-at, read-refused}
 
 pub record Converting (w : Wanted) (b : Bytes) (end n : ℕ) (us : List Bytes) (i q start at : ℕ) (write : Bool) (out₀ out : Bytes) : Type 0 where
   pub left : List Bytes
@@ -93,27 +95,32 @@ module _ {w : Wanted} (h : Wants w) {b : Bytes} {end n : ℕ} {us : List Bytes} 
     value-asked = record { source = h .own; target = h .format; size = value-long; length-there = h .size; value = x .means }
 
     module _ {out′ : Bytes} {m : Next} (f : Filling (in-room (end - at) (converted-bytes (format-at (w .own)) (format-at (w .format)) (w .size) (take (next - from) (drop from b)))) at write out out′ m) where
-      put : Filling (together (end - at) (converted-to w (x .value) ∷ [])) at write out out′ m
-      put = subst (λ (o : Outcome Bytes). Filling o at write out out′ m)
-          (ap (λ (v : Bytes). in-room (end - at) (converted-bytes (format-at (w .own)) (format-at (w .format)) (w .size) v)) (sym (x .content .is)) ∙ sym (together-one (end - at) (converted-to w (x .value)))) f
+      put : {s : Next} → Filling (in-room (end - at) (read-value (format-at (w .own)) (format-at (w .format)) (w .size) (take (next - from) (drop from b)))) at write out out′ s
+          → Filling (together (end - at) (converted-to w (x .value) ∷ [])) at write out out′ s
+      put {s} q = subst (λ (o : Outcome Bytes). Filling o at write out out′ s)
+          (ap (λ (v : Bytes). in-room (end - at) (read-value (format-at (w .own)) (format-at (w .format)) (w .size) v)) (sym (x .content .is)) ∙ sym (together-one (end - at) (converted-to w (x .value)))) q
 
       parted : Continues (together (end - start) (map (converted-to w) us)) (together (end - at) (converted-to w (x .value) ∷ map (converted-to w) (x .others))) start at write out₀ out
       parted = subst (λ (vs : List Bytes). Continues (together (end - start) (map (converted-to w) us)) (together (end - at) (map (converted-to w) vs)) start at write out₀ out) (x .is) (g .continues)
 
       pub convert-on : (at′ : ℕ) → m ≡ At at′ → Converting w b end n us (i + 1) next start at′ write out₀ out′
       convert-on at′ e =
-          let t = turn end (converted-to w (x .value) ∷ []) (map (converted-to w) (x .others)) parted put (g .fits) (g .room) at′ e in
+          let q = put (read-at (format-at (w .own)) (format-at (w .format)) (w .size) _ (end - at) at f e) in
+          let t = turn end (converted-to w (x .value) ∷ []) (map (converted-to w) (x .others)) parted q (g .fits) (g .room) at′ refl in
           record {
             left = x .others;
             stand = x .stand;
             place = x .content .inside;
-            fits = turn-within end (converted-to w (x .value) ∷ []) (map (converted-to w) (x .others)) parted put (g .fits) (g .room) at′ e .1;
+            fits = turn-within end (converted-to w (x .value) ∷ []) (map (converted-to w) (x .others)) parted q (g .fits) (g .room) at′ refl .1;
             room = omega (arith, t .same, g .continues .same, g .room);
             continues = t;
           }
 
-      pub convert-off : (k : Refusal) → m ≡ Refused k → Filling (together (end - start) (map (converted-to w) us)) start write out₀ out′ (Refused k)
-      convert-off k e = stop end (converted-to w (x .value) ∷ []) (map (converted-to w) (x .others)) parted put (g .fits) (g .room) k e
+      pub convert-off : {k : Refusal} → m ≡ Refused k → (y : Refusal) → refusal y ≡ with-needed (smallest-length (format-at (w .own)) (format-at (w .format)) (take (next - from) (drop from b))) (refusal k)
+          → Filling (together (end - start) (map (converted-to w) us)) start write out₀ out′ (Refused y)
+      convert-off e y h =
+          let q = put (read-refused (format-at (w .own)) (format-at (w .format)) (w .size) _ (end - at) at f e y h) in
+          stop end (converted-to w (x .value) ∷ []) (map (converted-to w) (x .others)) parted q (g .fits) (g .room) y refl
 
   pub convert-end : n ≤ i → Filling (together (end - start) (map (converted-to w) us)) start write out₀ out (At at)
   convert-end over =

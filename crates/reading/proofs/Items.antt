@@ -5,7 +5,7 @@ use mathlib.Core.List.{List, [], _∷_, _++_, map, map-append}
 use Prim.Native.Nat.{ℕ, _+_, _-_, _≤_}
 use native.Mathlib.Omega.{arith}
 use lib.ListN.{length}
-use Rattle.rules.specs.Outcome.{done, refused}
+use Rattle.rules.specs.Outcome.{Refusal, done, refused}
 use Rattle.rules.specs.Lists.{Bytes}
 use Rattle.rules.specs.Table.{Part}
 use Rattle.rules.specs.Record.{Record}
@@ -33,7 +33,7 @@ module _ (ps : List Part) (r : Record) where
   filled-on room xs ys a p =
       filled-parted room xs ys ∙ append-on room _ _ a (sym (filled-together ps r xs room) ∙ p) ∙ ap (outcome-before a) (sym (filled-together ps r ys (room - length a)))
 
-  pub filled-off : (room : ℕ) (xs ys : List Item) (k : ℕ) → filled ps r room xs ≡ refused k → filled ps r room (xs ++ ys) ≡ refused k
+  pub filled-off : (room : ℕ) (xs ys : List Item) (k : Refusal) → filled ps r room xs ≡ refused k → filled ps r room (xs ++ ys) ≡ refused k
   filled-off room xs ys k p = filled-parted room xs ys ∙ append-off room _ _ k (sym (filled-together ps r xs room) ∙ p)
 
 pub items-on : (ps : List Part) (r : Record) (end : ℕ) (xs : List Item) {at : ℕ} {write : Bool} {out out′ : Bytes} {n : Next}

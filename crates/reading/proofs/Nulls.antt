@@ -11,6 +11,7 @@ use Rattle.rules.specs.Outcome.{Outcome, done}
 use Rattle.rules.specs.Limits.{most-entries}
 use Rattle.rules.specs.Lists.{Bytes, join, run}
 use Rattle.rules.specs.Values.{allowed, null}
+use Rattle.rules.proofs.Lengths.{read-done}
 use Rattle.rules.specs.Table.{Entry, Field, parts, fields-below}
 use Rattle.rules.specs.Record.{Record, values-at, value-at}
 use Rattle.rules.specs.Use.{as-stored}
@@ -134,7 +135,7 @@ module _ (t b : Bytes) (places : List ℕ) (v : Valid t) (s : Span) (held : Good
   unfolding item-bytes value-at as-stored run
   null-item r f a e =
       ap (map (item-bytes (parts (entries-of t)) r)) (one-field o (range 1 1) false (as-stored f))
-      ∙ rw (e, null-converted (f .format) (f .format) (f .size) (f .size) (converts-itself (f .format)) a a) refl
+      ∙ rw (e, read-done (f .format) (f .format) (f .size) _ (null-converted (f .format) (f .format) (f .size) (f .size) (converts-itself (f .format)) a a)) refl
 
   own-fits : (k : ℕ) → k < length (entries-of t) → is-group (getD (entries-of t) k blank .what) ≡ false → allowed (field-at (entries-of t) k .format) (field-at (entries-of t) k .size) ≡ true
   own-fits k known single =

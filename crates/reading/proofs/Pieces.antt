@@ -8,7 +8,8 @@ use lib.ListN.{length, take, drop, getD}
 use lib.Seq.{slice}
 use Rattle.rules.specs.Outcome.{Outcome, done}
 use Rattle.rules.specs.Lists.{Bytes, all, join, filter, run}
-use Rattle.rules.specs.Values.{converted-bytes, content}
+use Rattle.rules.specs.Values.{converted-bytes, read-value, content}
+use Rattle.rules.proofs.Lengths.{read-done}
 use Rattle.rules.specs.Table.{What, field, group, Entry, Field, parts}
 use Rattle.rules.specs.Record.{Record, stored-cell, stored-value, values-at, value-at}
 use Rattle.rules.specs.Use.{Asked, plain, as-stored}
@@ -84,7 +85,8 @@ module _ (es : List Entry) (r : Record) (o : ℕ) where
   own-item f bs rest m h =
       counted-once (stored-value (f .format) (f .size)) bs (rw m at h) λ v e q.
       value-first (f .format) (f .size) bs q λ c g k l i s.
-      let w : converted-bytes (f .format) (f .format) (f .size) (content (f .size) v) ≡ done v = ap (converted-bytes (f .format) (f .format) (f .size)) i ∙ converted-itself (f .format) (f .size) c k ∙ ap done (sym l) in
+      let w : read-value (f .format) (f .format) (f .size) (content (f .size) v) ≡ done v =
+      read-done (f .format) (f .format) (f .size) (content (f .size) v) (ap (converted-bytes (f .format) (f .format) (f .size)) i ∙ converted-itself (f .format) (f .size) c k ∙ ap done (sym l)) in
       ap (map (item-bytes (parts es) r)) (one-field o (range 1 1) false (as-stored f)) ∙ rw (e, w, append-nil v) refl
 
   values-joined : (fs : List Field) → join (map value-of fs) ≡ values-of es r o fs

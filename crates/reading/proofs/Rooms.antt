@@ -6,7 +6,7 @@ use native.Mathlib.Omega.{arith}
 use borrow.Author.Tests.{le-leb}
 use lib.Dec.{leb, leb→le}
 use lib.ListN.{length}
-use Rattle.rules.specs.Outcome.{done, refused}
+use Rattle.rules.specs.Outcome.{Refusal, done, refused}
 use Rattle.rules.specs.Lists.{Bytes}
 use Rattle.rules.specs.Table.{Part}
 use Rattle.rules.specs.Record.{Record}
@@ -25,7 +25,7 @@ module _ (ps : List Part) (r : Record) where
       let m = leb→le (length b) room t in
       rw (h, le-leb (length b) room′ (omega arith), more-room (room - length b) (room′ - length b) xs cs (omega arith) h₃) k₃
 
-  pub more-room-refused : (room room′ : ℕ) (xs : List Item) (n : ℕ) → room ≤ room′ → (n ≡ 7 → ⊥) → filled ps r room xs ≡ refused n → filled ps r room′ xs ≡ refused n
+  pub more-room-refused : (room room′ : ℕ) (xs : List Item) (n : Refusal) → room ≤ room′ → (n .number ≡ 7 → ⊥) → filled ps r room xs ≡ refused n → filled ps r room′ xs ≡ refused n
   unfolding filled
   more-room-refused room room′ [] n l z p = absurd (not-done (sym p))
   more-room-refused room room′ (x ∷ xs) n l z p = by-outcome (item-bytes ps r x)
@@ -37,5 +37,5 @@ module _ (ps : List Part) (r : Record) where
       let e = refused-inj (rw (h, t, h₃) at p) in
       let g = more-room-refused (room - length b) (room′ - length b) xs n (omega arith) z (h₃ ∙ ap refused e) in
       rw (h, le-leb (length b) room′ (omega arith), g)))
-      (λ t. absurd (z (sym (refused-inj (rw (h, t) at p))))))
+      (λ t. absurd (z (ap (λ (y : Refusal). y .number) (sym (refused-inj (rw (h, t) at p)))))))
       (λ k h. rw h (rw h at p))

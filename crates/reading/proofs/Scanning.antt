@@ -7,7 +7,7 @@ use native.Mathlib.Nat.{sub-zero}
 use native.Mathlib.Omega.{arith}
 use lib.Dec.{eqb}
 use lib.ListN.{length, getD, drop, replicate}
-use Rattle.rules.specs.Outcome.{Outcome, done, refused, _>>=_}
+use Rattle.rules.specs.Outcome.{Outcome, done, refused, by, _>>=_}
 use Rattle.rules.specs.Limits.{longest-format}
 use Rattle.rules.specs.Characters.{period}
 use Rattle.rules.specs.Lists.{Bytes}
@@ -17,7 +17,7 @@ use Rattle.rules.specs.Format as rules
 use Rattle.rules.specs.Use.{Indexes}
 use Rattle.rules.specs.Last.{Meaning, Lasts, meanings, counts-in, items-read}
 use Rattle.rules.specs.Services.{filled}
-use Rattle.rules.specs.Numbers.{refusal-number}
+use Rattle.rules.specs.Numbers.{refusal}
 use Rattle.rules.specs.declared.Refusal.the-variants.{BadSyntax}
 use Rattle.format_buffer.specs.Syntax.{parsed, elements-behind, element-before, Stepped}
 use Rattle.format_buffer.specs.Elements.{element-of}
@@ -83,8 +83,8 @@ module _ {es : List Entry} {b : Bytes} {places : List ℕ} {f : Bytes} {end : �
     pub scan-as : (ys : Outcome (List rules.Element)) → xs ≡ ys → Scanning es b places f end write out₀ last ys s out
     scan-as ys e = subst (λ (o : Outcome (List rules.Element)). Scanning es b places f end write out₀ last o s out) e w
 
-    pub scan-bad : xs ≡ refused 3 → Scans es b places f end write out₀ out (next.Refused BadSyntax)
-    scan-bad e r p = continues-off (w .continues r p) refl BadSyntax (ap (λ o. left-of es r end (w .indexes) (w .lasts) o s) e ∙ left-bad es r end (w .indexes) (w .lasts) s 3) (λ k. refl)
+    pub scan-bad : xs ≡ refused (by 3) → Scans es b places f end write out₀ out (next.Refused BadSyntax)
+    scan-bad e r p = continues-off (w .continues r p) refl BadSyntax (ap (λ o. left-of es r end (w .indexes) (w .lasts) o s) e ∙ left-bad es r end (w .indexes) (w .lasts) s (by 3)) (λ k. refl)
 
   scan-on : {last last′ : List ℕ} {s s′ : Progress} {out out′ : Bytes} (e : Element) (xs : Outcome (List rules.Element))
       → Scanning es b places f end write out₀ last (element-before (element-of f e) xs) s out → Puts-element es b places f end write e last last′ s out out′ s′ → Scanning es b places f end write out₀ last′ xs s′ out′
@@ -104,7 +104,7 @@ module _ {es : List Entry} {b : Bytes} {places : List ℕ} {f : Bytes} {end : �
       (subst (λ (o : Outcome Bytes). Continues (whole es f r end) o 0 p write out₀ out)
       (ap (λ o. o >>= items-in es r (end - p)) (no-meanings es (w .indexes) (w .lasts)) ∙ ap (filled (parts es) r (end - p)) (no-items (parts es) (counts-in (parts es) r)) ∙ filled-together (parts es) r [] (end - p))
       (w .continues r h))
-  scan-end (ItemRefused n) w r h = continues-off (w .continues r h) refl n (ap (λ (o : Outcome (List Meaning)). o >>= λ ms. refused (refusal-number n)) (no-meanings es (w .indexes) (w .lasts))) (λ k. refl)
+  scan-end (ItemRefused n) w r h = continues-off (w .continues r h) refl n (ap (λ (o : Outcome (List Meaning)). o >>= λ ms. refused (refusal n)) (no-meanings es (w .indexes) (w .lasts))) (λ k. refl)
   scan-end (ElementRefused n) w r h = continues-off (w .continues r h) refl n refl (λ k. refl)
 
   -- The element at a place is put.

@@ -6,6 +6,7 @@ use Prim.Native.Nat.{ℕ, _-_, _≤_}
 use native.Mathlib.Omega.{arith}
 use lib.ListN.{length}
 use Rattle.rules.specs.Outcome.{Outcome, done, refused, _>>=_}
+use Rattle.rules.specs.Outcome as outcome
 use Rattle.rules.specs.Lists.{Bytes, join}
 use Rattle.rules.specs.Table.{Part, Entry, parts}
 use Rattle.rules.specs.Record.{Record}
@@ -14,7 +15,7 @@ use Rattle.rules.specs.Use.{Indexes, indexes-after, Item}
 use Rattle.rules.specs.Last.{Meaning, Counts, Lasts, lasts-after, meaning-of, meanings, counts-in, use-resolved, items-read}
 use Rattle.rules.specs.Services.{filled}
 use Rattle.rules.specs.declared.Refusal.{Refusal}
-use Rattle.rules.specs.Numbers.{refusal-number}
+use Rattle.rules.specs.Numbers.{refusal}
 use Rattle.format_buffer.specs.Syntax.{element-before}
 use Rattle.filling.specs.Filling.{Filling, Continues}
 use Rattle.reading.specs.Scan.{filled-upto, left-of}
@@ -42,21 +43,21 @@ unfolding meanings
 no-meanings es ls ns = refl
 
 -- A refusal n stands, unless there is one before it; what is done to what is not refused does not change that.
-abbrev unless : {A : Type 0} → Outcome A → ℕ → ℕ
+abbrev unless : {A : Type 0} → Outcome A → outcome.Refusal → outcome.Refusal
 unless (done a) n = n
 unless (refused k) n = k
 
-unless-then : {A B : Type 0} (o : Outcome A) (g : A → B) (n : ℕ) → unless (o >>= λ a. done (g a)) n ≡ unless o n
+unless-then : {A B : Type 0} (o : Outcome A) (g : A → B) (n : outcome.Refusal) → unless (o >>= λ a. done (g a)) n ≡ unless o n
 unless-then (done a) g n = refl
 unless-then (refused k) g n = refl
 
-refused-then : {A B : Type 0} (o : Outcome A) (n : ℕ) → _≡_ {A = Outcome B} (o >>= λ a. refused n) (refused (unless o n))
+refused-then : {A B : Type 0} (o : Outcome A) (n : outcome.Refusal) → _≡_ {A = Outcome B} (o >>= λ a. refused n) (refused (unless o n))
 refused-then (done a) n = refl
 refused-then (refused k) n = refl
 
 -- The meaning of an element before some more.
 module _ (es : List Entry) (ls : Indexes) (ns : Lasts) (x : rules.Element) where
-  before-refused : (o : Outcome (List rules.Element)) (n : ℕ) → refused n ≡ meaning-of es ls ns x → (element-before x o >>= meanings es ls ns) ≡ refused (unless o n)
+  before-refused : (o : Outcome (List rules.Element)) (n : outcome.Refusal) → refused n ≡ meaning-of es ls ns x → (element-before x o >>= meanings es ls ns) ≡ refused (unless o n)
   unfolding meanings
   before-refused (done xs) n e = rw (← e) refl
   before-refused (refused k) n e = refl
@@ -77,7 +78,7 @@ module _ (ps : List Part) (r : Record) (room : ℕ) (m : Meaning) where
   used-on (done ms) a h = ap (filled ps r room) (first-items ps counts m ms) ∙ filled-on ps r room (items-of ps counts m) (items-read ps counts ms) a h
   used-on (refused k) a h = refl
 
-  used-off : (o : Outcome (List Meaning)) (k : ℕ) → filled ps r room (items-of ps counts m) ≡ refused k
+  used-off : (o : Outcome (List Meaning)) (k : outcome.Refusal) → filled ps r room (items-of ps counts m) ≡ refused k
       → (o >>= (λ ms. done (m ∷ ms)) >>= λ ms. filled ps r room (items-read ps counts ms)) ≡ refused (unless o k)
   used-off (done ms) k h = ap (filled ps r room) (first-items ps counts m ms) ∙ filled-off ps r room (items-of ps counts m) (items-read ps counts ms) k h
   used-off (refused j) k h = refl
@@ -88,11 +89,11 @@ module _ (es : List Entry) (r : Record) (end : ℕ) (ls : Indexes) (ns : Lasts) 
   abbrev filling : ℕ → List Meaning → Outcome Bytes
   filling room ms = filled (parts es) r room (items-read (parts es) (counts-in (parts es) r) ms)
 
-  left-refused : (xs : Outcome (List rules.Element)) (n : Refusal) → left-of es r end ls ns xs (ElementRefused n) ≡ refused (unless xs (refusal-number n))
+  left-refused : (xs : Outcome (List rules.Element)) (n : Refusal) → left-of es r end ls ns xs (ElementRefused n) ≡ refused (unless xs (refusal n))
   unfolding left-of
-  left-refused xs n = refused-then xs (refusal-number n)
+  left-refused xs n = refused-then xs (refusal n)
 
-  pub left-bad : (s : Progress) (n : ℕ) → left-of es r end ls ns (refused n) s ≡ refused n
+  pub left-bad : (s : Progress) (n : outcome.Refusal) → left-of es r end ls ns (refused n) s ≡ refused n
   unfolding left-of
   left-bad (At p) n = refl
   left-bad (ItemRefused k) n = refl
@@ -102,20 +103,20 @@ module _ (es : List Entry) (r : Record) (end : ℕ) (ls : Indexes) (ns : Lasts) 
   module _ (x : rules.Element) (xs : Outcome (List rules.Element)) where
     -- One that is not looked at, since one before it is refused.
     pub passed : (n : Refusal) {write : Bool} {out : Bytes} → Continues (left-of es r end ls ns (element-before x xs) (ElementRefused n)) (left-of es r end ls ns xs (ElementRefused n)) 0 0 write out out
-    passed n = continues-both-off (unless xs (refusal-number n)) (left-refused (element-before x xs) n ∙ ap refused (unless-then xs (λ ys. x ∷ ys) (refusal-number n))) (left-refused xs n) refl (λ e. refl)
+    passed n = continues-both-off (unless xs (refusal n)) (left-refused (element-before x xs) n ∙ ap refused (unless-then xs (λ ys. x ∷ ys) (refusal n))) (left-refused xs n) refl (λ e. refl)
 
     -- One that is refused.
-    module _ (n : Refusal) (h : refused (refusal-number n) ≡ meaning-of es ls ns x) where
-      before-off : (s : Progress) → ((k : Refusal) → s ≡ ElementRefused k → ⊥) → left-of es r end ls ns (element-before x xs) s ≡ refused (unless xs (refusal-number n))
+    module _ (n : Refusal) (h : refused (refusal n) ≡ meaning-of es ls ns x) where
+      before-off : (s : Progress) → ((k : Refusal) → s ≡ ElementRefused k → ⊥) → left-of es r end ls ns (element-before x xs) s ≡ refused (unless xs (refusal n))
       unfolding left-of
-      before-off (At p) k = ap (λ o. o >>= filling (end - p)) (before-refused es ls ns x xs (refusal-number n) h)
-      before-off (ItemRefused m) k = ap (λ (o : Outcome (List Meaning)). o >>= λ ms. refused (refusal-number m)) (before-refused es ls ns x xs (refusal-number n) h)
+      before-off (At p) k = ap (λ o. o >>= filling (end - p)) (before-refused es ls ns x xs (refusal n) h)
+      before-off (ItemRefused m) k = ap (λ (o : Outcome (List Meaning)). o >>= λ ms. refused (refusal m)) (before-refused es ls ns x xs (refusal n) h)
       before-off (ElementRefused m) k = absurd (k m refl)
 
       pub refused-use : (s : Progress) → ((k : Refusal) → s ≡ ElementRefused k → ⊥) → (ls′ : Indexes) (ns′ : Lasts) {write : Bool} {out : Bytes}
           → Continues (left-of es r end ls ns (element-before x xs) s) (left-of es r end ls′ ns′ xs (ElementRefused n)) (filled-upto s) 0 write out out
       unfolding left-of
-      refused-use s k ls′ ns′ = continues-both-off (unless xs (refusal-number n)) (before-off s k) (refused-then xs (refusal-number n)) refl (λ e. refl)
+      refused-use s k ls′ ns′ = continues-both-off (unless xs (refusal n)) (before-off s k) (refused-then xs (refusal n)) refl (λ e. refl)
 
     -- One that means m.
     module _ (m : Meaning) (h : done m ≡ meaning-of es ls ns x) where
@@ -126,7 +127,7 @@ module _ (es : List Entry) (r : Record) (end : ℕ) (ls : Indexes) (ns : Lasts) 
       pub used-behind : (n : Refusal) {write : Bool} {out : Bytes} → Continues (left-of es r end ls ns (element-before x xs) (ItemRefused n)) (left-of es r end (indexes-after (m .meant) ls) (lasts-after m ns) xs (ItemRefused n)) 0 0 write out out
       unfolding left-of
       used-behind k =
-          let n = refusal-number k in
+          let n = refusal k in
           continues-both-off (unless more n)
           (refused-then (element-before x xs >>= meanings es ls ns) n ∙ ap (λ o. refused (unless o n)) (before-done es ls ns x xs m h) ∙ ap refused (unless-then more (λ ms. m ∷ ms) n))
           (refused-then more n) refl (λ e. refl)
@@ -145,7 +146,7 @@ module _ (es : List Entry) (r : Record) (end : ℕ) (ls : Indexes) (ns : Lasts) 
         pub used-refused : (k : Refusal) → z ≡ next.Refused k → Continues (left-of es r end ls ns (element-before x xs) (At p)) (left-of es r end (indexes-after (m .meant) ls) (lasts-after m ns) xs (ItemRefused k)) p 0 write out out′
         unfolding left-of
         used-refused k q =
-            let n = refusal-number k in
+            let n = refusal k in
             continues-both-off (unless more n) (before-used p ∙ used-off (parts es) r (end - p) m more n (put-off g k q)) (refused-then more n) (g .same) (put-unwritten g)
 
 -- Items end within their room.

@@ -7,7 +7,7 @@ use lib.ListN.{length, take, drop, getD}
 use Rattle.rules.specs.Outcome.{Outcome, done}
 use Rattle.rules.specs.Limits.{formats, highest-index}
 use Rattle.rules.specs.Lists.{Bytes}
-use Rattle.rules.specs.Values.{Format, allowed, converts, converted-bytes, content, null}
+use Rattle.rules.specs.Values.{Format, allowed, converts, read-value, content, null}
 use Rattle.rules.specs.Table.{Entry}
 use Rattle.rules.specs.Record.{times, counted, stored-value}
 use Rattle.rules.specs.Use.{over}
@@ -52,7 +52,7 @@ values-meant w n = resolved (scope-at (w .scope)) (range (w .first) (w .last)) n
 
 -- A stored value at the format and length in effect; and those wanted of a cell's values, of which one that doesn't exist is null.
 abbrev pub converted-to : Wanted → Bytes → Outcome Bytes
-converted-to w v = converted-bytes (format-at (w .own)) (format-at (w .format)) (w .size) (content (w .standard) v)
+converted-to w v = read-value (format-at (w .own)) (format-at (w .format)) (w .size) (content (w .standard) v)
 
 abbrev pub wanted : Wanted → List Bytes → List (Outcome Bytes)
 wanted w vs = over (values-meant w (length vs)) (λ k. converted-to w (getD vs (pred k) (null (format-at (w .own)) (w .standard))))

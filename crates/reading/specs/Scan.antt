@@ -12,7 +12,7 @@ use Rattle.rules.specs.Format as rules
 use Rattle.rules.specs.Use.{Item, Indexes}
 use Rattle.rules.specs.Last.{Lasts, meanings, counts-in, use-resolved, items-read}
 use Rattle.rules.specs.Services.{filled}
-use Rattle.rules.specs.Numbers.{refusal-number}
+use Rattle.rules.specs.Numbers.{refusal}
 use Rattle.format_buffer.specs.Elements.{element-of}
 use Rattle.format_buffer.specs.Syntax.{element-before}
 use Rattle.format_buffer.specs.declared.Element.{Element}
@@ -59,8 +59,8 @@ progress-after (next.Refused n) = ItemRefused n
 unfoldable pub left-of : List Entry → Record → ℕ → Indexes → Lasts → Outcome (List rules.Element) → Progress → Outcome Bytes
 left-of es r end ls ns xs (At p) =
     xs >>= meanings es ls ns >>= λ ms. filled (parts es) r (end - p) (items-read (parts es) (counts-in (parts es) r) ms)
-left-of es r end ls ns xs (ItemRefused n) = xs >>= meanings es ls ns >>= λ ms. refused (refusal-number n)
-left-of es r end ls ns xs (ElementRefused n) = xs >>= λ ys. refused (refusal-number n)
+left-of es r end ls ns xs (ItemRefused n) = xs >>= meanings es ls ns >>= λ ms. refused (refusal n)
+left-of es r end ls ns xs (ElementRefused n) = xs >>= λ ys. refused (refusal n)
 
 -- An element was put: whatever follows it is left from where the scan stands then.
 pub record Puts-element (es : List Entry) (b : Bytes) (places : List ℕ) (f : Bytes) (end : ℕ) (write : Bool) (e : Element) (last last′ : List ℕ)

@@ -101,19 +101,12 @@ fn put_converted(
                 return Next::Refused(k);
             }
             FirstValue::Value(start, next) => {
-                let put = filling::value::put_value(
-                    &b[start..next],
-                    w.own,
-                    w.format,
-                    w.size,
-                    out,
-                    p,
-                    end,
-                    write,
-                );
+                let s = &b[start..next];
+                let put = filling::value::put_value(s, w.own, w.format, w.size, out, p, end, write);
                 match put {
                     Next::Refused(k) => {
-                        return Next::Refused(k);
+                        let x = filling::lengths::with_needed(k, s, w.own, w.format);
+                        return Next::Refused(x);
                     }
                     Next::At(place) => {
                         p = place;

@@ -9,7 +9,7 @@ use native.Mathlib.Omega.{arith}
 use lib.ListN.{length, drop, getD, drop-of-length-le}
 use lib.Seq.{drop-cons}
 use Rattle.rules.specs.Limits.{record-head-size}
-use Rattle.rules.specs.Outcome.{Outcome, done, refused, _>>=_}
+use Rattle.rules.specs.Outcome.{Refusal, Outcome, done, refused, by, _>>=_}
 use Rattle.rules.specs.Lists.{Bytes}
 use Rattle.rules.specs.Table.{What, field, group, Entry, Part, is-inside, parts-from, part-of}
 use Rattle.rules.specs.Record.{Reader, each, stored-part}
@@ -35,7 +35,7 @@ module _ {X Y : Type 0} (one : Y → Reader X) (zs : List Y) where
       (λ ds h. each-turn one y (ys ++ zs) bs h ∙ each-on ys ds cs (sym (each-turn one y ys bs h) ∙ q))
       (λ n h. absurd (not-done (sym (each-stop one y ys bs h) ∙ q)))
 
-  pub each-off : (ys : List Y) (bs : Bytes) (k : ℕ) → rest-of (each one ys bs) ≡ refused k → rest-of (each one (ys ++ zs) bs) ≡ refused k
+  pub each-off : (ys : List Y) (bs : Bytes) (k : Refusal) → rest-of (each one ys bs) ≡ refused k → rest-of (each one (ys ++ zs) bs) ≡ refused k
   unfolding each
   each-off [] bs k q = absurd (not-done (sym q))
   each-off (y ∷ ys) bs k q = by-outcome (rest-of (one y bs))
@@ -52,7 +52,7 @@ module _ (before : Bool) (e : Entry) (es : List Entry) (bs : Bytes) where
   entry-on cs q = rw (part-first (is-inside before e) (e .name) (e .what) es (parts-from (is-inside before e) es))
       (each-on stored-part (parts-from (is-inside before e) es) (part-of (is-inside before e) (e .name) (e .what) es []) bs cs q)
 
-  entry-off : (k : ℕ) → behind (is-inside before e) e es bs ≡ refused k → left before (e ∷ es) bs ≡ refused k
+  entry-off : (k : Refusal) → behind (is-inside before e) e es bs ≡ refused k → left before (e ∷ es) bs ≡ refused k
   unfolding parts-from behind
   entry-off k q = rw (part-first (is-inside before e) (e .name) (e .what) es (parts-from (is-inside before e) es))
       (each-off stored-part (parts-from (is-inside before e) es) (part-of (is-inside before e) (e .name) (e .what) es []) bs k q)
@@ -103,8 +103,8 @@ module _ {es : List Entry} {b : Bytes} {places : List ℕ} {before : Bool} {i p 
     kept = λ j k. by-order j i (λ l. rw (old j l) (c .kept j l)) (λ l. let z : j ≡ i = omega arith in rw (z, new) (c .inside, sym here));
   }
 
-  pub bad : behind (is-inside before (getD es i d)) (getD es i d) (drop (suc i) es) (drop p b) ≡ refused 2 → left false es (drop record-head-size b) ≡ refused 2
-  bad e = sym (c .rest) ∙ rw (drop-cons es i d less) (entry-off before (getD es i d) (drop (suc i) es) (drop p b) 2 e)
+  pub bad : behind (is-inside before (getD es i d)) (getD es i d) (drop (suc i) es) (drop p b) ≡ refused (by 2) → left false es (drop record-head-size b) ≡ refused (by 2)
+  bad e = sym (c .rest) ∙ rw (drop-cons es i d less) (entry-off before (getD es i d) (drop (suc i) es) (drop p b) (by 2) e)
 
 pub over : {es : List Entry} {b : Bytes} {places : List ℕ} {before : Bool} {i p : ℕ} → Checking es b places before i p → length es ≤ i → left false es (drop record-head-size b) ≡ done (drop p b)
 over {es} {b} {places} {before} {i} {p} c h = sym (c .rest) ∙ rw (drop-of-length-le es h) (nothing-left before (drop p b))

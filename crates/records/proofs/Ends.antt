@@ -10,7 +10,7 @@ use borrow.Author.Tests.{lt-ltb, le-leb}
 use lib.Dec.{leb, ltb, leb→le, ltb→lt}
 use lib.ListN.{length, take, drop, getD, length-drop}
 use lib.Seq.{slice, take-nil}
-use Rattle.rules.specs.Outcome.{done, refused}
+use Rattle.rules.specs.Outcome.{done, refused, by}
 use Rattle.rules.specs.Limits.{greatest-count}
 use Rattle.rules.specs.Lists.{Bytes}
 use Rattle.rules.specs.Table.{What, field, group, Entry, Field, fields-below, alone, part-of}
@@ -45,7 +45,7 @@ module _ {X : Type 0} (one : Reader X) (b : Bytes) (at : ℕ) where
   pub count-there : has-count b at ≡ true → rest-of (counted true one (drop at b)) ≡ rest-of (times (getD b at 0) one (drop (at + 1) b))
   count-there h = let k = count-some b at h in rw (add-one at) (count-good one b at (k .0) (k .1))
 
-  pub count-none : has-count b at ≡ false → rest-of (counted true one (drop at b)) ≡ refused 2
+  pub count-none : has-count b at ≡ false → rest-of (counted true one (drop at b)) ≡ refused (by 2)
   count-none h = by-order at (length b)
       (λ l. by-order greatest-count (getD b at 0) (count-over one b at l) (λ k. absurd (never h (has-count-is b at l k))))
       (count-missing one b at)
@@ -140,7 +140,7 @@ module _ (w : What) where
 
 -- What stands after a periodic group, by its count and its end.
 module _ (inside : Bool) (es : List Entry) (g : ℕ) (b : Bytes) (at : ℕ) (p : is-periodic (getD es g blank .what) ≡ true) where
-  pub behind-countless : has-count b at ≡ false → behind inside (getD es g blank) (drop (suc g) es) (drop at b) ≡ refused 2
+  pub behind-countless : has-count b at ≡ false → behind inside (getD es g blank) (drop (suc g) es) (drop at b) ≡ refused (by 2)
   behind-countless h = behind-periodic inside (getD es g blank) (drop (suc g) es) (drop at b) p ∙ count-none (each stored-cell (fields-below 1 (drop (suc g) es))) b at h
 
   pub behind-counted : has-count b at ≡ true → getD es g blank .level ≡ 1 → (end : ℕ) → end ≡ group-end es g

@@ -8,7 +8,7 @@ use borrow.Author.Tests.{le-leb, lt-leb, ne-eqb}
 use lib.Dec.{leb, eqb}
 use lib.ListN.{length, take, drop, length-take, drop-of-length-le}
 use lib.Seq.{drop-cons}
-use Rattle.rules.specs.Outcome.{Outcome, done, refused, _>>=_, need, is-done}
+use Rattle.rules.specs.Outcome.{Refusal, Outcome, done, refused, _>>=_, need, is-done}
 use Rattle.rules.specs.Limits.{longest-record, record-head-size}
 use Rattle.rules.specs.Lists.{Bytes, same, nothing}
 use Rattle.rules.specs.Table.{Part}
@@ -66,7 +66,7 @@ ends-on (done r) cs h = rw (done-inj h) (need-is (nothing cs))
     need-is false = refl
 ends-on (refused n) cs h = absurd (not-done h)
 
-ends-off : (o : Outcome (Record × Bytes)) (k : ℕ) → rest-of o ≡ refused k → is-done (o >>= to-the-end) ≡ false
+ends-off : (o : Outcome (Record × Bytes)) (k : Refusal) → rest-of o ≡ refused k → is-done (o >>= to-the-end) ≡ false
 ends-off (done r) k h = absurd (not-done (sym h))
 ends-off (refused n) k h = refl
 
@@ -79,7 +79,7 @@ module _ (ps : List Part) (b : Bytes) where
   unfolding stored is-headed
   by-body h = two-needs-on (each stored-part ps (drop record-head-size b) >>= to-the-end) (leb (length b) longest-record) (same (take record-head-size b) record-head) h
 
-  pub stored-bad : is-headed b ≡ true → {k : ℕ} → rest-of (each stored-part ps (drop record-head-size b)) ≡ refused k → is-done (stored ps b) ≡ false
+  pub stored-bad : is-headed b ≡ true → {k : Refusal} → rest-of (each stored-part ps (drop record-head-size b)) ≡ refused k → is-done (stored ps b) ≡ false
   stored-bad h {k} q = by-body h ∙ ends-off (each stored-part ps (drop record-head-size b)) k q
 
   pub stored-over : is-headed b ≡ true → (p : ℕ) → p ≤ length b → rest-of (each stored-part ps (drop record-head-size b)) ≡ done (drop p b) → is-done (stored ps b) ≡ eqb p (length b)

@@ -7,10 +7,11 @@ use native.Mathlib.Nat.{zero-mul}
 use native.Mathlib.Omega.{arith}
 use lib.ListN.{length, take, drop, getD, length-drop}
 use lib.Seq.{length-take-le, drop-drop, getD-drop}
-use Rattle.rules.specs.Outcome.{Outcome, done, refused}
+use Rattle.rules.specs.Outcome.{Outcome, done, refused, by}
+use Rattle.rules.specs.Outcome as outcome
 use Rattle.rules.specs.Lists.{Bytes, cut}
 use Rattle.rules.specs.Values.{Format, first-value, in-normal-form}
-use Rattle.rules.specs.Numbers.{refusal-number}
+use Rattle.rules.specs.Numbers.{refusal}
 use Rattle.rules.specs.Record.{times, stored-value}
 use Rattle.rules.specs.declared.Refusal.{Refusal}
 use Rattle.buffer.proofs.Cases.{by-order}
@@ -27,11 +28,11 @@ pub first-at : {s : Bytes} {at : ℕ} {o : Outcome (Bytes × Bytes)} {r : FirstV
     → (o ≡ done (take (next - from) (drop from s), drop next s)) × (from ≤ next) × (next ≤ length s)
 first-at {s} {at} {o} {r} {from} {next} w q = (sym (w .answer) ∙ ap (found s) q, (rw q at (w .place)) .1, (rw q at (w .place)) .2)
 
-pub first-none : {s : Bytes} {at : ℕ} {o : Outcome (Bytes × Bytes)} {r : FirstValue} {x : Refusal} → Located s at o r → r ≡ Refused x → o ≡ refused (refusal-number x)
+pub first-none : {s : Bytes} {at : ℕ} {o : Outcome (Bytes × Bytes)} {r : FirstValue} {x : Refusal} → Located s at o r → r ≡ Refused x → o ≡ refused (refusal x)
 first-none {s} {at} {o} {r} {x} w q = sym (w .answer) ∙ ap (found s) q
 
 module _ (f : Format) (n : ℕ) (bs : Bytes) where
-  pub value-missing : {k : ℕ} → first-value n bs ≡ refused k → rest-of (stored-value f n bs) ≡ refused 2
+  pub value-missing : {k : outcome.Refusal} → first-value n bs ≡ refused k → rest-of (stored-value f n bs) ≡ refused (by 2)
   unfolding stored-value
   value-missing h = rw h refl
 
@@ -40,7 +41,7 @@ module _ (f : Format) (n : ℕ) (bs : Bytes) where
     unfolding stored-value
     value-normal q = rw (h, q) refl
 
-    pub value-other : in-normal-form f n v ≡ false → rest-of (stored-value f n bs) ≡ refused 2
+    pub value-other : in-normal-form f n v ≡ false → rest-of (stored-value f n bs) ≡ refused (by 2)
     unfolding stored-value
     value-other q = rw (h, q) refl
 

@@ -7,7 +7,7 @@ use native.Mathlib.Numerals.{add-one}
 use native.Mathlib.Omega.{arith}
 use lib.ListN.{length, drop, getD, set, length-set}
 use lib.Seq.{slice, getD-set-same, getD-set-other}
-use Rattle.rules.specs.Outcome.{Outcome, done}
+use Rattle.rules.specs.Outcome.{Outcome, done, by}
 use Rattle.rules.specs.Lists.{Bytes}
 use Rattle.rules.specs.Table.{Entry}
 use Rattle.rules.specs.Record.{Reader, times, each, stored-cell}
@@ -105,7 +105,7 @@ module _ {es : List Entry} {b : Bytes} {whole : Outcome Bytes} {j i p : ℕ} (l 
     pub among-off : r ≡ Bad → Walked b whole Bad
     among-off q = record {
       answer =
-          sym (each-off stored-cell (fields-in (slice (suc i) j es)) (field-of (getD es i d .name) (getD es i d .what)) (drop p b) 2 (walked-bad w q))
+          sym (each-off stored-cell (fields-in (slice (suc i) j es)) (field-of (getD es i d .name) (getD es i d .what)) (drop p b) (by 2) (walked-bad w q))
           ∙ rw (fields-first es d i j less most) at (l .rest);
       place = tt;
     }

@@ -7,7 +7,7 @@ use native.Mathlib.Omega.{arith}
 use borrow.Author.Tests.{le-leb, lt-leb}
 use lib.ListN.{length, drop, getD, drop-of-length-le}
 use lib.Seq.{drop-cons}
-use Rattle.rules.specs.Outcome.{Outcome, done, refused, _>>=_}
+use Rattle.rules.specs.Outcome.{Refusal, Outcome, done, refused, by, _>>=_}
 use Rattle.rules.specs.Limits.{greatest-count}
 use Rattle.rules.specs.Lists.{Bytes}
 use Rattle.rules.specs.Record.{Reader, times, each, stored-count, counted}
@@ -20,7 +20,7 @@ use Rattle.records.specs.declared.Reach.the-variants.{At, Bad}
 pub walked-at : {b : Bytes} {o : Outcome Bytes} {r : Reach} {e : ℕ} → Walked b o r → r ≡ At e → (o ≡ done (drop e b)) × (e ≤ length b)
 walked-at {b} {o} {r} {e} w q = (sym (w .answer) ∙ ap (seen b) q, rw q at (w .place))
 
-pub walked-bad : {b : Bytes} {o : Outcome Bytes} {r : Reach} → Walked b o r → r ≡ Bad → o ≡ refused 2
+pub walked-bad : {b : Bytes} {o : Outcome Bytes} {r : Reach} → Walked b o r → r ≡ Bad → o ≡ refused (by 2)
 walked-bad {b} {o} {r} w q = sym (w .answer) ∙ ap (seen b) q
 
 pub not-at : {e : ℕ} → Bad ≡ At e → ⊥
@@ -45,7 +45,7 @@ pub then-on : {X Y Z : Type 0} (f : X → Y → Z) (first : Outcome (X × Bytes)
 then-on f (done x) second q = after f (x .0) (second (x .1)) ∙ rw (done-inj q) refl
 then-on f (refused m) second q = absurd (not-done q)
 
-pub then-stop : {X Y Z : Type 0} (f : X → Y → Z) (first : Outcome (X × Bytes)) (second : Reader Y) {k : ℕ}
+pub then-stop : {X Y Z : Type 0} (f : X → Y → Z) (first : Outcome (X × Bytes)) (second : Reader Y) {k : Refusal}
     → rest-of first ≡ refused k → rest-of (both f first second) ≡ refused k
 then-stop f (done x) second q = absurd (not-done (sym q))
 then-stop f (refused m) second q = q
@@ -55,7 +55,7 @@ module _ {X : Type 0} (one : Reader X) (n : ℕ) (bs : Bytes) where
   unfolding times
   times-turn q = then-on (λ x xs. x ∷ xs) (one bs) (times n one) q
 
-  pub times-stop : {k : ℕ} → rest-of (one bs) ≡ refused k → rest-of (times (suc n) one bs) ≡ refused k
+  pub times-stop : {k : Refusal} → rest-of (one bs) ≡ refused k → rest-of (times (suc n) one bs) ≡ refused k
   unfolding times
   times-stop q = then-stop (λ x xs. x ∷ xs) (one bs) (times n one) q
 
@@ -75,7 +75,7 @@ module _ {X Y : Type 0} (one : Y → Reader X) (y : Y) (ys : List Y) (bs : Bytes
   unfolding each
   each-turn q = then-on (λ x xs. x ∷ xs) (one y bs) (each one ys) q
 
-  pub each-stop : {k : ℕ} → rest-of (one y bs) ≡ refused k → rest-of (each one (y ∷ ys) bs) ≡ refused k
+  pub each-stop : {k : Refusal} → rest-of (one y bs) ≡ refused k → rest-of (each one (y ∷ ys) bs) ≡ refused k
   unfolding each
   each-stop q = then-stop (λ x xs. x ∷ xs) (one y bs) (each one ys) q
 
@@ -84,7 +84,7 @@ module _ {X : Type 0} (one : Reader X) (b : Bytes) (n i p : ℕ) (less : i < n) 
   pub turn-at : (e : ℕ) → rest-of (one (drop p b)) ≡ done (drop e b) → rest-of (times (n - (i + 1)) one (drop e b)) ≡ o
   turn-at e h = let q : n - i ≡ suc (n - (i + 1)) = omega arith in sym (times-turn one (n - (i + 1)) (drop p b) h) ∙ rw q at inv
 
-  pub turn-bad : {k : ℕ} → rest-of (one (drop p b)) ≡ refused k → refused k ≡ o
+  pub turn-bad : {k : Refusal} → rest-of (one (drop p b)) ≡ refused k → refused k ≡ o
   turn-bad h = let q : n - i ≡ suc (n - (i + 1)) = omega arith in sym (times-stop one (n - (i + 1)) (drop p b) h) ∙ rw q at inv
 
 pub turns-over : {X : Type 0} (one : Reader X) (b : Bytes) (n i p : ℕ) {o : Outcome Bytes} → n ≤ i → rest-of (times (n - i) one (drop p b)) ≡ o → done (drop p b) ≡ o
@@ -93,11 +93,11 @@ turns-over one b n i p h inv = let q : n - i ≡ 0 = omega arith in rw q at inv
 
 -- What is counted: no byte, a count over its limit, a count and that many; and what is not counted.
 module _ {X : Type 0} (one : Reader X) (b : Bytes) (at : ℕ) where
-  pub count-missing : length b ≤ at → rest-of (counted true one (drop at b)) ≡ refused 2
+  pub count-missing : length b ≤ at → rest-of (counted true one (drop at b)) ≡ refused (by 2)
   unfolding counted stored-count
   count-missing h = rw (drop-of-length-le b h) refl
 
-  pub count-over : at < length b → greatest-count < getD b at 0 → rest-of (counted true one (drop at b)) ≡ refused 2
+  pub count-over : at < length b → greatest-count < getD b at 0 → rest-of (counted true one (drop at b)) ≡ refused (by 2)
   unfolding counted stored-count
   count-over h k = rw (drop-cons b at 0 h, lt-leb (getD b at 0) greatest-count k) refl
 

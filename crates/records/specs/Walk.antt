@@ -6,7 +6,7 @@ use Prim.Native.Nat.{ℕ, zero, suc, _+_, _*_, _≤_, _<_}
 use lib.Dec.{leb}
 use lib.ListN.{length, take, drop, getD}
 use lib.Seq.{slice}
-use Rattle.rules.specs.Outcome.{Outcome, done, refused, is-done}
+use Rattle.rules.specs.Outcome.{Outcome, done, refused, by, is-done}
 use Rattle.rules.specs.Limits.{most-entries, longest-record, record-head-size, count-size}
 use Rattle.rules.specs.Lists.{Bytes, same}
 use Rattle.rules.specs.Table.{What, Entry, is-inside, part-of, parts}
@@ -20,7 +20,7 @@ use Rattle.records.specs.declared.Reach.the-variants.{At, Bad}
 -- The bytes from a place on; or refusal 2.
 abbrev pub seen : Bytes → Reach → Outcome Bytes
 seen b (At e) = done (drop e b)
-seen b Bad = refused 2
+seen b Bad = refused (by 2)
 
 abbrev pub walk-place : Bytes → Reach → Type 0
 walk-place b (At e) = e ≤ length b

@@ -58,3 +58,7 @@ both-ways true true f g = refl
 both-ways true false f g = absurd (f tt)
 both-ways false true f g = absurd (g tt)
 both-ways false false f g = refl
+
+pub and-off : (a : Bool) {b : Bool} → b ≡ false → (a && b) ≡ false
+and-off true e = e
+and-off false e = refl

@@ -22,11 +22,11 @@ is-done-after true n f = refl
 is-done-after false n f = refl
 
 -- A number that fits, and one that does not.
-pub is-done-need : {A : Type 0} (t : Bool) (a : A) → is-done (need t (refusal-number OutOfRange) >>= λ _. done a) ≡ t
+pub is-done-need : {A : Type 0} (t : Bool) (a : A) → is-done (need t (refusal-number (OutOfRange 0)) >>= λ _. done a) ≡ t
 is-done-need true a = refl
 is-done-need false a = refl
 
-pub done-need : {A : Type 0} (t : Bool) (a : A) → t ≡ true → (need t (refusal-number OutOfRange) >>= λ _. done a) ≡ done a
+pub done-need : {A : Type 0} (t : Bool) (a : A) → t ≡ true → (need t (refusal-number (OutOfRange 0)) >>= λ _. done a) ≡ done a
 done-need true a e = refl
 done-need false a e = absurd (false≢true e)
 

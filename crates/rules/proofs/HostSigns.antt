@@ -2,7 +2,7 @@
 -- table, proved by computing the definitions.
 use mathlib.Core.List.{List, [], _∷_, _++_}
 use lib.Dec.{T}
-use Rattle.rules.specs.Outcome.{done, refused}
+use Rattle.rules.specs.Outcome.{done, refused, by}
 use Rattle.rules.specs.Lists.{Bytes, all}
 use Rattle.rules.proofs.Specimen.{Case, updates, reads-from, passes}
 
@@ -42,16 +42,16 @@ host-signs =
     updates AB (0x00 ∷ 0x16 ∷ 0x0E ∷ []) (done (with-AB (0x00 ∷ 0x16 ∷ 0x0F ∷ []))) ∷
     updates AB (0x00 ∷ 0x16 ∷ 0x0F ∷ []) (done (with-AB (0x00 ∷ 0x16 ∷ 0x0F ∷ []))) ∷
     -- "8 for a sign half is given for 0 to 9 only"
-    updates AB (0x00 ∷ 0x16 ∷ 0x00 ∷ []) (refused 8) ∷
-    updates AB (0x00 ∷ 0x16 ∷ 0x01 ∷ []) (refused 8) ∷
-    updates AB (0x00 ∷ 0x16 ∷ 0x02 ∷ []) (refused 8) ∷
-    updates AB (0x00 ∷ 0x16 ∷ 0x03 ∷ []) (refused 8) ∷
-    updates AB (0x00 ∷ 0x16 ∷ 0x04 ∷ []) (refused 8) ∷
-    updates AB (0x00 ∷ 0x16 ∷ 0x05 ∷ []) (refused 8) ∷
-    updates AB (0x00 ∷ 0x16 ∷ 0x06 ∷ []) (refused 8) ∷
-    updates AB (0x00 ∷ 0x16 ∷ 0x07 ∷ []) (refused 8) ∷
-    updates AB (0x00 ∷ 0x16 ∷ 0x08 ∷ []) (refused 8) ∷
-    updates AB (0x00 ∷ 0x16 ∷ 0x09 ∷ []) (refused 8) ∷
+    updates AB (0x00 ∷ 0x16 ∷ 0x00 ∷ []) (refused (by 8)) ∷
+    updates AB (0x00 ∷ 0x16 ∷ 0x01 ∷ []) (refused (by 8)) ∷
+    updates AB (0x00 ∷ 0x16 ∷ 0x02 ∷ []) (refused (by 8)) ∷
+    updates AB (0x00 ∷ 0x16 ∷ 0x03 ∷ []) (refused (by 8)) ∷
+    updates AB (0x00 ∷ 0x16 ∷ 0x04 ∷ []) (refused (by 8)) ∷
+    updates AB (0x00 ∷ 0x16 ∷ 0x05 ∷ []) (refused (by 8)) ∷
+    updates AB (0x00 ∷ 0x16 ∷ 0x06 ∷ []) (refused (by 8)) ∷
+    updates AB (0x00 ∷ 0x16 ∷ 0x07 ∷ []) (refused (by 8)) ∷
+    updates AB (0x00 ∷ 0x16 ∷ 0x08 ∷ []) (refused (by 8)) ∷
+    updates AB (0x00 ∷ 0x16 ∷ 0x09 ∷ []) (refused (by 8)) ∷
     -- Zero with B means zero, as it does with D.
     updates AB (0x00 ∷ 0x00 ∷ 0x0B ∷ []) (done (with-AB (0x00 ∷ 0x00 ∷ 0x0F ∷ []))) ∷
     updates AB (0x00 ∷ 0x00 ∷ 0x0D ∷ []) (done (with-AB (0x00 ∷ 0x00 ∷ 0x0F ∷ []))) ∷
@@ -62,30 +62,30 @@ host-signs =
     updates AB-3-U (0xF1 ∷ 0xF6 ∷ 0xD0 ∷ []) (done (with-AB (0x00 ∷ 0x16 ∷ 0x0D ∷ []))) ∷
     updates AB-3-U (0xF1 ∷ 0xF6 ∷ 0xE0 ∷ []) (done (with-AB (0x00 ∷ 0x16 ∷ 0x0F ∷ []))) ∷
     updates AB-3-U (0xF1 ∷ 0xF6 ∷ 0xF0 ∷ []) (done (with-AB (0x00 ∷ 0x16 ∷ 0x0F ∷ []))) ∷
-    updates AB-3-U (0xF1 ∷ 0xF6 ∷ 0x00 ∷ []) (refused 8) ∷
-    updates AB-3-U (0xF1 ∷ 0xF6 ∷ 0x90 ∷ []) (refused 8) ∷
+    updates AB-3-U (0xF1 ∷ 0xF6 ∷ 0x00 ∷ []) (refused (by 8)) ∷
+    updates AB-3-U (0xF1 ∷ 0xF6 ∷ 0x90 ∷ []) (refused (by 8)) ∷
     updates MF1 (0xF1 ∷ 0xA6 ∷ []) (done (with-MF1 (0xF1 ∷ 0xF6 ∷ []))) ∷
     updates MF1 (0xF1 ∷ 0xB6 ∷ []) (done (with-MF1 (0xF1 ∷ 0xD6 ∷ []))) ∷
-    updates MF1 (0xF1 ∷ 0x96 ∷ []) (refused 8) ∷
+    updates MF1 (0xF1 ∷ 0x96 ∷ []) (refused (by 8)) ∷
     updates BA1-2-P (0x00 ∷ 0x8E ∷ []) (done (with-BA1 (0x08 ∷ []))) ∷
     updates BA1-2-P (0x00 ∷ 0x0B ∷ []) (done (with-BA1 (0x00 ∷ []))) ∷
-    updates BA1-2-P (0x00 ∷ 0x8B ∷ []) (refused 9) ∷
+    updates BA1-2-P (0x00 ∷ 0x8B ∷ []) (refused (by 9)) ∷
     -- A high half other than F before the last byte of U, and a digit above 9, stay bad values.
-    updates AB-3-U (0xA1 ∷ 0xF6 ∷ 0xA0 ∷ []) (refused 8) ∷
-    updates AB (0x00 ∷ 0x16 ∷ 0xAA ∷ []) (refused 8) ∷
-    updates AB (0x00 ∷ 0xA6 ∷ 0x0E ∷ []) (refused 8) ∷
+    updates AB-3-U (0xA1 ∷ 0xF6 ∷ 0xA0 ∷ []) (refused (by 8)) ∷
+    updates AB (0x00 ∷ 0x16 ∷ 0xAA ∷ []) (refused (by 8)) ∷
+    updates AB (0x00 ∷ 0xA6 ∷ 0x0E ∷ []) (refused (by 8)) ∷
     -- "stored records keep F and D only"
-    reads-from (with-AB (0x00 ∷ 0x15 ∷ 0x0A ∷ [])) AB (refused 2) ∷
-    reads-from (with-AB (0x00 ∷ 0x15 ∷ 0x0B ∷ [])) AB (refused 2) ∷
-    reads-from (with-AB (0x00 ∷ 0x15 ∷ 0x0C ∷ [])) AB (refused 2) ∷
+    reads-from (with-AB (0x00 ∷ 0x15 ∷ 0x0A ∷ [])) AB (refused (by 2)) ∷
+    reads-from (with-AB (0x00 ∷ 0x15 ∷ 0x0B ∷ [])) AB (refused (by 2)) ∷
+    reads-from (with-AB (0x00 ∷ 0x15 ∷ 0x0C ∷ [])) AB (refused (by 2)) ∷
     reads-from (with-AB (0x00 ∷ 0x15 ∷ 0x0D ∷ [])) AB (done (0x00 ∷ 0x15 ∷ 0x0D ∷ [])) ∷
-    reads-from (with-AB (0x00 ∷ 0x15 ∷ 0x0E ∷ [])) AB (refused 2) ∷
-    reads-from (with-AB (0x00 ∷ 0x15 ∷ 0x00 ∷ [])) AB (refused 2) ∷
-    reads-from (with-AB (0x00 ∷ 0x15 ∷ 0x09 ∷ [])) AB (refused 2) ∷
-    reads-from (with-MF1 (0xF1 ∷ 0xA5 ∷ [])) MF1 (refused 2) ∷
-    reads-from (with-MF1 (0xF1 ∷ 0xB5 ∷ [])) MF1 (refused 2) ∷
-    reads-from (with-MF1 (0xF1 ∷ 0xC5 ∷ [])) MF1 (refused 2) ∷
-    reads-from (with-MF1 (0xF1 ∷ 0xE5 ∷ [])) MF1 (refused 2) ∷
+    reads-from (with-AB (0x00 ∷ 0x15 ∷ 0x0E ∷ [])) AB (refused (by 2)) ∷
+    reads-from (with-AB (0x00 ∷ 0x15 ∷ 0x00 ∷ [])) AB (refused (by 2)) ∷
+    reads-from (with-AB (0x00 ∷ 0x15 ∷ 0x09 ∷ [])) AB (refused (by 2)) ∷
+    reads-from (with-MF1 (0xF1 ∷ 0xA5 ∷ [])) MF1 (refused (by 2)) ∷
+    reads-from (with-MF1 (0xF1 ∷ 0xB5 ∷ [])) MF1 (refused (by 2)) ∷
+    reads-from (with-MF1 (0xF1 ∷ 0xC5 ∷ [])) MF1 (refused (by 2)) ∷
+    reads-from (with-MF1 (0xF1 ∷ 0xE5 ∷ [])) MF1 (refused (by 2)) ∷
     []
 
 pub host-signs-pass : T (all passes host-signs)

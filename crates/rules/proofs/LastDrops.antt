@@ -2,7 +2,7 @@
 -- the definitions.
 use mathlib.Core.List.{List, [], _∷_}
 use lib.Dec.{T}
-use Rattle.rules.specs.Outcome.{done, refused}
+use Rattle.rules.specs.Outcome.{done, refused, by}
 use Rattle.rules.specs.Lists.{Bytes, all}
 use Rattle.rules.proofs.Specimen.{Case, updates, reads-from, passes}
 
@@ -60,21 +60,21 @@ last-drops =
     -- read CBNC. with nothing stored
     reads-from bare-record (0xC3 ∷ 0xC2 ∷ 0xD5 ∷ 0xC3 ∷ 0x4B ∷ []) (done (0x00 ∷ [])) ∷
     -- read MF2-N.
-    reads-from rich-record (0xD4 ∷ 0xC6 ∷ 0xF2 ∷ 0x60 ∷ 0xD5 ∷ 0x4B ∷ []) (refused 3) ∷
+    reads-from rich-record (0xD4 ∷ 0xC6 ∷ 0xF2 ∷ 0x60 ∷ 0xD5 ∷ 0x4B ∷ []) (refused (by 3)) ∷
     -- read CB1-N(N).
-    reads-from rich-record (0xC3 ∷ 0xC2 ∷ 0xF1 ∷ 0x60 ∷ 0xD5 ∷ 0x4D ∷ 0xD5 ∷ 0x5D ∷ 0x4B ∷ []) (refused 3) ∷
+    reads-from rich-record (0xC3 ∷ 0xC2 ∷ 0xF1 ∷ 0x60 ∷ 0xD5 ∷ 0x4D ∷ 0xD5 ∷ 0x5D ∷ 0x4B ∷ []) (refused (by 3)) ∷
     -- read AAN.
-    reads-from rich-record (0xC1 ∷ 0xC1 ∷ 0xD5 ∷ 0x4B ∷ []) (refused 5) ∷
+    reads-from rich-record (0xC1 ∷ 0xC1 ∷ 0xD5 ∷ 0x4B ∷ []) (refused (by 5)) ∷
     -- read MFNC.
-    reads-from rich-record (0xD4 ∷ 0xC6 ∷ 0xD5 ∷ 0xC3 ∷ 0x4B ∷ []) (refused 5) ∷
+    reads-from rich-record (0xD4 ∷ 0xC6 ∷ 0xD5 ∷ 0xC3 ∷ 0x4B ∷ []) (refused (by 5)) ∷
     -- read CBN,CB.
-    reads-from rich-record (0xC3 ∷ 0xC2 ∷ 0xD5 ∷ 0x6B ∷ 0xC3 ∷ 0xC2 ∷ 0x4B ∷ []) (refused 5) ∷
+    reads-from rich-record (0xC3 ∷ 0xC2 ∷ 0xD5 ∷ 0x6B ∷ 0xC3 ∷ 0xC2 ∷ 0x4B ∷ []) (refused (by 5)) ∷
     -- read QQN.
-    reads-from rich-record (0xD8 ∷ 0xD8 ∷ 0xD5 ∷ 0x4B ∷ []) (refused 4) ∷
+    reads-from rich-record (0xD8 ∷ 0xD8 ∷ 0xD5 ∷ 0x4B ∷ []) (refused (by 4)) ∷
     -- update MFN. F1F0
-    updates (0xD4 ∷ 0xC6 ∷ 0xD5 ∷ 0x4B ∷ []) (0xF1 ∷ 0xF0 ∷ []) (refused 5) ∷
+    updates (0xD4 ∷ 0xC6 ∷ 0xD5 ∷ 0x4B ∷ []) (0xF1 ∷ 0xF0 ∷ []) (refused (by 5)) ∷
     -- update CBNC.
-    updates (0xC3 ∷ 0xC2 ∷ 0xD5 ∷ 0xC3 ∷ 0x4B ∷ []) [] (refused 5) ∷
+    updates (0xC3 ∷ 0xC2 ∷ 0xD5 ∷ 0xC3 ∷ 0x4B ∷ []) [] (refused (by 5)) ∷
     []
 
 pub last-drops-pass : T (all passes last-drops)

@@ -1,6 +1,6 @@
 -- A service is refused only with the number of a refusal of document 01, so the number 0 means done and nothing else: every test refuses with
 -- such a number, and a `do` block keeps to the numbers of its steps.
-use mathlib.Core.Path.{_≡_, refl}
+use mathlib.Core.Path.{_≡_, refl, ap}
 use mathlib.Core.Bool.{Bool, true, false, not, _&&_}
 use mathlib.Core.List.{List, [], _∷_}
 use mathlib.Core.Option.{Option, none, some}
@@ -8,13 +8,14 @@ use Prim.Native.Nat.{ℕ, zero, suc, _-_, _*_, _/_, _^_, _≤_, min}
 use native.Mathlib.Omega.{arith}
 use lib.Dec.{eqb, leb, ltb}
 use lib.ListN.{length, take}
-use Rattle.rules.specs.Outcome.{Outcome, done, refused}
+use Rattle.rules.specs.Outcome.{Outcome, done, refused, with-needed, needing}
 use Rattle.rules.specs.Limits.{longest-alpha, longest-items, longest-new-record}
 use Rattle.rules.specs.Lists.{Bytes, absent, all, cut, but-last, last}
+use Rattle.rules.specs.Outcome as rules
 use Rattle.rules.specs.Numbers.{refusal-number}
 use Rattle.rules.specs.declared.Refusal.{Refusal}
 use Rattle.rules.specs.declared.Refusal.the-variants.{BadTable, BadRecord, BadSyntax, UnknownName, UseRule, NamedTwice, BeyondBuffer, BadValue, OutOfRange, NoRoom}
-use Rattle.rules.specs.Values.{Format, alpha, binary, fixed, packed, unpacked, Value, text, number, accepted-plus, accepted-minus, sign-means, decimal, halves, meaning, normal, conversion, in-range, converts, converted, converted-bytes, allowed, first-value}
+use Rattle.rules.specs.Values.{Format, alpha, binary, fixed, packed, unpacked, Value, text, number, accepted-plus, accepted-minus, sign-means, decimal, halves, meaning, normal, conversion, in-range, converts, converted, converted-bytes, smallest-length, read-value, allowed, first-value}
 use Rattle.rules.specs.Table.{Part, Entry, What, field, group, Field, is-inside, fields-below, table, parts}
 use Rattle.rules.specs.Record.{Record, stored, record-bytes, empty-record}
 use Rattle.rules.specs.Format.{Range, Element, blanks, quoted, named, count, count-in-last, series, elements}
@@ -22,16 +23,21 @@ use Rattle.rules.specs.Use.{Item, blanks-item, text-item, group-count, v
 use Rattle.rules.specs.Last.{Lasts, lasts-after, in-full, meaning-of, meanings, counts-in, items-read}
 use Rattle.rules.specs.Update.{named-twice, assignments, after-update}
 use Rattle.rules.specs.Services.{item-bytes, filled, read, assignments-of, fitting, update, empty}
+use Rattle.rules.proofs.Steps.{by-test}
 use Rattle.rules.proofs.Only.{Only, Is, only-bind, only-need, only-pick, only-option}
 use Rattle.rules.proofs.Refusals.{table-only, stored-only, elements-only}
 
--- A number that document 01 gives to a refusal.
-abbrev pub Numbered : ℕ → Type 0
-Numbered n = (x : Refusal) × (n ≡ refusal-number x)
+-- A refusal with a number that document 01 gives to one.
+abbrev pub Numbered : rules.Refusal → Type 0
+Numbered n = (x : Refusal) × (n .number ≡ refusal-number x)
 
 by-one : {A : Type 0} (x : Refusal) (o : Outcome A) → Only (Is (refusal-number x)) o → Only Numbered o
 by-one x (done a) h = tt
-by-one x (refused n) h = (x, h)
+by-one x (refused n) h = (x, ap (λ (y : rules.Refusal). y .number) h)
+
+said-kept : {A : Type 0} (n : ℕ) (o : Outcome A) → Only Numbered o → Only Numbered (needing n o)
+said-kept n (done a) h = tt
+said-kept n (refused x) h = by-test (eqb (x .number) 9) (λ e. rw (e, with-needed) (OutOfRange n, refl)) (λ e. rw (e, with-needed) h)
 
 -- ---- elements and uses
 
@@ -149,24 +155,24 @@ meaning-kept unpacked bs = only-need Numbered (all (λ b. eqb (b / 16) 0xF) (but
 
 normal-kept : (f : Format) (n : ℕ) (v : Value) → Only Numbered (normal f n v)
 unfolding normal
-normal-kept alpha zero (text t) = only-need Numbered (leb (length t) longest-alpha) (OutOfRange, refl) _ tt
-normal-kept alpha (suc n) (text t) = only-need Numbered (leb (length t) (suc n)) (OutOfRange, refl) _ tt
-normal-kept alpha n (number b x) = (OutOfRange, refl)
-normal-kept binary n (text t) = (OutOfRange, refl)
-normal-kept binary n (number false x) = only-need Numbered (ltb x (256 ^ n)) (OutOfRange, refl) _ tt
-normal-kept binary n (number true x) = (OutOfRange, refl)
-normal-kept fixed n (text t) = (OutOfRange, refl)
-normal-kept fixed n (number false x) = only-need Numbered (ltb x (2 ^ (8 * n - 1))) (OutOfRange, refl) _ tt
-normal-kept fixed n (number true x) = only-need Numbered (leb x (2 ^ (8 * n - 1))) (OutOfRange, refl) _ tt
-normal-kept packed n (text t) = (OutOfRange, refl)
-normal-kept packed n (number b x) = only-need Numbered (ltb x (10 ^ (2 * n - 1))) (OutOfRange, refl) _ tt
-normal-kept unpacked n (text t) = (OutOfRange, refl)
-normal-kept unpacked n (number b x) = only-need Numbered (ltb x (10 ^ n)) (OutOfRange, refl) _ tt
+normal-kept alpha zero (text t) = only-need Numbered (leb (length t) longest-alpha) (OutOfRange 0, refl) _ tt
+normal-kept alpha (suc n) (text t) = only-need Numbered (leb (length t) (suc n)) (OutOfRange 0, refl) _ tt
+normal-kept alpha n (number b x) = (OutOfRange 0, refl)
+normal-kept binary n (text t) = (OutOfRange 0, refl)
+normal-kept binary n (number false x) = only-need Numbered (ltb x (256 ^ n)) (OutOfRange 0, refl) _ tt
+normal-kept binary n (number true x) = (OutOfRange 0, refl)
+normal-kept fixed n (text t) = (OutOfRange 0, refl)
+normal-kept fixed n (number false x) = only-need Numbered (ltb x (2 ^ (8 * n - 1))) (OutOfRange 0, refl) _ tt
+normal-kept fixed n (number true x) = only-need Numbered (leb x (2 ^ (8 * n - 1))) (OutOfRange 0, refl) _ tt
+normal-kept packed n (text t) = (OutOfRange 0, refl)
+normal-kept packed n (number b x) = only-need Numbered (ltb x (10 ^ (2 * n - 1))) (OutOfRange 0, refl) _ tt
+normal-kept unpacked n (text t) = (OutOfRange 0, refl)
+normal-kept unpacked n (number b x) = only-need Numbered (ltb x (10 ^ n)) (OutOfRange 0, refl) _ tt
 
 converted-kept : (f g : Format) (n : ℕ) (bs : Bytes) → Only Numbered (converted-bytes f g n bs)
 unfolding converted-bytes converted
 converted-kept f g n bs = only-bind Numbered (meaning f bs) _ (meaning-kept f bs)
-    (λ v. only-need Numbered (in-range (conversion f g) v) (OutOfRange, refl) _ (normal-kept g n v))
+    (λ v. only-need Numbered (in-range (conversion f g) v) (OutOfRange 0, refl) _ (normal-kept g n v))
 
 cut-kept : (n : ℕ) (bs : Bytes) → Only Numbered (cut 7 n bs)
 unfolding cut
@@ -182,13 +188,17 @@ first-kept (suc n) bs = cut-kept (suc n) bs
 
 -- ---- items
 
+value-kept : (f g : Format) (n : ℕ) (bs : Bytes) → Only Numbered (read-value f g n bs)
+unfolding read-value
+value-kept f g n bs = said-kept (smallest-length f g bs) (converted-bytes f g n bs) (converted-kept f g n bs)
+
 item-kept : (ps : List Part) (r : Record) (x : Item) → Only Numbered (item-bytes ps r x)
 unfolding item-bytes
 item-kept ps r (blanks-item n) = tt
 item-kept ps r (text-item t) = tt
 item-kept ps r (group-count n) = tt
 item-kept ps r (value-count n i) = tt
-item-kept ps r (value-item p g n bare) = converted-kept (p .field .format) g n _
+item-kept ps r (value-item p g n bare) = value-kept (p .field .format) g n _
 
 filled-kept : (ps : List Part) (r : Record) (room : ℕ) (xs : List Item) → Only Numbered (filled ps r room xs)
 unfolding filled
@@ -250,8 +260,8 @@ above-zero UseRule = omega arith
 above-zero NamedTwice = omega arith
 above-zero BeyondBuffer = omega arith
 above-zero BadValue = omega arith
-above-zero OutOfRange = omega arith
+above-zero (OutOfRange n) = omega arith
 above-zero NoRoom = omega arith
 
-pub not-zero : (n : ℕ) → Numbered n → 1 ≤ n
+pub not-zero : (n : rules.Refusal) → Numbered n → 1 ≤ n .number
 not-zero n (x, e) = let h = above-zero x in omega (arith, h, e)

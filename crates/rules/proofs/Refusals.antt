@@ -5,7 +5,7 @@ use mathlib.Core.List.{List, [], _∷_}
 use Prim.Native.Nat.{ℕ, zero, suc}
 use lib.Dec.{eqb, leb}
 use lib.ListN.{length, take, drop, getD}
-use Rattle.rules.specs.Outcome.{done, refused, _>>=_, need, refused-as, is-done}
+use Rattle.rules.specs.Outcome.{done, refused, by, _>>=_, need, refused-as, is-done}
 use Rattle.rules.specs.Limits.{most-entries, greatest-count, longest-record, longest-format, longest-blanks, longest-text, greatest-length, most-digits}
 use Rattle.rules.specs.Characters.{space, period, apostrophe, hyphen, open-parenthesis, close-parenthesis, digit, letter-C, letter-N, letter-X}
 use Rattle.rules.specs.Lists.{Bytes, nothing, absent, same, all, but-last, last}
@@ -46,7 +46,7 @@ table-only t =
     (only-bind (Is 1) (entries (getD t 5 0) (drop 6 t)) _ (entries-only (getD t 5 0) (drop 6 t))
     (λ es. only-need (Is 1) (levels (group false) 0 es && differ (names es)) refl _ tt)))
 
-pub no-table : (t : Bytes) → is-done (table t) ≡ false → table t ≡ refused 1
+pub no-table : (t : Bytes) → is-done (table t) ≡ false → table t ≡ refused (by 1)
 no-table t h = refused-by 1 (table t) (table-only t) h
 
 -- ---- a stored record
@@ -95,7 +95,7 @@ stored-only ps bs =
     (only-bind (Is 2) (each stored-part ps (drop 5 bs)) _ (each-only stored-part part-only ps (drop 5 bs))
     (λ r. only-need (Is 2) (nothing (r .1)) refl _ tt)))
 
-pub no-record : (ps : List Part) (bs : Bytes) → is-done (stored ps bs) ≡ false → stored ps bs ≡ refused 2
+pub no-record : (ps : List Part) (bs : Bytes) → is-done (stored ps bs) ≡ false → stored ps bs ≡ refused (by 2)
 no-record ps bs h = refused-by 2 (stored ps bs) (stored-only ps bs) h
 
 -- ---- a format's syntax
@@ -121,7 +121,7 @@ index-only (b ∷ bs) = only-pick (Is 3) (eqb b letter-N) _ _ tt (only-bind (Is 
 range-joined : (i : ℕ) (y : Indexing) (bs : Bytes) → Only {A = Indexing × Bytes} (Is 3) (elim y [
   | these s ↦ done (these (record { from = i; upto = s .upto }), bs)
   | the-last ↦ need (eqb i 1) 3 >>= (λ _. done (up-to-the-last, bs))
-  | up-to-the-last ↦ refused 3
+  | up-to-the-last ↦ refused (by 3)
 ])
 range-joined i (these s) bs = tt
 range-joined i the-last bs = only-need (Is 3) (eqb i 1) refl _ tt

@@ -6,16 +6,16 @@ use mathlib.Core.Option.{Option, none, some}
 use Prim.Native.Nat.{ℕ}
 use native.Mathlib.Omega.{arith}
 use lib.Dec.{T, eqb, eqb→eq, eqb-refl}
-use Rattle.rules.specs.Outcome.{Outcome, done, refused, _>>=_, need, refused-as, is-done}
+use Rattle.rules.specs.Outcome.{Refusal, Outcome, done, refused, by, _>>=_, need, refused-as, is-done}
 use Rattle.rules.specs.Lists.{same, nothing}
 
 pub done-inj : {A : Type 0} {a b : A} → done a ≡ done b → a ≡ b
 done-inj p = cc
 
-pub refused-inj : {A : Type 0} {m n : ℕ} → _≡_ {A = Outcome A} (refused m) (refused n) → m ≡ n
+pub refused-inj : {A : Type 0} {m n : Refusal} → _≡_ {A = Outcome A} (refused m) (refused n) → m ≡ n
 refused-inj p = cc
 
-pub not-done : {A : Type 0} {a : A} {n : ℕ} → _≡_ {A = Outcome A} (refused n) (done a) → ⊥
+pub not-done : {A : Type 0} {a : A} {n : Refusal} → _≡_ {A = Outcome A} (refused n) (done a) → ⊥
 not-done p = let z : _≡_ {A = ℕ} 0 1 = cc in omega arith
 
 pub and-left : (a b : Bool) → T (a && b) → T a
@@ -63,7 +63,7 @@ pub by-test : {C : Type 0} (b : Bool) → (b ≡ true → C) → (b ≡ false �
 by-test true y n = y refl
 by-test false y n = n refl
 
-pub by-outcome : {A C : Type 0} (o : Outcome A) → ((a : A) → o ≡ done a → C) → ((n : ℕ) → o ≡ refused n → C) → C
+pub by-outcome : {A C : Type 0} (o : Outcome A) → ((a : A) → o ≡ done a → C) → ((n : Refusal) → o ≡ refused n → C) → C
 by-outcome (done a) y n = y a refl
 by-outcome (refused k) y n = n k refl
 
@@ -103,7 +103,7 @@ need-true true n h = refl
 need-true false n h = absurd h
 
 -- A test before a refusal of the same number.
-pub still-refused : {A : Type 0} (t : Bool) (n : ℕ) → _≡_ {A = Outcome A} (need t n >>= λ _. refused n) (refused n)
+pub still-refused : {A : Type 0} (t : Bool) (n : ℕ) → _≡_ {A = Outcome A} (need t n >>= λ _. refused (by n)) (refused (by n))
 still-refused true n = refl
 still-refused false n = refl
 

@@ -7,7 +7,7 @@ use Prim.Native.Nat.{ℕ, suc, _+_, _-_, _≤_, _<_}
 use native.Mathlib.Omega.{arith}
 use lib.Dec.{T, eqb, leb, leb→le, ltb}
 use lib.ListN.{getD, take, drop}
-use Rattle.rules.specs.Outcome.{Outcome, done, refused}
+use Rattle.rules.specs.Outcome.{Outcome, done, refused, by}
 use Rattle.rules.specs.Limits.{highest-index, most-entries}
 use Rattle.rules.specs.Lists.{Bytes, same, all, absent}
 use Rattle.rules.specs.Values.{Format}
@@ -181,7 +181,7 @@ group-once x os vs l g u d q =
     let o = spread-in-order (x .inside) false 0 os vs s h in
     rw (← done-inj k₂) (as-stored-once fs (picked-differ (left-out (below-picked (x .entry .level) (x .behind))) d), o .0, o .1)
 
-pub not-group : {A : Type 0} (w : What) (m : Outcome A) {a : A} → elim w [ group p ↦ refused 5 | field f s mu ↦ m ] ≡ done a → m ≡ done a
+pub not-group : {A : Type 0} (w : What) (m : Outcome A) {a : A} → elim w [ group p ↦ refused (by 5) | field f s mu ↦ m ] ≡ done a → m ≡ done a
 not-group (field f s mu) m p = p
 not-group (group q) m p = absurd (not-done p)
 

@@ -5,7 +5,7 @@ use mathlib.Core.Option.{Option, none, some}
 use Prim.Native.Nat.{ℕ, _-_}
 use lib.Dec.{eqb, leb}
 use lib.ListN.{length}
-use Rattle.rules.specs.Outcome.{Outcome, done, refused, _>>=_, need}
+use Rattle.rules.specs.Outcome.{Outcome, done, refused, by, _>>=_, need}
 use Rattle.rules.specs.Limits.{longest-format, longest-blanks, longest-text, greatest-length, most-digits}
 use Rattle.rules.specs.Characters.{space, period, comma, apostrophe, hyphen, open-parenthesis, close-parenthesis, digit, digit-0, letter-A, letter-B, letter-C, letter-F, letter-G, letter-N, letter-P, letter-U, letter-W, letter-X}
 use Rattle.rules.specs.Lists.{Bytes, nothing, absent, all, any, spelled, but-last, last}
@@ -54,7 +54,7 @@ onto b (t ∷ ts) = (b ∷ t) ∷ ts
 
 -- The texts between the commas, up to the period. "Bytes after the period are ignored."
 unfoldable pub texts : Bool → Bytes → Outcome (List Bytes)
-texts inside [] = refused 3
+texts inside [] = refused (by 3)
 texts inside (b ∷ bs) = elim (ends inside b) [
   | true ↦ elim (eqb b period) [ true ↦ done ([] ∷ []) | false ↦ texts false bs >>= (λ ts. done ([] ∷ ts)) ]
   | false ↦ texts (turned inside b) bs >>= (λ ts. done (onto b ts))
@@ -84,7 +84,7 @@ number-first bs = let r = leading-digits bs in do
 
 -- `i`, or by M-100 `N`; and what is after it.
 unfoldable pub index-first : Bytes → Outcome (Indexing × Bytes)
-index-first [] = refused 3
+index-first [] = refused (by 3)
 index-first (b ∷ bs) = elim (eqb b letter-N) [
   | true ↦ done (the-last, bs)
   | false ↦ number-first (b ∷ bs) >>= (λ i. done (these (record { from = i .0; upto = i .0 }), i .1))
@@ -92,14 +92,14 @@ index-first (b ∷ bs) = elim (eqb b letter-N) [
 
 -- After `i-`: `j`; by M-100 also `N` where i is 1. `N-` begins nothing.
 unfoldable pub range-to : Indexing → Bytes → Outcome (Indexing × Bytes)
-range-to the-last bs = refused 3
-range-to up-to-the-last bs = refused 3
+range-to the-last bs = refused (by 3)
+range-to up-to-the-last bs = refused (by 3)
 range-to (these r) bs = do
   j ← index-first bs
   elim (j .0) [
     | these s ↦ done (these (record { from = r .from; upto = s .upto }), j .1)
     | the-last ↦ need (eqb (r .from) 1) 3 >>= (λ _. done (up-to-the-last, j .1))
-    | up-to-the-last ↦ refused 3
+    | up-to-the-last ↦ refused (by 3)
   ]
 
 -- An index, or where a hyphen is after it, a range.
@@ -109,7 +109,7 @@ range-end x (b ∷ bs) = elim (eqb b hyphen) [ true ↦ range-to x bs | false �
 
 -- `)` and nothing more.
 unfoldable pub closing : Indexing → Bytes → Outcome Indexing
-closing x [] = refused 3
+closing x [] = refused (by 3)
 closing x (b ∷ bs) = do
   _ ← need (eqb b close-parenthesis && nothing bs) 3
   done x
@@ -151,8 +151,8 @@ after-index n x (b ∷ bs) = elim (eqb b letter-C && nothing bs) [
 
 -- After `name-`: a name and nothing more.
 unfoldable pub series-to : ℕ → Bytes → Outcome Element
-series-to n [] = refused 3
-series-to n (a ∷ []) = refused 3
+series-to n [] = refused (by 3)
+series-to n (a ∷ []) = refused (by 3)
 series-to n (a ∷ b ∷ bs) = do
   _ ← need (is-name a b && nothing bs) 3
   done (series n (name-of a b))
@@ -192,7 +192,7 @@ text-piece bs = do
 
 -- What stands between two commas, without the spaces around it.
 unfoldable pub piece : Bytes → Outcome Piece
-piece [] = refused 3
+piece [] = refused (by 3)
 piece (a ∷ []) = elim (digit a) [
   | true ↦ done (length-piece (a - digit-0))
   | false ↦ need (is-override a) 3 >>= (λ _. done (format-piece a))

@@ -4,7 +4,7 @@ use mathlib.Core.List.{List, [], _∷_, _++_}
 use mathlib.Core.Option.{Option, none, some}
 use Prim.Native.Nat.{ℕ, zero, suc, _+_, _*_, _/_, _%_, max}
 use lib.Dec.{eqb}
-use Rattle.rules.specs.Outcome.{Outcome, done, refused, _>>=_}
+use Rattle.rules.specs.Outcome.{Outcome, done, refused, by, _>>=_}
 
 abbrev pub Bytes : Type 0
 Bytes = List ℕ
@@ -63,7 +63,7 @@ join (x ∷ xs) = x ++ join xs
 -- The first n bytes and those after them; the number k where there are fewer.
 unfoldable pub cut : ℕ → ℕ → Bytes → Outcome (Bytes × Bytes)
 cut k zero bs = done ([], bs)
-cut k (suc n) [] = refused k
+cut k (suc n) [] = refused (by k)
 cut k (suc n) (b ∷ bs) = cut k n bs >>= λ r. done (b ∷ r .0, r .1)
 
 -- The number that digits spell in a base, after what stands before them.

@@ -5,7 +5,7 @@ use mathlib.Core.Option.{Option, none, some}
 use Prim.Native.Nat.{ℕ, zero, suc, pred, _+_}
 use lib.Dec.{eqb, leb}
 use lib.ListN.{length, take, drop, getD}
-use Rattle.rules.specs.Outcome.{Outcome, done, refused, _>>=_, need, refused-as}
+use Rattle.rules.specs.Outcome.{Outcome, done, refused, by, _>>=_, need, refused-as}
 use Rattle.rules.specs.Limits.{greatest-count, longest-record, record-head-size}
 use Rattle.rules.specs.Lists.{Bytes, nothing, same, join, run}
 use Rattle.rules.specs.Values.{Format, first-value, with-length-byte, in-normal-form, null}
@@ -40,7 +40,7 @@ times (suc n) one bs = do
 
 -- "a count byte 0 to 191"
 unfoldable pub stored-count : Reader ℕ
-stored-count [] = refused 2
+stored-count [] = refused (by 2)
 stored-count (n ∷ bs) = do
   _ ← need (leb n greatest-count) 2
   done (n, bs)

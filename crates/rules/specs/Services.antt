@@ -8,7 +8,7 @@ use Rattle.rules.specs.Outcome.{Outcome, done, _>>=_, need}
 use Rattle.rules.specs.Limits.{longest-items, longest-new-record}
 use Rattle.rules.specs.Characters.{space}
 use Rattle.rules.specs.Lists.{Bytes}
-use Rattle.rules.specs.Values.{content, converted-bytes}
+use Rattle.rules.specs.Values.{content, read-value}
 use Rattle.rules.specs.Table.{Part, Entry, table, parts}
 use Rattle.rules.specs.Record.{Record, stored, record-bytes, value-at, value-count-at, group-count-at, empty-record}
 use Rattle.rules.specs.Format.{elements}
@@ -23,7 +23,7 @@ item-bytes ps r (text-item t) = done t
 item-bytes ps r (group-count n) = done (group-count-at ps r n ∷ [])
 item-bytes ps r (value-count n i) = done (value-count-at ps r n i ∷ [])
 item-bytes ps r (value-item p g n bare) =
-    converted-bytes (p .field .format) g n (content (p .field .size) (value-at ps r (p .field) (p .occurrence) (p .value)))
+    read-value (p .field .format) g n (content (p .field .size) (value-at ps r (p .field) (p .occurrence) (p .value)))
 
 -- The items one after the other in so much room. "Per item, read tests 9 then 7".
 unfoldable pub filled : List Part → Record → ℕ → List Item → Outcome Bytes

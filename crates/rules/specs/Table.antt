@@ -5,7 +5,7 @@ use mathlib.Core.Option.{Option, none, some}
 use Prim.Native.Nat.{ℕ, zero, suc, _+_, _*_}
 use lib.Dec.{eqb, leb, ltb}
 use lib.ListN.{take, drop, getD}
-use Rattle.rules.specs.Outcome.{Outcome, done, refused, _>>=_, need}
+use Rattle.rules.specs.Outcome.{Outcome, done, refused, by, _>>=_, need}
 use Rattle.rules.specs.Limits.{most-entries, deepest-level, table-head-size}
 use Rattle.rules.specs.Characters.{space, letter, digit, letter-A, letter-B, letter-E, letter-F, letter-P, letter-U}
 use Rattle.rules.specs.Lists.{Bytes, same, all, look-up}
@@ -55,13 +55,13 @@ what-of level format length option = elim (format-of format) [
 -- "then n entries of six bytes: name (2), level (1), format letter, standard length (1), option"; "the whole slice is 6 + 6n bytes".
 unfoldable pub entries : ℕ → Bytes → Outcome (List Entry)
 entries zero [] = done []
-entries zero (b ∷ bs) = refused 1
-entries (suc n) [] = refused 1
-entries (suc n) (a ∷ []) = refused 1
-entries (suc n) (a ∷ b ∷ []) = refused 1
-entries (suc n) (a ∷ b ∷ l ∷ []) = refused 1
-entries (suc n) (a ∷ b ∷ l ∷ f ∷ []) = refused 1
-entries (suc n) (a ∷ b ∷ l ∷ f ∷ s ∷ []) = refused 1
+entries zero (b ∷ bs) = refused (by 1)
+entries (suc n) [] = refused (by 1)
+entries (suc n) (a ∷ []) = refused (by 1)
+entries (suc n) (a ∷ b ∷ []) = refused (by 1)
+entries (suc n) (a ∷ b ∷ l ∷ []) = refused (by 1)
+entries (suc n) (a ∷ b ∷ l ∷ f ∷ []) = refused (by 1)
+entries (suc n) (a ∷ b ∷ l ∷ f ∷ s ∷ []) = refused (by 1)
 entries (suc n) (a ∷ b ∷ l ∷ f ∷ s ∷ o ∷ bs) = do
   _ ← need (is-name a b) 1
   w ← what-of l f s o

@@ -5,7 +5,7 @@ use mathlib.Core.List.{List, [], _∷_, _++_, map}
 use mathlib.Core.Option.{Option, none, some}
 use Prim.Native.Nat.{ℕ, suc, _-_}
 use lib.Dec.{eqb, leb}
-use Rattle.rules.specs.Outcome.{Outcome, done, refused, _>>=_, need}
+use Rattle.rules.specs.Outcome.{Outcome, done, refused, by, _>>=_, need}
 use Rattle.rules.specs.Limits.{highest-index}
 use Rattle.rules.specs.Lists.{Bytes, absent, all, filter, run, join, look-up}
 use Rattle.rules.specs.Values.{Format, allowed, converts}
@@ -63,7 +63,7 @@ pub record Found : Type 0 where
   pub behind : List Entry
 
 unfoldable pub find-from : Bool → ℕ → List Entry → Outcome Found
-find-from before n [] = refused 4
+find-from before n [] = refused (by 4)
 find-from before n (e ∷ es) = elim (eqb (e .name) n) [
   | true ↦ done (record { entry = e; inside = is-inside before e; behind = es })
   | false ↦ find-from (is-inside before e) n es
@@ -84,7 +84,7 @@ length-in-effect f (some n) = n
 -- "The length in effect must be allowed for the format in effect, and the formats convert."
 unfoldable pub asked : Field → Option ℕ → Option ℕ → Outcome Asked
 asked f l g = elim (format-in-effect f g) [
-  | none ↦ refused 5
+  | none ↦ refused (by 5)
   | some h ↦ do
     _ ← need (allowed h (length-in-effect f l) && converts (f .format) h) 5
     done (record { field = f; format = h; size = length-in-effect f l })
@@ -121,14 +121,14 @@ pub record Spread : Type 0 where
 -- "An MU field outside takes none, `i` or `i-j`. A bare name means one above the last index of this field so far".
 -- "A plain field or group outside periodic groups takes no index."
 unfoldable pub spread : Bool → Bool → ℕ → Option Range → Option Range → Outcome Spread
-spread true mu last none vs = refused 5
+spread true mu last none vs = refused (by 5)
 spread true mu last (some os) none = do
   _ ← need (in-order os) 5
   done (record { occurrences = os; values = just 1; bare = false })
 spread true mu last (some os) (some vs) = do
   _ ← need (mu && in-order os && in-order vs) 5
   done (record { occurrences = os; values = vs; bare = false })
-spread false mu last os (some vs) = refused 5
+spread false mu last os (some vs) = refused (by 5)
 spread false true last none none = do
   _ ← need (in-order (just (suc last))) 5
   done (record { occurrences = just 1; values = just (suc last); bare = true })
@@ -136,7 +136,7 @@ spread false true last (some vs) none = do
   _ ← need (in-order vs) 5
   done (record { occurrences = just 1; values = vs; bare = false })
 spread false false last none none = done (record { occurrences = just 1; values = just 1; bare = false })
-spread false false last (some os) none = refused 5
+spread false false last (some os) none = refused (by 5)
 
 -- The last index so far of each MU field, the latest first: "the end of a range included; the first is 1".
 abbrev pub Indexes : Type 0
@@ -182,7 +182,7 @@ use-of-count n (field f s mu) inside (some i) = do
 -- "A series starts and ends at plain fields outside periodic groups, first not after last, with no MU and no periodic group between."
 -- The fields from the first entry on, to the one named.
 unfoldable pub fields-to : ℕ → List Entry → Outcome (List Field)
-fields-to n [] = refused 5
+fields-to n [] = refused (by 5)
 fields-to n (e ∷ es) = elim (e .what) [
   | field f s mu ↦ do
     _ ← need (not mu) 5
@@ -195,7 +195,7 @@ fields-to n (e ∷ es) = elim (e .what) [
 
 unfoldable pub use-of-series : Found → ℕ → Outcome Use
 use-of-series x n = elim (x .entry .what) [
-  | group p ↦ refused 5
+  | group p ↦ refused (by 5)
   | field f s mu ↦ do
     _ ← need (not (x .inside)) 5
     fs ← fields-to n (x .entry ∷ x .behind)

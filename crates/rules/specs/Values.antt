@@ -1,11 +1,11 @@
 -- Document 01, "Values": the five formats, what a value means, its normal form, null, and the conversions; the accepted signs are those of
--- document 02, M-101.
+-- document 02, M-101, and how long a value is that is not held is said by M-103.
 use mathlib.Core.Bool.{Bool, true, false, _&&_, _||_}
 use mathlib.Core.List.{List, [], _∷_, _++_, map}
 use Prim.Native.Nat.{ℕ, zero, suc, _+_, _-_, _*_, _/_, _%_, _^_}
 use lib.Dec.{eqb, leb, ltb}
 use lib.ListN.{length, replicate, drop}
-use Rattle.rules.specs.Outcome.{Outcome, done, refused, _>>=_, need}
+use Rattle.rules.specs.Outcome.{Outcome, done, refused, by, _>>=_, need, needing, is-done}
 use Rattle.rules.specs.Limits.{longest-alpha, longest-binary, longest-packed, longest-unpacked, lowest-word, greatest-word}
 use Rattle.rules.specs.Characters.{space}
 use Rattle.rules.specs.Lists.{Bytes, bytes-of, same, all, cut, spelled, digits, but-last, last}
@@ -21,6 +21,14 @@ allowed binary n = leb 1 n && leb n longest-binary
 allowed fixed n = eqb n 2 || eqb n 4
 allowed packed n = leb 1 n && leb n longest-packed
 allowed unpacked n = leb 1 n && leb n longest-unpacked
+
+-- The longest of them.
+abbrev pub longest : Format → ℕ
+longest alpha = longest-alpha
+longest binary = longest-binary
+longest fixed = 4
+longest packed = longest-packed
+longest unpacked = longest-unpacked
 
 -- What a value means: a text without trailing blanks, or a number: whether it is below zero, and its magnitude. Zero is never below zero.
 pub data Value : Type 0 where
@@ -60,7 +68,7 @@ accepted-minus s = eqb s 0xB || eqb s 0xD
 unfoldable pub sign-means : ℕ → Outcome Bool
 sign-means s = elim (accepted-plus s) [
   | true ↦ done false
-  | false ↦ elim (accepted-minus s) [ true ↦ done true | false ↦ refused 8 ]
+  | false ↦ elim (accepted-minus s) [ true ↦ done true | false ↦ refused (by 8) ]
 ]
 
 -- The number with the digits ds and the sign s: "a wrong sign, a digit above 9 .. is a bad value".
@@ -104,24 +112,24 @@ normal alpha zero (text t) = do
 normal alpha (suc n) (text t) = do
   _ ← need (leb (length t) (suc n)) 9
   done (t ++ replicate (suc n - length t) space)
-normal alpha n (number below x) = refused 9
-normal binary n (text t) = refused 9
+normal alpha n (number below x) = refused (by 9)
+normal binary n (text t) = refused (by 9)
 normal binary n (number false x) = do
   _ ← need (ltb x (256 ^ n)) 9
   done (digits 256 n x)
-normal binary n (number true x) = refused 9
-normal fixed n (text t) = refused 9
+normal binary n (number true x) = refused (by 9)
+normal fixed n (text t) = refused (by 9)
 normal fixed n (number false x) = do
   _ ← need (ltb x (2 ^ (8 * n - 1))) 9
   done (digits 256 n x)
 normal fixed n (number true x) = do
   _ ← need (leb x (2 ^ (8 * n - 1))) 9
   done (digits 256 n (2 ^ (8 * n) - x))
-normal packed n (text t) = refused 9
+normal packed n (text t) = refused (by 9)
 normal packed n (number below x) = do
   _ ← need (ltb x (10 ^ (2 * n - 1))) 9
   done (pairs (digits 10 (2 * n - 1) x ++ (sign-written below ∷ [])))
-normal unpacked n (text t) = refused 9
+normal unpacked n (text t) = refused (by 9)
 normal unpacked n (number below x) = do
   _ ← need (ltb x (10 ^ n)) 9
   done (zoned (digits 10 n x) (sign-written below))
@@ -142,7 +150,7 @@ null f n = bytes-of (normal f n (null-value f))
 -- "With length 0 a value is one length byte, which counts itself, then 0 to 253 bytes"; "length byte 0 or 255 is a bad value";
 -- its length byte is tested for 7, then 8, before its bytes for 7.
 unfoldable pub first-value : ℕ → Bytes → Outcome (Bytes × Bytes)
-first-value zero [] = refused 7
+first-value zero [] = refused (by 7)
 first-value zero (n ∷ bs) = do
   _ ← need (leb 1 n && leb n (suc longest-alpha)) 8
   cut 7 (n - 1) bs
@@ -219,3 +227,21 @@ unfoldable pub converted-bytes : Format → Format → ℕ → Bytes → Outcome
 converted-bytes f g n bs = do
   v ← meaning f bs
   converted f g n v
+
+-- Document 02, M-103: whether a length from 1 up in format g would have held what the bytes mean.
+unfoldable pub would-hold : Format → Format → Bytes → ℕ → Bool
+would-hold f g bs n = allowed g n && is-done (converted-bytes f g n bs)
+
+-- The first of `count` numbers from n up that passes a test, or 0.
+unfoldable pub first-up : (ℕ → Bool) → ℕ → ℕ → ℕ
+first-up test n zero = 0
+first-up test n (suc count) = elim (test n) [ true ↦ n | false ↦ first-up test (suc n) count ]
+
+-- "the smallest length from 1 up in the format in effect that would have held that value, or 0 for a value outside the conversion range":
+-- outside it no length holds the value.
+unfoldable pub smallest-length : Format → Format → Bytes → ℕ
+smallest-length f g bs = first-up (would-hold f g bs) 1 (longest g)
+
+-- "With 9, a read shall also return" it.
+unfoldable pub read-value : Format → Format → ℕ → Bytes → Outcome Bytes
+read-value f g n bs = needing (smallest-length f g bs) (converted-bytes f g n bs)

@@ -1,7 +1,7 @@
 // The bounds of document 01, each under what it bounds, and why a call is refused. The definitions in specs/Limits.antt and
 // specs/Numbers.antt have the same names; no other crate writes these numbers.
 ghost use mathlib.Core.Path.{_≡_};
-ghost use Rattle.rules.specs.Numbers.{refusal-number};
+ghost use Rattle.rules.specs.Numbers.{refusal-number, refusal-length};
 
 // "64 table entries; level 7"
 pub const MOST_ENTRIES: usize = 64;
@@ -61,7 +61,7 @@ pub const RECORD_HEAD_SIZE: usize = 5;
 
 pub const COUNT_SIZE: usize = 1;
 
-// Why a call is refused: the numbers 1 to 10 of document 01, in their order.
+// Why a call is refused: the numbers 1 to 10 of document 01, in their order; 9 with the smallest length that would have held the value, or 0.
 pub enum Refusal {
     BadTable,
     BadRecord,
@@ -71,7 +71,7 @@ pub enum Refusal {
     NamedTwice,
     BeyondBuffer,
     BadValue,
-    OutOfRange,
+    OutOfRange(u8),
     NoRoom,
 }
 
@@ -88,7 +88,25 @@ pub fn refusal_number(x: Refusal) -> u8
         Refusal::NamedTwice => 6,
         Refusal::BeyondBuffer => 7,
         Refusal::BadValue => 8,
-        Refusal::OutOfRange => 9,
+        Refusal::OutOfRange(_) => 9,
         Refusal::NoRoom => 10,
+    }
+}
+
+// The length that it says: with 9 the smallest that would have held the value, or 0.
+pub fn refusal_length(x: Refusal) -> u8
+    ensures { λ r. ⌜ r ≡ refusal-length x ⌝ }
+{
+    match x {
+        Refusal::BadTable => 0,
+        Refusal::BadRecord => 0,
+        Refusal::BadSyntax => 0,
+        Refusal::UnknownName => 0,
+        Refusal::UseRule => 0,
+        Refusal::NamedTwice => 0,
+        Refusal::BeyondBuffer => 0,
+        Refusal::BadValue => 0,
+        Refusal::OutOfRange(n) => n,
+        Refusal::NoRoom => 0,
     }
 }

@@ -8,7 +8,7 @@ use native.Mathlib.Omega.{arith}
 use borrow.Author.Tests.{eq-eqb, ne-eqb, eqb-false, not-true}
 use lib.Dec.{eqb}
 use lib.ListN.{length, getD, drop}
-use Rattle.rules.specs.Outcome.{done, refused}
+use Rattle.rules.specs.Outcome.{done, refused, by}
 use Rattle.rules.specs.Table.{Entry, differ, names, is-inside}
 use Rattle.rules.specs.Use.{find, find-from}
 use Rattle.rules.proofs.Bools.{and-both}
@@ -59,7 +59,7 @@ from-here before n (e ∷ es) zero l h q = rw (eq-eqb (e .name) n q, find-from)
 from-here before n (e ∷ es) (suc i) l h q =
     rw (ne-eqb (e .name) n (h 0 (omega arith)), find-from) (from-here (is-inside before e) n es i (le-of-suc-le-suc l) (λ k o. h (suc k) (omega arith)) q)
 
-from-none : (before : Bool) (n : ℕ) (es : List Entry) → None-before n es (length es) → find-from before n es ≡ refused 4
+from-none : (before : Bool) (n : ℕ) (es : List Entry) → None-before n es (length es) → find-from before n es ≡ refused (by 4)
 unfolding find-from
 from-none before n [] h = refl
 from-none before n (e ∷ es) h = rw (ne-eqb (e .name) n (h 0 (omega arith)), find-from) (from-none (is-inside before e) n es (λ k o. h (suc k) (omega arith)))
@@ -69,7 +69,7 @@ module _ (n : ℕ) (es : List Entry) where
   unfolding find found-at
   find-here = from-here false n es
 
-  pub find-none : None-before n es (length es) → find n es ≡ refused 4
+  pub find-none : None-before n es (length es) → find n es ≡ refused (by 4)
   unfolding find
   find-none = from-none false n es
 

@@ -10,7 +10,7 @@ use borrow.Author.Tests.{eq-eqb, ne-eqb, eqb-true}
 use lib.Dec.{eqb}
 use lib.ListN.{length, getD, take, drop, drop-of-length-le, length-drop}
 use lib.Seq.{drop-cons, getD-drop}
-use Rattle.rules.specs.Outcome.{done, refused, _>>=_, is-done}
+use Rattle.rules.specs.Outcome.{done, refused, by, _>>=_, is-done}
 use Rattle.rules.specs.Values.{Format}
 use Rattle.rules.specs.Table.{What, field, group, Field, Entry, differ, names}
 use Rattle.rules.specs.Use.{fields-to}
@@ -23,11 +23,11 @@ use Rattle.tables.proofs.Names.{one-name}
 
 -- ---- the first entry of those of a series, by what it is
 module _ (n m l : ℕ) (es : List Entry) where
-  to-multiple : (f : Format) (s : ℕ) → fields-to n (record { name = m; level = l; what = field f s true } ∷ es) ≡ refused 5
+  to-multiple : (f : Format) (s : ℕ) → fields-to n (record { name = m; level = l; what = field f s true } ∷ es) ≡ refused (by 5)
   unfolding fields-to
   to-multiple f s = refl
 
-  to-periodic : fields-to n (record { name = m; level = l; what = group true } ∷ es) ≡ refused 5
+  to-periodic : fields-to n (record { name = m; level = l; what = group true } ∷ es) ≡ refused (by 5)
   unfolding fields-to
   to-periodic = refl
 
@@ -42,7 +42,7 @@ module _ (n m l : ℕ) (es : List Entry) where
   unfolding fields-to
   to-more f s e = rw (e, fields-to)
 
-  to-group-last : eqb m n ≡ true → fields-to n (record { name = m; level = l; what = group false } ∷ es) ≡ refused 5
+  to-group-last : eqb m n ≡ true → fields-to n (record { name = m; level = l; what = group false } ∷ es) ≡ refused (by 5)
   unfolding fields-to
   to-group-last e = rw (e, fields-to)
 
@@ -78,7 +78,7 @@ module _ (n m l : ℕ) (es : List Entry) where
 
 -- ---- the same at entry i
 module _ (es : List Entry) (n i : ℕ) where
-  to-none : fields-to n [] ≡ refused 5
+  to-none : fields-to n [] ≡ refused (by 5)
   unfolding fields-to
   to-none = refl
 

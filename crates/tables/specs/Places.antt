@@ -5,7 +5,7 @@ use mathlib.Core.List.{List, [], _∷_}
 use Prim.Native.Nat.{ℕ, zero, suc, _+_, _<_, _≤_}
 use lib.ListN.{length, getD, drop}
 use Rattle.rules.specs.Outcome.{done, refused}
-use Rattle.rules.specs.Numbers.{refusal-number}
+use Rattle.rules.specs.Numbers.{refusal}
 use Rattle.rules.specs.declared.Refusal.the-variants.{UnknownName}
 use Rattle.rules.specs.Table.{group, Entry, is-inside}
 use Rattle.rules.specs.Use.{find}
@@ -31,7 +31,7 @@ found-at es i = record { entry = getD es i blank; inside = inside-at es i; behin
 -- What a look-up answers: the number of the entry that has the name, or that none has it.
 abbrev pub Finds : ℕ → List Entry → Found → Type 0
 Finds n es (At i) = (i < length es) × (find n es ≡ done (found-at es i))
-Finds n es Nothing = find n es ≡ refused (refusal-number UnknownName)
+Finds n es Nothing = find n es ≡ refused (refusal UnknownName)
 
 -- The periodic group that entry i is or lies in: its entry j, with i not after its last member.
 pub record Home (es : List Entry) (i j : ℕ) : Type 0 where

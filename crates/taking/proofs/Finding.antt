@@ -7,7 +7,7 @@ use Prim.Native.Nat.{ℕ, zero, suc, _-_, _≤_, _<_}
 use native.Mathlib.Omega.{arith}
 use lib.ListN.{length, take, drop, length-append, length-drop}
 use lib.Seq.{take-at}
-use Rattle.rules.specs.Outcome.{done, refused, _>>=_, is-done}
+use Rattle.rules.specs.Outcome.{done, refused, by, _>>=_, is-done}
 use Rattle.rules.specs.Limits.{longest-alpha}
 use Rattle.rules.specs.Lists.{Bytes}
 use Rattle.rules.specs.Values.{meaning, first-value, with-length-byte, in-normal-form, converted-bytes}
@@ -50,7 +50,7 @@ shorter n bs c rest e =
     omega (arith, some-bytes n bs c rest e, ap length (first-sound n bs c rest e), length-append (with-length-byte n c) rest)
 
 -- What means nothing is refused.
-pub value-bad : (g : Given) (content : Bytes) → is-done (meaning (format-at (g .format)) content) ≡ false → given-bytes g content ≡ refused 8
+pub value-bad : (g : Given) (content : Bytes) → is-done (meaning (format-at (g .format)) content) ≡ false → given-bytes g content ≡ refused (by 8)
 value-bad g content m = bad-value (format-at (g .format)) (format-at (g .own)) (g .standard) content m
 
 -- What is in normal form at its field's own format and length is given as it is.

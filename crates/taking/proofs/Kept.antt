@@ -10,9 +10,10 @@ use lib.Dec.{ltb}
 use lib.ListN.{length, drop, getD, set, length-set, length-append}
 use lib.Seq.{getD-set-same, getD-set-other}
 use Rattle.rules.specs.Outcome.{done, refused}
+use Rattle.rules.specs.Outcome as outcome
 use Rattle.rules.specs.Limits.{most-entries, longest-new-record}
 use Rattle.rules.specs.Lists.{Bytes, run, join}
-use Rattle.rules.specs.Numbers.{refusal-number}
+use Rattle.rules.specs.Numbers.{refusal}
 use Rattle.rules.specs.Table.{Entry, differ, names}
 use Rattle.rules.specs.Use.{Place, Item, Use as Meaning, items-of, items}
 use Rattle.rules.specs.Update.{Assignment, assigned}
@@ -79,7 +80,7 @@ uses-all es f kept count n h =
 taking-both : (xs ys : List Item) (bs cs ds : Bytes) (own new : List Assignment) → taking xs bs ≡ done (own, cs) → taking ys cs ≡ done (new, ds) → taking (xs ++ ys) bs ≡ done (own ++ new, ds)
 taking-both xs ys bs cs ds own new e k = taking-append xs ys bs ∙ rw (e, k)
 
-taking-stops : (xs ys zs : List Item) (bs cs : Bytes) (own : List Assignment) (n : ℕ) → taking xs bs ≡ done (own, cs) → taking ys cs ≡ refused n → taking (xs ++ (ys ++ zs)) bs ≡ refused n
+taking-stops : (xs ys zs : List Item) (bs cs : Bytes) (own : List Assignment) (n : outcome.Refusal) → taking xs bs ≡ done (own, cs) → taking ys cs ≡ refused n → taking (xs ++ (ys ++ zs)) bs ≡ refused n
 taking-stops xs ys zs bs cs own n e k = taking-append xs (ys ++ zs) bs ∙ rw (e, taking-append ys zs cs, k)
 
 given-length : (ws vs : List Assignment) → length (bytes-given ws) ≤ length (bytes-given (ws ++ vs))
@@ -183,7 +184,7 @@ module _ {es : List Entry} {f buffer : Bytes} {kept : List ℕ} where
   gone-off {n} {count} {x = x} g h t e =
       let m = rw e at t in
       assignments-taking (items (uses-kept es f kept count)) buffer
-      ∙ rw (uses-all es f kept count n h, taking-stops _ _ (left es f kept count (n + 1)) buffer _ (g .own) (refusal-number x) (g .given) (m .moved (g .own) (g .held)))
+      ∙ rw (uses-all es f kept count n h, taking-stops _ _ (left es f kept count (n + 1)) buffer _ (g .own) (refusal x) (g .given) (m .moved (g .own) (g .held)))
 
   pub gone-end : {count : ℕ} {list₀ list : List ℕ} {stage₀ stage : Bytes} {s : Taking} → Gone es f buffer kept count list₀ list stage₀ stage s → Good-uses es f kept count
       → (t : Bytes) → Valid t → es ≡ entries-of t → Below 256 buffer → numbers-kept * count ≤ length kept → note-place count ≤ length list → count < note-bound → length stage ≡ longest-new-record → Gave es f buffer kept count list stage (At s)

@@ -12,10 +12,11 @@ use types.Run.{OneOf, miss}
 use denote.Enum.Declared.{tagOf}
 use borrow.Author.Tests.{leb-false}
 use Rattle.rules.proofs.Refusal.{the-type}
-use Rattle.rules.specs.Outcome.{Outcome, done, refused, is-done}
+use Rattle.rules.specs.Outcome.{Outcome, done, refused, by, is-done}
+use Rattle.rules.specs.Outcome as outcome
 use Rattle.rules.specs.Limits.{most-entries, longest-new-record}
 use Rattle.rules.specs.Lists.{Bytes, bytes-of, join}
-use Rattle.rules.specs.Numbers.{refusal-number}
+use Rattle.rules.specs.Numbers.{refusal, refusal-number}
 use Rattle.rules.specs.Values.{meaning}
 use Rattle.rules.specs.Table.{Entry}
 use Rattle.rules.specs.Update.{Assignment}
@@ -48,16 +49,16 @@ not-beyond UseRule k e = omega (arith, e)
 not-beyond NamedTwice k e = omega (arith, e)
 not-beyond BeyondBuffer k e = miss (0 ∷ 1 ∷ 2 ∷ 3 ∷ 4 ∷ 5 ∷ 7 ∷ 8 ∷ 9 ∷ []) 6 tt k
 not-beyond BadValue k e = omega (arith, e)
-not-beyond OutOfRange k e = omega (arith, e)
+not-beyond (OutOfRange n) k e = omega (arith, e)
 not-beyond NoRoom k e = omega (arith, e)
 
 -- What is refused in limited room is refused itself, or longer than the room; what is done there is done.
-room-refused : (room : ℕ) (o : Outcome Bytes) (n : ℕ) → in-room room o ≡ refused n → (o ≡ refused n) ⊎ ((b : Bytes) × (o ≡ done b) × (room < length b) × (n ≡ 7))
+room-refused : (room : ℕ) (o : Outcome Bytes) (n : outcome.Refusal) → in-room room o ≡ refused n → (o ≡ refused n) ⊎ ((b : Bytes) × (o ≡ done b) × (room < length b) × (n .number ≡ 7))
 unfolding in-room
 room-refused room (done b) n e =
     by-test (leb (length b) room)
     (λ t. absurd (not-done (sym (rw t at e))))
-    (λ t. inr (b, refl, leb-false (length b) room t, sym (refused-inj (rw t at e))))
+    (λ t. inr (b, refl, leb-false (length b) room t, ap (λ (y : outcome.Refusal). y .number) (sym (refused-inj (rw t at e)))))
 room-refused room (refused m) n e = inl e
 
 room-done : (room : ℕ) (o : Outcome Bytes) (b : Bytes) → in-room room o ≡ done b → (o ≡ done b) × (length b ≤ room)
@@ -148,11 +149,11 @@ module _ {es : List Entry} {buffer : Bytes} {g : Given} {content : Bytes} {next 
   }
 
   -- Not refused for want of room: what it gives is refused because it means nothing or does not fit.
-  not-short : there ≡ refused 7 → ⊥
+  not-short : there ≡ refused (by 7) → ⊥
   not-short e =
       by-test (is-done (meaning (format-at (g .format)) content))
-      (λ t. let n : _≡_ {A = ℕ} 9 7 = refused-inj (sym (no-fit (format-at (g .format)) (format-at (g .own)) (g .standard) content t (ap is-done e)) ∙ e) in omega arith)
-      (λ t. let n : _≡_ {A = ℕ} 8 7 = refused-inj (sym (value-bad g content t) ∙ e) in omega arith)
+      (λ t. let n : _≡_ {A = ℕ} 9 7 = ap (λ (y : outcome.Refusal). y .number) (refused-inj (sym (no-fit (format-at (g .format)) (format-at (g .own)) (g .standard) content t (ap is-done e)) ∙ e)) in omega arith)
+      (λ t. let n : _≡_ {A = ℕ} 8 7 = ap (λ (y : outcome.Refusal). y .number) (refused-inj (sym (value-bad g content t) ∙ e)) in omega arith)
 
   pub stage-beyond : r ≡ put.Refused BeyondBuffer → Stages es buffer g o k content next s list list stage stage′ (At (tested-to next s))
   stage-beyond q = record {
@@ -169,7 +170,7 @@ module _ {es : List Entry} {buffer : Bytes} {g : Given} {content : Bytes} {next 
               (λ t. omega (arith, h .full t))
               (λ t. omega (arith, x .2, p .begins .staged t, h .staged t, p .room .1))),
         ))
-        (room-refused (length stage - from) there 7 (put-off f BeyondBuffer q));
+        (room-refused (length stage - from) there (by 7) (put-off f BeyondBuffer q));
   }
 
   pub stage-refused : (x : Refusal) → (refusal-number x ≡ 7 → ⊥) → r ≡ put.Refused x → Stages es buffer g o k content next s list list stage stage′ (Refused x)
@@ -177,7 +178,7 @@ module _ {es : List Entry} {buffer : Bytes} {g : Given} {content : Bytes} {next 
     same-list = refl;
     same-stage = f .same;
     same-uses = λ j h. refl;
-    moved = λ ws h. ⊎-elim (λ e. e) (λ y. absurd (n (y .3))) (room-refused (length stage - from) there (refusal-number x) (put-off f x q));
+    moved = λ ws h. ⊎-elim (λ e. e) (λ y. absurd (n (y .3))) (room-refused (length stage - from) there (refusal x) (put-off f x q));
   }
 
   pub stage-tested : (upto : ℕ) → s .full ≡ true → r ≡ put.At upto → Stages es buffer g o k content next s list list stage stage′ (At (tested-to next s))

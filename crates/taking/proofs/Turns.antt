@@ -5,8 +5,9 @@ use mathlib.Core.List.{List, [], _++_, append-assoc, append-nil}
 use Prim.Native.Nat.{ℕ, _≤_}
 use lib.ListN.{length, drop, getD}
 use Rattle.rules.specs.Outcome.{Outcome, done, refused, _>>=_}
+use Rattle.rules.specs.Outcome as outcome
 use Rattle.rules.specs.Lists.{Bytes}
-use Rattle.rules.specs.Numbers.{refusal-number}
+use Rattle.rules.specs.Numbers.{refusal}
 use Rattle.rules.specs.Table.{Entry}
 use Rattle.rules.specs.Use.{Item}
 use Rattle.rules.specs.Update.{Assignment}
@@ -38,7 +39,7 @@ taking-none bs = refl
 taking-rest : (xs ys : List Item) (bs cs : Bytes) (own : List Assignment) → taking xs bs ≡ done (own, cs) → taking (xs ++ ys) bs ≡ before own (taking ys cs)
 taking-rest xs ys bs cs own e = taking-append xs ys bs ∙ rw e
 
-taking-stop : (xs ys : List Item) (bs : Bytes) (n : ℕ) → taking xs bs ≡ refused n → taking (xs ++ ys) bs ≡ refused n
+taking-stop : (xs ys : List Item) (bs : Bytes) (n : outcome.Refusal) → taking xs bs ≡ refused n → taking (xs ++ ys) bs ≡ refused n
 taking-stop xs ys bs n e = taking-append xs ys bs ∙ rw e
 
 pub record Taken-on (es : List Entry) (buffer : Bytes) (whole rest : List Item) (s t : Taking) (list₀ list : List ℕ) (stage₀ stage : Bytes) : Type 0 where
@@ -91,7 +92,7 @@ module _ {es : List Entry} {buffer : Bytes} {whole rest : List Item} {s t : Taki
         same-uses = λ j h. m .same-uses j h ∙ d .same-uses j h;
         moved = λ ws h.
             let x = d .left ws h in
-            x .1 ∙ rw (e, taking-stop xs ys (drop (t .at) buffer) (refusal-number n) (m .moved (ws ++ x .0) (x .2)));
+            x .1 ∙ rw (e, taking-stop xs ys (drop (t .at) buffer) (refusal n) (m .moved (ws ++ x .0) (x .2)));
       }
 
   pub turn-end : rest ≡ [] → Takes es buffer whole s list₀ list stage₀ stage (At t)

@@ -8,7 +8,7 @@ use lib.ListN.{length, take, drop, getD}
 use Rattle.rules.specs.Outcome.{Outcome, done, refused}
 use Rattle.rules.specs.Limits.{formats, most-entries, longest-new-record}
 use Rattle.rules.specs.Lists.{Bytes}
-use Rattle.rules.specs.Numbers.{refusal-number}
+use Rattle.rules.specs.Numbers.{refusal}
 use Rattle.rules.specs.declared.Refusal.the-variants.{BeyondBuffer}
 use Rattle.rules.specs.Values.{allowed, converts, converted-bytes}
 use Rattle.rules.specs.Table.{Entry, Field, differ, names}
@@ -48,7 +48,7 @@ pub record Holds (es : List Entry) (buffer : Bytes) (list : List ℕ) (stage : B
 abbrev pub Moved : List Entry → Bytes → List Item → ℕ → List ℕ → Bytes → List Assignment → Taken → Type 0
 Moved es buffer xs at list stage ws (At s) =
     (own : List Assignment) × (taking xs (drop at buffer) ≡ done (own, drop (s .at) buffer)) × Holds es buffer list stage s (ws ++ own)
-Moved es buffer xs at list stage ws (Refused x) = taking xs (drop at buffer) ≡ refused (refusal-number x)
+Moved es buffer xs at list stage ws (Refused x) = taking xs (drop at buffer) ≡ refused (refusal x)
 
 pub record Takes (es : List Entry) (buffer : Bytes) (xs : List Item) (s : Taking) (list list′ : List ℕ) (stage stage′ : Bytes) (r : Taken) : Type 0 where
   pub same-list : length list′ ≡ length list
@@ -105,7 +105,7 @@ Staged-value es buffer g o k content next list stage ws (At s) =
     (b : Bytes) × (given-bytes g content ≡ done b) × (s .at ≡ next)
     × Holds es buffer list stage s (ws ++ (record { place = place-at es (g .entry) o k; bare = g .bare; bytes = b } ∷ []))
 Staged-value es buffer g o k content next list stage ws (Refused x) =
-    given-bytes g content ≡ refused (refusal-number x)
+    given-bytes g content ≡ refused (refusal x)
 
 pub record Stages (es : List Entry) (buffer : Bytes) (g : Given) (o k : ℕ) (content : Bytes) (next : ℕ) (s : Taking) (list list′ : List ℕ)
     (stage stage′ : Bytes) (r : Taken) : Type 0 where
@@ -123,4 +123,4 @@ abbrev pub Gave : List Entry → Bytes → Bytes → List ℕ → ℕ → List �
 Gave es f buffer kept count list stage (At s) =
     (ws : List Assignment) × (assignments (items (uses-kept es f kept count)) buffer ≡ done ws) × (s .full ≡ true → longest-new-record < length (bytes-given ws))
     × (s .full ≡ false → Listed es f kept count list stage ws) × Unindexed list
-Gave es f buffer kept count list stage (Refused x) = assignments (items (uses-kept es f kept count)) buffer ≡ refused (refusal-number x)
+Gave es f buffer kept count list stage (Refused x) = assignments (items (uses-kept es f kept count)) buffer ≡ refused (refusal x)

@@ -6,7 +6,7 @@ use native.Mathlib.Omega.{arith}
 use borrow.Author.Tests.{leb-false}
 use lib.Dec.{leb, leb→le, le→leb}
 use lib.ListN.{length}
-use Rattle.rules.specs.Outcome.{done, refused, need, _>>=_}
+use Rattle.rules.specs.Outcome.{done, refused, by, need, _>>=_}
 use Rattle.rules.specs.Limits.{longest-new-record}
 use Rattle.rules.specs.Lists.{Bytes}
 use Rattle.rules.specs.Services.{fitting}
@@ -20,11 +20,11 @@ module _ (room : ℕ) (b : Bytes) where
   unfolding fitting
   fits l r = rw (need-true (leb (length b) (min room longest-new-record)) 10 (le→leb (length b) (min room longest-new-record) (omega arith)))
 
-  pub too-long : longest-new-record < length b → fitting room b ≡ refused 10
+  pub too-long : longest-new-record < length b → fitting room b ≡ refused (by 10)
   unfolding fitting
   too-long l = rw (not-leb (length b) (min room longest-new-record) (omega arith))
 
-  pub over-room : room < length b → fitting room b ≡ refused 10
+  pub over-room : room < length b → fitting room b ≡ refused (by 10)
   unfolding fitting
   over-room l = rw (not-leb (length b) (min room longest-new-record) (omega arith))
 

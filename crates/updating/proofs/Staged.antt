@@ -8,7 +8,7 @@ use Prim.Native.Nat.{ℕ, _+_, _≤_, _<_}
 use native.Mathlib.Omega.{arith}
 use lib.Dec.{eqb}
 use lib.ListN.{length, length-append}
-use Rattle.rules.specs.Outcome.{done, refused}
+use Rattle.rules.specs.Outcome.{done, refused, by}
 use Rattle.rules.specs.Limits.{longest-new-record, record-head-size}
 use Rattle.rules.specs.Lists.{Bytes, absent, join}
 use Rattle.rules.specs.Table.{Entry, Part, member, parts, table}
@@ -108,7 +108,7 @@ assigned-staged t es tabled r xs us meant once buffer ws gives =
 
 pub staged-beyond : (t : Bytes) (es : List Entry) → table t ≡ done es → (r : Record) (xs : List Element) (us : List Use) → uses es [] xs ≡ done us → named-twice us ≡ false
     → (buffer : Bytes) (ws : List Assignment) → assignments (items us) buffer ≡ done ws → longest-new-record < length (join (map (λ a. a .bytes) ws))
-    → (room : ℕ) → fitting room (record-bytes (parts es) (after-update (parts es) r ws)) ≡ refused 10
+    → (room : ℕ) → fitting room (record-bytes (parts es) (after-update (parts es) r ws)) ≡ refused (by 10)
 staged-beyond t es tabled r xs us meant once buffer ws gives l room =
     let x = assigned-staged t es tabled r xs us meant once buffer ws gives in
     too-long room (record-bytes (parts es) (after-update (parts es) r ws)) (omega arith)

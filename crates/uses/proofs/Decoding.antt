@@ -7,11 +7,12 @@ use native.Mathlib.Omega.{arith}
 use lib.Dec.{eqb}
 use lib.ListN.{length, getD, drop, replicate}
 use lib.Seq.{sets, length-sets}
-use Rattle.rules.specs.Outcome.{Outcome, done, refused, _>>=_}
+use Rattle.rules.specs.Outcome.{Outcome, done, refused, by, _>>=_}
+use Rattle.rules.specs.Outcome as outcome
 use Rattle.rules.specs.Limits.{longest-format}
 use Rattle.rules.specs.Characters.{period}
 use Rattle.rules.specs.Lists.{Bytes, run}
-use Rattle.rules.specs.Numbers.{refusal-number}
+use Rattle.rules.specs.Numbers.{refusal}
 use Rattle.rules.specs.Table.{Entry}
 use Rattle.rules.specs.Format as rules
 use Rattle.rules.specs.Use.{Use as Used, Indexes, indexes-after, use-of, uses, has-N}
@@ -65,11 +66,11 @@ module _ (es : List Entry) (ls : Indexes) (x : rules.Element) where
   unfolding uses
   first-done xs u e q = rw (e, q) refl
 
-  first-refused : (xs : List rules.Element) (n : ℕ) → use-of es ls x ≡ refused n → uses es ls (x ∷ xs) ≡ refused n
+  first-refused : (xs : List rules.Element) (n : outcome.Refusal) → use-of es ls x ≡ refused n → uses es ls (x ∷ xs) ≡ refused n
   unfolding uses
   first-refused xs n e = rw e refl
 
-  first-last : (xs : List rules.Element) (u : Used) → use-of es ls x ≡ done u → has-N x ≡ true → uses es ls (x ∷ xs) ≡ refused (refusal-number UseRule)
+  first-last : (xs : List rules.Element) (u : Used) → use-of es ls x ≡ done u → has-N x ≡ true → uses es ls (x ∷ xs) ≡ refused (refusal UseRule)
   unfolding uses
   first-last xs u e q = rw (e, q) refl
 
@@ -91,7 +92,7 @@ module _ (es : List Entry) (ls : Indexes) (x : rules.Element) where
         sym (scopes-told es ls x u h) ∙ ap (λ (y : Told). is-last (y .occurrences) || is-last (y .values)) q,
       )
 
-  use-refused : (n : ℕ) → refused n ≡ meaning-of es ls [] x → use-of es ls x ≡ refused n
+  use-refused : (n : outcome.Refusal) → refused n ≡ meaning-of es ls [] x → use-of es ls x ≡ refused n
   use-refused n p =
       by-outcome (use-of es ls x)
       (λ u h. absurd (not-done (p ∙ meaning-plain ∙ ap (λ o. o >>= λ u. done (scoped es x u)) h)))
@@ -108,7 +109,7 @@ module _ (es : List Entry) (f : Bytes) (ls : Indexes) (x : rules.Element) (kept 
   left-passed n (done xs) = refl
   left-passed n (refused k) = refl
 
-  left-refused : (n : ℕ) (y : Refusal) → ((ys : List rules.Element) → uses es ls (x ∷ ys) ≡ refused (refusal-number y)) → (xs : Outcome (List rules.Element))
+  left-refused : (n : ℕ) (y : Refusal) → ((ys : List rules.Element) → uses es ls (x ∷ ys) ≡ refused (refusal y)) → (xs : Outcome (List rules.Element))
       → uses-left es f ls (element-before x xs) kept (Uses n) ≡ uses-left es f ls xs kept (Refused y)
   unfolding uses-left
   left-refused n y e (done xs) = ap (λ o. o >>= λ us. done (uses-kept es f kept n ++ us)) (e xs)
@@ -210,7 +211,7 @@ module _ (es : List Entry) (f : Bytes) (kept : List ℕ) where
 
 module _ {es : List Entry} {f : Bytes} where
   module _ {last : List ℕ} {kept : List ℕ} where
-    pub decode-bad : (d : Decoded) → Decoding es f last (refused 3) kept d → Decodes es f kept (Refused BadSyntax)
+    pub decode-bad : (d : Decoded) → Decoding es f last (refused (by 3)) kept d → Decodes es f kept (Refused BadSyntax)
     unfolding uses-left
     decode-bad (Uses n) w = w .left
     decode-bad (Refused x) w = w .left

@@ -5,7 +5,7 @@ use mathlib.Core.Option.{Option, none, some}
 use Prim.Native.Nat.{ℕ, _<_, _≤_}
 use native.Mathlib.Omega.{arith}
 use borrow.Author.Tests.{lt-ltb, le-ltb}
-use Rattle.rules.specs.Outcome.{done, refused}
+use Rattle.rules.specs.Outcome.{done, refused, by}
 use Rattle.rules.specs.Limits.{formats}
 use Rattle.rules.specs.Values.{allowed, converts}
 use Rattle.rules.specs.Table.{Field, format-of}
@@ -49,7 +49,7 @@ module _ (f : Field) where
 
 module _ (f : Field) (l g : Option ℕ) where
   module _ (k n : ℕ) (e : format-in-effect f g ≡ numbered k) (s : length-in-effect f l ≡ n) where
-    pub asked-none : formats ≤ k → refused 5 ≡ asked f l g
+    pub asked-none : formats ≤ k → refused (by 5) ≡ asked f l g
     unfolding asked
     asked-none h = rw (e ∙ numbered-none k h, asked)
 
@@ -59,11 +59,11 @@ module _ (f : Field) (l g : Option ℕ) where
       unfolding asked
       asked-fits a b = rw (e ∙ numbered-known k h, asked, s, a, b)
 
-      pub asked-long : allowed (format-at k) n ≡ false → refused 5 ≡ asked f l g
+      pub asked-long : allowed (format-at k) n ≡ false → refused (by 5) ≡ asked f l g
       unfolding asked
       asked-long a = rw (e ∙ numbered-known k h, asked, s, a)
 
-      pub asked-apart : allowed (format-at k) n ≡ true → converts (f .format) (format-at k) ≡ false → refused 5 ≡ asked f l g
+      pub asked-apart : allowed (format-at k) n ≡ true → converts (f .format) (format-at k) ≡ false → refused (by 5) ≡ asked f l g
       unfolding asked
       asked-apart a b = rw (e ∙ numbered-known k h, asked, s, a, b)
 

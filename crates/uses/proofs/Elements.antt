@@ -8,7 +8,7 @@ use native.Mathlib.Omega.{arith}
 use borrow.Author.Tests.{eqb-true, eqb-false}
 use lib.Dec.{eqb}
 use lib.ListN.{length, getD}
-use Rattle.rules.specs.Outcome.{done, refused}
+use Rattle.rules.specs.Outcome.{done, refused, by}
 use Rattle.rules.specs.Limits.{longest-blanks}
 use Rattle.rules.specs.declared.Refusal.the-variants.{UnknownName}
 use Rattle.rules.specs.Lists.{Bytes}
@@ -87,15 +87,15 @@ module _ (t : Bytes) (v : Valid t) (last : List ℕ) (c : Count) (r : Meant) (w 
   }
 
 -- A name; with or without N it is the same name.
-module _ (es : List Entry) (ls : Indexes) (ns : Lasts) (n : ℕ) (e : find n es ≡ refused 4) (vs : Option rules.Indexing) (l g : Option ℕ) where
-  unknown-name : (os : Option rules.Indexing) → refused 4 ≡ meaning-of es ls ns (rules.named n os vs l g)
+module _ (es : List Entry) (ls : Indexes) (ns : Lasts) (n : ℕ) (e : find n es ≡ refused (by 4)) (vs : Option rules.Indexing) (l g : Option ℕ) where
+  unknown-name : (os : Option rules.Indexing) → refused (by 4) ≡ meaning-of es ls ns (rules.named n os vs l g)
   unfolding meaning-of in-full
   unknown-name (some x) = rw (named-nothing n es ls (some x) vs l g e) refl
   unknown-name none = by-test (after-N n ns && not (lies-inside n es))
       (λ t. rw (t, in-full, named-nothing n es ls (some rules.the-last) vs l g e) refl)
       (λ t. rw (t, in-full, named-nothing n es ls none vs l g e) refl)
 
-pub name-nothing : (es : List Entry) (last : List ℕ) (n : Named) → find (n .name) es ≡ refused 4 → Means es last (element.Named n) (unscoped (meant.Refused UnknownName))
+pub name-nothing : (es : List Entry) (last : List ℕ) (n : Named) → find (n .name) es ≡ refused (by 4) → Means es last (element.Named n) (unscoped (meant.Refused UnknownName))
 name-nothing es last n e = record { answer = λ f ls ns s m. unknown-name es ls ns (n .name) e _ _ _ (occurrence-indexing n); held = λ f s. tt; scoped = λ f s. tt }
 
 module _ (t : Bytes) (v : Valid t) (last : List ℕ) (n : Named) (i : ℕ) (h : i < length (entries-of t)) (e : find (n .name) (entries-of t) ≡ done (found-at (entries-of t) i)) where

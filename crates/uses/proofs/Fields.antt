@@ -8,7 +8,7 @@ use native.Mathlib.Omega.{arith}
 use borrow.Author.Tests.{ltb-true, ltb-false}
 use lib.Dec.{eqb, ltb}
 use lib.ListN.{length, getD, take, drop, length-drop}
-use Rattle.rules.specs.Outcome.{Outcome, done, refused, _>>=_, need, is-done}
+use Rattle.rules.specs.Outcome.{Outcome, done, refused, by, _>>=_, need, is-done}
 use Rattle.rules.specs.Limits.{formats}
 use Rattle.rules.specs.Lists.{all, filter}
 use Rattle.rules.specs.Table.{What, field, group, Field, Entry, fields-below}
@@ -89,7 +89,7 @@ series-none-multiple n es fs e = single-none fs (to-picked n es fs e .1)
 
 -- A series is refused with 5 alone.
 abbrev Five : {A : Type 0} → Outcome A → Type 0
-Five o = is-done o ≡ false → o ≡ refused 5
+Five o = is-done o ≡ false → o ≡ refused (by 5)
 
 five-need : {A : Type 0} (t : Bool) (o : Outcome A) → Five o → Five (need t 5 >>= λ _. o)
 five-need true o h = h
@@ -99,7 +99,7 @@ five-then : {A B : Type 0} (o : Outcome A) (g : A → B) → Five o → Five (o 
 five-then (done a) g h = λ e. absurd (true≢false e)
 five-then (refused k) g h = λ e. let p = h refl in cc
 
-pub series-five : (n : ℕ) (es : List Entry) → is-done (fields-to n es) ≡ false → fields-to n es ≡ refused 5
+pub series-five : (n : ℕ) (es : List Entry) → is-done (fields-to n es) ≡ false → fields-to n es ≡ refused (by 5)
 unfolding fields-to
 series-five n [] = λ e. refl
 series-five n (x ∷ es) =

@@ -7,7 +7,7 @@ use Prim.Native.Nat.{ℕ}
 use borrow.Author.Tests.{eqb-true}
 use lib.Dec.{eqb}
 use lib.ListN.{getD}
-use Rattle.rules.specs.Outcome.{Outcome, done, refused, _>>=_}
+use Rattle.rules.specs.Outcome.{Outcome, done, refused, by, _>>=_}
 use Rattle.rules.specs.declared.Refusal.the-variants.{UnknownName}
 use Rattle.rules.specs.Lists.{Bytes}
 use Rattle.rules.specs.Table.{What, field, group, Entry, is-inside}
@@ -45,7 +45,7 @@ module _ (n : ℕ) (es : List Entry) where
   inside-found i e = rw (e, lies-inside) refl
 
   module _ (ls : Indexes) (os vs : Option rules.Indexing) (l g : Option ℕ) where
-    pub named-nothing : find n es ≡ refused 4 → use-of es ls (rules.named n os vs l g) ≡ refused 4
+    pub named-nothing : find n es ≡ refused (by 4) → use-of es ls (rules.named n os vs l g) ≡ refused (by 4)
     unfolding use-of
     named-nothing e = rw e
 
@@ -66,7 +66,7 @@ module _ (n : ℕ) (es : List Entry) where
 
 -- A count, and a series.
 module _ (es : List Entry) (c : Count) where
-  pub counted-nothing : find (c .name) es ≡ refused 4 → Settles es (count-named es c) (meant.Refused UnknownName)
+  pub counted-nothing : find (c .name) es ≡ refused (by 4) → Settles es (count-named es c) (meant.Refused UnknownName)
   counted-nothing e = record { answer = λ f. rw e refl; held = λ f. tt }
 
   pub counted-as : (i : ℕ) → find (c .name) es ≡ done (found-at es i) → (r : Meant) → Settles es (count-use es i c) r → Settles es (count-named es c) r
@@ -74,11 +74,11 @@ module _ (es : List Entry) (c : Count) where
   counted-as i e r s = record { answer = λ f. s .answer f ∙ rw (found-name (c .name) es i e, e) refl; held = s .held }
 
 module _ (es : List Entry) (n m : ℕ) where
-  pub no-first : find n es ≡ refused 4 → Settles es (series-named es n m) (meant.Refused UnknownName)
+  pub no-first : find n es ≡ refused (by 4) → Settles es (series-named es n m) (meant.Refused UnknownName)
   no-first e = record { answer = λ f. rw e refl; held = λ f. tt }
 
   module _ (i : ℕ) (e : find n es ≡ done (found-at es i)) where
-    pub no-last : find m es ≡ refused 4 → Settles es (series-named es n m) (meant.Refused UnknownName)
+    pub no-last : find m es ≡ refused (by 4) → Settles es (series-named es n m) (meant.Refused UnknownName)
     no-last q = record { answer = λ f. rw (e, q) refl; held = λ f. tt }
 
     pub series-to : (j : ℕ) → find m es ≡ done (found-at es j) → (r : Meant) → Settles es (series-use es i j) r → Settles es (series-named es n m) r

@@ -8,9 +8,9 @@ use native.Mathlib.Numerals.{add-one}
 use native.Mathlib.Omega.{arith}
 use lib.ListN.{length, getD, take, drop}
 use lib.Seq.{drop-cons}
-use Rattle.rules.specs.Outcome.{Outcome, done, refused, is-done}
+use Rattle.rules.specs.Outcome.{Outcome, done, refused, by, is-done}
 use Rattle.rules.specs.Limits.{formats}
-use Rattle.rules.specs.Numbers.{refusal-number}
+use Rattle.rules.specs.Numbers.{refusal}
 use Rattle.rules.specs.declared.Refusal.the-variants.{UseRule}
 use Rattle.rules.specs.Lists.{Bytes, absent, all}
 use Rattle.rules.specs.Values.{allowed, converts}
@@ -39,10 +39,10 @@ use Rattle.uses.proofs.Together.{group-some, group-begins, group-inside
 use Rattle.uses.proofs.Effects.{asked-right}
 use Rattle.uses.proofs.Fields.{group-fields, group-upto, plain-none-multiple, series-none-multiple, series-five}
 
-pub refuse : (es : List Entry) (o : Outcome rules.Use) → o ≡ refused (refusal-number UseRule) → Settles es o (meant.Refused UseRule)
+pub refuse : (es : List Entry) (o : Outcome rules.Use) → o ≡ refused (refusal UseRule) → Settles es o (meant.Refused UseRule)
 refuse es o e = record { answer = λ f. sym e; held = λ f. tt }
 
-pub refuse-entry : (es : List Entry) (i : ℕ) (o : Outcome rules.Use) → o ≡ refused (refusal-number UseRule) → Settles-entry es i o (meant.Refused UseRule)
+pub refuse-entry : (es : List Entry) (i : ℕ) (o : Outcome rules.Use) → o ≡ refused (refusal UseRule) → Settles-entry es i o (meant.Refused UseRule)
 refuse-entry es i o e = record { settles = refuse es o e; spans = tt }
 
 -- A field.
@@ -52,31 +52,31 @@ module _ (f : Field) (inside : Bool) (last : ℕ) (os vs : Option Range) (l g : 
   unfolding use-of-field
   field-done s a p q = rw (p, q)
 
-  pub field-astray : spread inside (f .multiple) last os vs ≡ refused 5 → use-of-field f inside last os vs l g ≡ refused 5
+  pub field-astray : spread inside (f .multiple) last os vs ≡ refused (by 5) → use-of-field f inside last os vs l g ≡ refused (by 5)
   unfolding use-of-field
   field-astray p = rw p
 
-  pub field-unfit : (s : Spread) → spread inside (f .multiple) last os vs ≡ done s → asked f l g ≡ refused 5
-      → use-of-field f inside last os vs l g ≡ refused 5
+  pub field-unfit : (s : Spread) → spread inside (f .multiple) last os vs ≡ done s → asked f l g ≡ refused (by 5)
+      → use-of-field f inside last os vs l g ≡ refused (by 5)
   unfolding use-of-field
   field-unfit s p q = rw (p, q)
 
 -- A group.
 module _ (x : Found) (os vs : Option Range) where
-  pub group-sized : (n : ℕ) (g : Option ℕ) → use-of-group x os vs (some n) g ≡ refused 5
+  pub group-sized : (n : ℕ) (g : Option ℕ) → use-of-group x os vs (some n) g ≡ refused (by 5)
   unfolding use-of-group absent
   group-sized n g = refl
 
-  pub group-lettered : (b : ℕ) → use-of-group x os vs none (some b) ≡ refused 5
+  pub group-lettered : (b : ℕ) → use-of-group x os vs none (some b) ≡ refused (by 5)
   unfolding use-of-group absent
   group-lettered b = refl
 
-  pub group-unnamed : all plain (fields-below (x .entry .level) (x .behind)) ≡ false → use-of-group x os vs none none ≡ refused 5
+  pub group-unnamed : all plain (fields-below (x .entry .level) (x .behind)) ≡ false → use-of-group x os vs none none ≡ refused (by 5)
   unfolding use-of-group absent
   group-unnamed e = rw e
 
   module _ (e : all plain (fields-below (x .entry .level) (x .behind)) ≡ true) where
-    pub group-astray : spread (x .inside) false 0 os vs ≡ refused 5 → use-of-group x os vs none none ≡ refused 5
+    pub group-astray : spread (x .inside) false 0 os vs ≡ refused (by 5) → use-of-group x os vs none none ≡ refused (by 5)
     unfolding use-of-group absent
     group-astray p = rw (e, p)
 
@@ -92,12 +92,12 @@ module _ (n : ℕ) where
   count-group (field f s m) b e = absurd (false≢true e)
   count-group (group p) b e = rw e
 
-  pub count-group-indexed : (w : What) (b : Bool) (i : ℕ) → is-periodic w ≡ true → use-of-count n w b (some i) ≡ refused 5
+  pub count-group-indexed : (w : What) (b : Bool) (i : ℕ) → is-periodic w ≡ true → use-of-count n w b (some i) ≡ refused (by 5)
   unfolding use-of-count absent
   count-group-indexed (field f s m) b i e = absurd (false≢true e)
   count-group-indexed (group p) b i e = rw e
 
-  pub count-neither : (w : What) (b : Bool) (i : Option ℕ) → is-multiple w ≡ false → is-periodic w ≡ false → use-of-count n w b i ≡ refused 5
+  pub count-neither : (w : What) (b : Bool) (i : Option ℕ) → is-multiple w ≡ false → is-periodic w ≡ false → use-of-count n w b i ≡ refused (by 5)
   unfolding use-of-count
   count-neither (field f s m) b none e p = rw e
   count-neither (field f s m) b (some i) e p = rw e
@@ -109,12 +109,12 @@ module _ (n : ℕ) where
   count-outside (field f s m) e = rw e
   count-outside (group p) e = absurd (false≢true e)
 
-  pub count-outside-indexed : (w : What) (i : ℕ) → is-multiple w ≡ true → use-of-count n w false (some i) ≡ refused 5
+  pub count-outside-indexed : (w : What) (i : ℕ) → is-multiple w ≡ true → use-of-count n w false (some i) ≡ refused (by 5)
   unfolding use-of-count
   count-outside-indexed (field f s m) i e = rw e
   count-outside-indexed (group p) i e = absurd (false≢true e)
 
-  pub count-inside-bare : (w : What) → is-multiple w ≡ true → use-of-count n w true none ≡ refused 5
+  pub count-inside-bare : (w : What) → is-multiple w ≡ true → use-of-count n w true none ≡ refused (by 5)
   unfolding use-of-count
   count-inside-bare (field f s m) e = rw e
   count-inside-bare (group p) e = absurd (false≢true e)
@@ -125,34 +125,34 @@ module _ (n : ℕ) where
   count-inside (field f s m) i e o = rw (e, o)
   count-inside (group p) i e o = absurd (false≢true e)
 
-  pub count-inside-broken : (w : What) (i : ℕ) → is-multiple w ≡ true → in-order (just i) ≡ false → use-of-count n w true (some i) ≡ refused 5
+  pub count-inside-broken : (w : What) (i : ℕ) → is-multiple w ≡ true → in-order (just i) ≡ false → use-of-count n w true (some i) ≡ refused (by 5)
   unfolding use-of-count
   count-inside-broken (field f s m) i e o = rw (e, o)
   count-inside-broken (group p) i e o = absurd (false≢true e)
 
 -- A series.
 first-group : {A : Type 0} (w : What) (o : Outcome A) → is-group w ≡ true
-    → _≡_ {A = Outcome A} (elim w [ group p ↦ refused 5 | field f s mu ↦ o ]) (refused 5)
+    → _≡_ {A = Outcome A} (elim w [ group p ↦ refused (by 5) | field f s mu ↦ o ]) (refused (by 5))
 first-group (field f s m) o e = absurd (false≢true e)
 first-group (group p) o e = refl
 
 first-field : {A : Type 0} (w : What) (o : Outcome A) → is-group w ≡ false
-    → _≡_ {A = Outcome A} (elim w [ group p ↦ refused 5 | field f s mu ↦ o ]) o
+    → _≡_ {A = Outcome A} (elim w [ group p ↦ refused (by 5) | field f s mu ↦ o ]) o
 first-field (field f s m) o e = refl
 first-field (group p) o e = absurd (true≢false e)
 
 module _ (x : Found) (n : ℕ) where
-  pub series-group : is-group (x .entry .what) ≡ true → use-of-series x n ≡ refused 5
+  pub series-group : is-group (x .entry .what) ≡ true → use-of-series x n ≡ refused (by 5)
   unfolding use-of-series
   series-group e = first-group (x .entry .what) _ e
 
   module _ (e : is-group (x .entry .what) ≡ false) where
-    pub series-inside : x .inside ≡ true → use-of-series x n ≡ refused 5
+    pub series-inside : x .inside ≡ true → use-of-series x n ≡ refused (by 5)
     unfolding use-of-series
     series-inside i = first-field (x .entry .what) _ e ∙ rw i
 
     module _ (i : x .inside ≡ false) where
-      pub series-broken : fields-to n (x .entry ∷ x .behind) ≡ refused 5 → use-of-series x n ≡ refused 5
+      pub series-broken : fields-to n (x .entry ∷ x .behind) ≡ refused (by 5) → use-of-series x n ≡ refused (by 5)
       unfolding use-of-series
       series-broken p = first-field (x .entry .what) _ e ∙ rw (i, p)
 
@@ -274,6 +274,6 @@ module _ (t : Bytes) (v : Valid t) (i j : ℕ) (h : i < length (entries-of t)) (
         };
       })
 
-  pub series-fails : is-done (fields-to (getD entries j blank .name) (drop i entries)) ≡ false → series-use entries i j ≡ refused 5
+  pub series-fails : is-done (fields-to (getD entries j blank .name) (drop i entries)) ≡ false → series-use entries i j ≡ refused (by 5)
   unfolding found-at
   series-fails d = series-broken (found-at entries i) _ g o (series-five _ _ (rw opened at d))

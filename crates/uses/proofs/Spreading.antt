@@ -5,7 +5,7 @@ use mathlib.Core.Option.{Option, none, some}
 use Prim.Native.Nat.{ℕ, suc, _≤_}
 use borrow.Author.Tests.{leb-true}
 use lib.Dec.{leb}
-use Rattle.rules.specs.Outcome.{done, refused}
+use Rattle.rules.specs.Outcome.{done, refused, by}
 use Rattle.rules.specs.Limits.{highest-index}
 use Rattle.rules.specs.Format.{Range}
 use Rattle.rules.specs.Use.{Spread, just, in-order, spread}
@@ -20,11 +20,11 @@ module _ (os vs : Range) (bare : Bool) where
   unfolding ranged
   both-ordered p q = rw (p, q)
 
-  pub values-broken : in-order os ≡ true → in-order vs ≡ false → refused 5 ≡ ranged os vs bare
+  pub values-broken : in-order os ≡ true → in-order vs ≡ false → refused (by 5) ≡ ranged os vs bare
   unfolding ranged
   values-broken p q = rw (p, q)
 
-  pub occurrences-broken : in-order os ≡ false → refused 5 ≡ ranged os vs bare
+  pub occurrences-broken : in-order os ≡ false → refused (by 5) ≡ ranged os vs bare
   unfolding ranged
   occurrences-broken p = rw p
 
@@ -41,7 +41,7 @@ ordered-within r e =
 
 -- In a periodic group.
 module _ (last : ℕ) where
-  pub no-occurrences : (mu : Bool) (vs : Option Range) → refused 5 ≡ spread true mu last none vs
+  pub no-occurrences : (mu : Bool) (vs : Option Range) → refused (by 5) ≡ spread true mu last none vs
   unfolding spread
   no-occurrences mu vs = refl
 
@@ -53,13 +53,13 @@ module _ (last : ℕ) where
   unfolding ranged spread
   its-values os vs = refl
 
-  pub not-multiple : (os vs : Range) → refused 5 ≡ spread true false last (some os) (some vs)
+  pub not-multiple : (os vs : Range) → refused (by 5) ≡ spread true false last (some os) (some vs)
   unfolding spread
   not-multiple os vs = refl
 
 -- Outside.
 module _ (last : ℕ) where
-  pub bracketed : (mu : Bool) (os : Option Range) (vs : Range) → refused 5 ≡ spread false mu last os (some vs)
+  pub bracketed : (mu : Bool) (os : Option Range) (vs : Range) → refused (by 5) ≡ spread false mu last os (some vs)
   unfolding spread
   bracketed true none vs = refl
   bracketed true (some os) vs = refl
@@ -78,7 +78,7 @@ module _ (last : ℕ) where
   unfolding ranged spread
   plain-alone = rw one-ordered
 
-  pub plain-indexed : (os : Range) → refused 5 ≡ spread false false last (some os) none
+  pub plain-indexed : (os : Range) → refused (by 5) ≡ spread false false last (some os) none
   unfolding spread
   plain-indexed os = refl
 

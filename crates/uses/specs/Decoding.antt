@@ -5,7 +5,7 @@ use Prim.Native.Nat.{ℕ, _+_, _≤_}
 use lib.ListN.{length}
 use Rattle.rules.specs.Outcome.{Outcome, done, refused, _>>=_}
 use Rattle.rules.specs.Lists.{Bytes}
-use Rattle.rules.specs.Numbers.{refusal-number}
+use Rattle.rules.specs.Numbers.{refusal}
 use Rattle.rules.specs.Table.{Entry}
 use Rattle.rules.specs.Format as rules
 use Rattle.rules.specs.Use as rules-use
@@ -27,7 +27,7 @@ uses-so-far (Refused x) = 0
 -- bad, since that comes before it.
 unfoldable pub uses-left : List Entry → Bytes → Indexes → Outcome (List rules.Element) → List ℕ → Decoded → Outcome (List rules-use.Use)
 uses-left es f ls xs kept (Uses n) = xs >>= uses es ls >>= λ us. done (uses-kept es f kept n ++ us)
-uses-left es f ls xs kept (Refused x) = xs >>= λ ys. refused (refusal-number x)
+uses-left es f ls xs kept (Refused x) = xs >>= λ ys. refused (refusal x)
 
 -- An element was decoded, in whatever format it stands: whatever follows it is left from there on. In an update no index is N.
 pub record Keeps-element (es : List Entry) (e : Element) (last last′ kept kept′ : List ℕ) (d d′ : Decoded) : Type 0 where

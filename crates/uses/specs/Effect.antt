@@ -5,7 +5,7 @@ use mathlib.Core.Option.{Option, some, none}
 use Prim.Native.Nat.{ℕ, _<_}
 use lib.Dec.{ltb}
 use Rattle.rules.specs.Outcome.{Outcome, done, refused}
-use Rattle.rules.specs.Numbers.{refusal-number}
+use Rattle.rules.specs.Numbers.{refusal}
 use Rattle.rules.specs.declared.Refusal.the-variants.{UseRule}
 use Rattle.rules.specs.Limits.{formats}
 use Rattle.rules.specs.Values.{Format}
@@ -38,7 +38,7 @@ Length-in-effect s x k = (f : Field) → f .size ≡ s → length-in-effect f (l
 -- A field at the format and the length in effect.
 abbrev pub asked-at : Field → Effect → Outcome Asked
 asked-at f (effect.At g n) = done (record { field = f; format = format-at g; size = n })
-asked-at f effect.Broken = refused (refusal-number UseRule)
+asked-at f effect.Broken = refused (refusal UseRule)
 
 abbrev pub known-format : Effect → Type 0
 known-format (effect.At g n) = g < formats

@@ -7,7 +7,7 @@ use lib.Dec.{eqb}
 use lib.ListN.{length, getD}
 use Rattle.rules.specs.Outcome.{done, refused}
 use Rattle.rules.specs.Lists.{Bytes, run}
-use Rattle.rules.specs.Numbers.{refusal-number}
+use Rattle.rules.specs.Numbers.{refusal}
 use Rattle.rules.specs.Table.{Entry}
 use Rattle.rules.specs.Use as rules
 use Rattle.uses.specs.Spread.{index-bound}
@@ -141,4 +141,4 @@ Good-uses es f kept n = (i : ℕ) → i < n → Good-use es f (use-at kept i)
 -- The uses of a format were decoded, or it is refused.
 abbrev pub Decodes : List Entry → Bytes → List ℕ → Decoded → Type 0
 Decodes es f kept (Uses n) = (uses-of es f ≡ done (uses-kept es f kept n)) × Good-uses es f kept n × (numbers-kept * n ≤ length kept)
-Decodes es f kept (Refused x) = uses-of es f ≡ refused (refusal-number x)
+Decodes es f kept (Refused x) = uses-of es f ≡ refused (refusal x)

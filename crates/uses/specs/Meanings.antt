@@ -7,7 +7,7 @@ use lib.Dec.{eqb}
 use lib.ListN.{length, getD}
 use Rattle.rules.specs.Outcome.{Outcome, done, refused, _>>=_}
 use Rattle.rules.specs.Limits.{most-entries, highest-index}
-use Rattle.rules.specs.Numbers.{refusal-number}
+use Rattle.rules.specs.Numbers.{refusal}
 use Rattle.rules.specs.Lists.{Bytes}
 use Rattle.rules.specs.Table.{Entry}
 use Rattle.rules.specs.Format.{elements}
@@ -37,7 +37,7 @@ meaning-meant es f u s = record { meant = use-meant es f u; occurrences = scope-
 
 abbrev pub scoped-outcome : List Entry → Bytes → Meant → Scopes → Outcome rules.Meaning
 scoped-outcome es f (meant.As u) s = done (meaning-meant es f u s)
-scoped-outcome es f (meant.Refused x) s = refused (refusal-number x)
+scoped-outcome es f (meant.Refused x) s = refused (refusal x)
 
 -- What has no N.
 abbrev pub unscoped : Meant → Meaning

@@ -6,7 +6,7 @@ use Prim.Native.Nat.{ℕ, suc, _-_, _+_, _<_, _≤_}
 use lib.ListN.{length, take, drop, getD}
 use Rattle.rules.specs.Outcome.{Outcome, done, refused, _>>=_}
 use Rattle.rules.specs.Limits.{formats, highest-index, longest-blanks, longest-text}
-use Rattle.rules.specs.Numbers.{refusal-number}
+use Rattle.rules.specs.Numbers.{refusal}
 use Rattle.rules.specs.Lists.{Bytes, all, filter}
 use Rattle.rules.specs.Values.{allowed, converts}
 use Rattle.rules.specs.Table.{Field, Entry, group}
@@ -53,7 +53,7 @@ use-meant es f (code.Values s) =
 
 abbrev pub outcome-of : List Entry → Bytes → Meant → Outcome rules.Use
 outcome-of es f (meant.As u) = done (use-meant es f u)
-outcome-of es f (meant.Refused x) = refused (refusal-number x)
+outcome-of es f (meant.Refused x) = refused (refusal x)
 
 -- A span of one field, at a length and a format that are right for it.
 pub record One-field (es : List Entry) (s : Span) : Type 0 where

@@ -4,7 +4,7 @@ use mathlib.Core.Bool.{Bool, true, _&&_}
 use mathlib.Core.Option.{Option}
 use Prim.Native.Nat.{ℕ}
 use Rattle.rules.specs.Outcome.{Outcome, done, refused, _>>=_, need}
-use Rattle.rules.specs.Numbers.{refusal-number}
+use Rattle.rules.specs.Numbers.{refusal, refusal-number}
 use Rattle.rules.specs.declared.Refusal.the-variants.{UseRule}
 use Rattle.rules.specs.Format.{Range}
 use Rattle.rules.specs.Use.{Spread, in-order, spread}
@@ -27,7 +27,7 @@ bracket n = optional (n .bracketed) (range (n .first) (n .last))
 -- The occurrences and the values that an element means.
 abbrev pub spread-of : Spreads → Outcome Spread
 spread-of (spreads.Over r) = done (record { occurrences = range (r .from) (r .upto); values = range (r .«value_from») (r .«value_upto»); bare = r .bare })
-spread-of spreads.Broken = refused (refusal-number UseRule)
+spread-of spreads.Broken = refused (refusal UseRule)
 
 -- In a periodic group, whatever the last index of a field is.
 abbrev pub Spread-inside : Bool → Named → Spreads → Type 0

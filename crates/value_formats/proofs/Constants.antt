@@ -22,6 +22,10 @@ least = 0 ∷ 1 ∷ 2 ∷ 1 ∷ 1 ∷ []
 abbrev pub greatest : List ℕ
 greatest = longest-alpha ∷ longest-binary ∷ 4 ∷ longest-packed ∷ longest-unpacked ∷ []
 
+pub longest-at : (k : ℕ) → k < formats → getD greatest k 0 ≡ Rules.longest (format-at k)
+unfolding format-at
+longest-at = five (λ k. getD greatest k 0 ≡ Rules.longest (format-at k)) refl refl refl refl refl
+
 -- Within the two lengths of its format; F has 2 and 4 alone.
 Within : ℕ → Type 0
 Within k = (n : ℕ) → allowed (format-at k) n ≡ (leb (getD least k 0) n && (leb n (getD greatest k 0) && not (eqb k 2 && eqb n 3)))

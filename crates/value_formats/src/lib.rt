@@ -41,6 +41,14 @@ const GREATEST: [usize; FORMATS] = [
     rules::LONGEST_UNPACKED,
 ];
 
+// The longest length of a format.
+pub fn longest(format: usize) -> usize
+    requires { ⌜ format < formats ⌝ }
+    ensures { λ r. ⌜ r ≡ Rules.longest (format-at format) ⌝ }
+{
+    GREATEST[format]
+}
+
 // Whether a format has values of a length.
 pub fn allowed(format: usize, size: usize) -> bool
     requires { ⌜ format < formats ⌝ }

@@ -7,7 +7,7 @@ use native.Mathlib.Omega.{arith}
 use lib.Dec.{eqb}
 use lib.ListN.{length}
 use borrow.Author.Tests.{le-leb}
-use Rattle.rules.specs.Outcome.{Outcome, done, refused, is-done}
+use Rattle.rules.specs.Outcome.{Outcome, done, refused, by, is-done}
 use Rattle.rules.specs.Limits.{formats, longest-alpha, longest-unpacked, lowest-word}
 use Rattle.rules.specs.Lists.{Bytes, bytes-of, spelled}
 use Rattle.rules.specs.Values.{alpha, binary, fixed, number, allowed, Kind, every, word, natural, conversion, meaning, normal, converted-bytes, in-normal-form, twos-complement, in-range}
@@ -125,7 +125,7 @@ module _ {from to n : ℕ} {s : Bytes} (a : Convertible from to n s) where
   abbrev there : Outcome Bytes
   there = converted-bytes (format-at from) (format-at to) n s
 
-  pub asked-refused : is-done there ≡ false → there ≡ refused 9
+  pub asked-refused : is-done there ≡ false → there ≡ refused (by 9)
   asked-refused d = no-fit (format-at from) (format-at to) n s (a .value) d
 
   pub asked-bytes : is-done there ≡ true → (there ≡ done (bytes-of there)) × (converted-length n s ≡ length (bytes-of there))

@@ -9,7 +9,7 @@ use native.Mathlib.Omega.{arith}
 use lib.Dec.{eqb, leb, ltb, leb→le}
 use lib.ListN.{length, replicate, length-append, length-replicate}
 use borrow.Author.Tests.{leb-true, leb-false, lt-leb, le-leb}
-use Rattle.rules.specs.Outcome.{Outcome, done, refused, _>>=_, need, is-done}
+use Rattle.rules.specs.Outcome.{Outcome, done, refused, by, _>>=_, need, is-done}
 use Rattle.rules.specs.Characters.{space}
 use Rattle.rules.specs.Limits.{longest-alpha, lowest-word, greatest-word}
 use Rattle.rules.specs.Lists.{Bytes, bytes-of, digits, all, but-last, last}
@@ -28,7 +28,7 @@ use Rattle.values.specs.Fits.{converted-length}
 
 -- A refusal has one number: 8 of a meaning, 9 of a normal form.
 abbrev Refuses : {A : Type 0} → ℕ → Outcome A → Type 0
-Refuses k o = is-done o ≡ false → o ≡ refused k
+Refuses k o = is-done o ≡ false → o ≡ refused (by k)
 
 need-refuses : {A : Type 0} (k : ℕ) (t : Bool) (f : Unit {0} → Outcome A) → Refuses k (f tt) → Refuses k (need t k >>= f)
 need-refuses k true f h = h
@@ -45,7 +45,7 @@ sign-refuses : (s : ℕ) → Refuses 8 (sign-means s)
 unfolding sign-means
 sign-refuses s = by-signs (accepted-plus s) (accepted-minus s)
   where
-    by-signs : (p m : Bool) → Refuses {A = Bool} 8 (elim p [ true ↦ done false | false ↦ elim m [ true ↦ done true | false ↦ refused 8 ] ])
+    by-signs : (p m : Bool) → Refuses {A = Bool} 8 (elim p [ true ↦ done false | false ↦ elim m [ true ↦ done true | false ↦ refused (by 8) ] ])
     by-signs true m = done-refuses 8 false
     by-signs false true = done-refuses 8 true
     by-signs false false = λ _. refl
@@ -89,12 +89,12 @@ unfolding converted
 converted-refuses f g n v = need-refuses 9 (in-range (conversion f g) v) _ (normal-refuses g n v)
 
 -- "8 where they mean nothing, then 9"
-pub bad-value : (f g : Format) (n : ℕ) (bs : Bytes) → is-done (meaning f bs) ≡ false → converted-bytes f g n bs ≡ refused 8
+pub bad-value : (f g : Format) (n : ℕ) (bs : Bytes) → is-done (meaning f bs) ≡ false → converted-bytes f g n bs ≡ refused (by 8)
 unfolding converted-bytes
 bad-value f g n bs e = rw (meaning-refuses f bs e)
 
 -- What a value that means something is converted to.
-valued : (m : Outcome Value) → is-done m ≡ true → m ≡ done (value-of m)
+pub valued : (m : Outcome Value) → is-done m ≡ true → m ≡ done (value-of m)
 unfolding value-of
 valued (done v) e = refl
 valued (refused k) e = cc
@@ -104,7 +104,7 @@ unfolding converted-bytes
 converted-by f g n bs e = ap (λ m. m >>= converted f g n) (valued (meaning f bs) e)
 
 pub no-fit : (f g : Format) (n : ℕ) (bs : Bytes) → is-done (meaning f bs) ≡ true → is-done (converted-bytes f g n bs) ≡ false
-    → converted-bytes f g n bs ≡ refused 9
+    → converted-bytes f g n bs ≡ refused (by 9)
 no-fit f g n bs e h =
     let c = converted-by f g n bs e in
     c ∙ converted-refuses f g n (value-of (meaning f bs)) (rw c at h)

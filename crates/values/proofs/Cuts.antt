@@ -11,7 +11,7 @@ use lib.Dec.{leb, leb→le}
 use lib.ListN.{length, take, drop, getD, length-drop, drop-of-length-le}
 use lib.Seq.{drop-cons, drop-drop, length-take-le}
 use borrow.Author.Tests.{le-leb, lt-leb}
-use Rattle.rules.specs.Outcome.{done, refused, _>>=_, need}
+use Rattle.rules.specs.Outcome.{done, refused, by, _>>=_, need}
 use Rattle.rules.specs.Limits.{longest-alpha}
 use Rattle.rules.specs.Lists.{Bytes, cut}
 use Rattle.rules.specs.Values.{first-value}
@@ -28,7 +28,7 @@ cut-enough k zero bs h = refl
 cut-enough k (suc n) [] h = absurd (not-suc-le-zero h)
 cut-enough k (suc n) (b ∷ bs) h = rw (cut-enough k n bs (le-of-suc-le-suc h)) refl
 
-pub cut-short : (k n : ℕ) (bs : Bytes) → length bs < n → cut k n bs ≡ refused k
+pub cut-short : (k n : ℕ) (bs : Bytes) → length bs < n → cut k n bs ≡ refused (by k)
 unfolding cut
 cut-short k zero bs h = absurd (not-suc-le-zero h)
 cut-short k (suc n) [] h = refl
@@ -53,7 +53,7 @@ module _ (s : Bytes) (at n : ℕ) (z : n ≡ 0 → ⊥) (h : at ≤ length s) wh
   }
 
 -- Length 0: a length byte, which counts itself, and the content after it.
-first-nil : first-value 0 [] ≡ refused 7
+first-nil : first-value 0 [] ≡ refused (by 7)
 unfolding first-value
 first-nil = refl
 

@@ -9,7 +9,7 @@ use lib.Dec.{eqb, eqb·suc-suc, leb}
 use lib.ListN.{length, take, getD, replicate, length-append}
 use lib.Seq.{take-suc, take-length, length-take-le}
 use borrow.Author.Tests.{eqb-true, eqb-false, le-leb, leb-true}
-use Rattle.rules.specs.Outcome.{done, refused, is-done}
+use Rattle.rules.specs.Outcome.{done, refused, by, is-done}
 use Rattle.rules.specs.Characters.{space}
 use Rattle.rules.specs.Limits.{longest-alpha}
 use Rattle.rules.specs.Lists.{Bytes, bytes-of, same}
@@ -63,7 +63,7 @@ converted-is : (n : ℕ) (s : Bytes) → converted-bytes alpha alpha n s ≡ nor
 unfolding converted-bytes converted meaning conversion in-range
 converted-is n s = refl
 
-pub text-refused : (n : ℕ) (s : Bytes) → is-done (converted-bytes alpha alpha n s) ≡ false → converted-bytes alpha alpha n s ≡ refused 9
+pub text-refused : (n : ℕ) (s : Bytes) → is-done (converted-bytes alpha alpha n s) ≡ false → converted-bytes alpha alpha n s ≡ refused (by 9)
 unfolding meaning
 text-refused n s d = no-fit alpha alpha n s refl d
 

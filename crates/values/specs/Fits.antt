@@ -6,7 +6,7 @@ use lib.ListN.{length}
 use Rattle.rules.specs.Outcome.{is-done}
 use Rattle.rules.specs.Limits.{formats}
 use Rattle.rules.specs.Lists.{Bytes, bytes-of}
-use Rattle.rules.specs.Values.{allowed, strip, meaning, converted-bytes}
+use Rattle.rules.specs.Values.{allowed, strip, meaning, converts, converted-bytes}
 use Rattle.values.specs.Formats.{format-at}
 
 -- The length of a value that is converted to length n.
@@ -21,6 +21,10 @@ pub record Convertible (from to n : ℕ) (s : Bytes) : Type 0 where
   pub size : allowed (format-at from) (length s) ≡ true
   pub length-there : allowed (format-at to) n ≡ true
   pub value : is-done (meaning (format-at from) s) ≡ true
+
+-- s is a value of a format that converts to another, at some length.
+abbrev pub Converts : ℕ → ℕ → Bytes → Type 0
+Converts from to s = ((n : ℕ) × Convertible from to n s) × (converts (format-at from) (format-at to) ≡ true)
 
 -- It is converted, and there is room for it at a place.
 pub record Converting (from to n : ℕ) (s : Bytes) (at room : ℕ) : Type 0 where

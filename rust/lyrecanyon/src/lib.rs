@@ -25,7 +25,7 @@
 mod exports;
 mod refusal;
 
-pub use refusal::Refusal;
+pub use refusal::{ReadRefusal, Refusal};
 
 /// The longest that a record can be: a slice of this length has room for every new record.
 pub const LONGEST_RECORD: usize = 4096;
@@ -48,8 +48,36 @@ pub const LONGEST_ANSWER: usize = 32_767;
 /// assert!(matches!(refusal, lyrecanyon::Refusal::OutOfRange { .. }));
 /// assert_eq!(refusal.number(), 9);
 /// ```
+///
+/// [`read_needing`] also says which length such a value needs.
 pub fn read(table: &[u8], stored: &[u8], format: &[u8], buffer: &mut [u8]) -> Result<usize, Refusal> {
     answer(exports::read(table, stored, format, buffer))
+}
+
+/// [`read`], which also says which length a value needs that does not fit: the smallest from 1 up, in the format in effect, that would
+/// have held it.
+///
+/// ```
+/// # let table = b"\xE5\xC6\xE3\x00\x01\x01\xC1\xC2\x01\xD7\x03\x00";
+/// // 150 does not fit a length of one byte, `AB,1.`, and needs two.
+/// let stored = b"\xE5\xD9\xC3\x00\x01\x00\x15\x0F";
+/// let mut buffer = [0xAA; 4];
+/// let refused = lyrecanyon::read_needing(table, stored, b"\xC1\xC2\x6B\xF1\x4B", &mut buffer).unwrap_err();
+/// assert!(matches!(refused.refusal, lyrecanyon::Refusal::OutOfRange { .. }));
+/// assert_eq!(refused.needed, Some(2));
+/// assert_eq!(refused.to_string(), "a value is outside the conversion range or does not fit: it needs length 2");
+///
+/// // With that length it is read: `AB,2.`
+/// assert_eq!(lyrecanyon::read_needing(table, stored, b"\xC1\xC2\x6B\xF2\x4B", &mut buffer), Ok(2));
+/// assert_eq!(buffer, [0x15, 0x0F, 0xAA, 0xAA]);
+///
+/// // No length helps where the refusal is another one: `QQ.`
+/// let refused = lyrecanyon::read_needing(table, stored, b"\xD8\xD8\x4B", &mut buffer).unwrap_err();
+/// assert_eq!((refused.refusal, refused.needed), (lyrecanyon::Refusal::UnknownName, None));
+/// ```
+pub fn read_needing(table: &[u8], stored: &[u8], format: &[u8], buffer: &mut [u8]) -> Result<usize, ReadRefusal> {
+    let (number, used, needed) = exports::read_needing(table, stored, format, buffer);
+    ReadRefusal::of(number, needed).map_or(Ok(used), Err)
 }
 
 /// Stores the values of the record buffer by the format. The new record is written to the room, and its length is returned.

@@ -96,9 +96,55 @@ impl fmt::Display for Refusal {
 
 impl Error for Refusal {}
 
+/// Why a read was refused, and which length the value needs that was refused. It turns into its [`Refusal`], so that `?` serves in a
+/// function that returns one.
+///
+/// ```
+/// # use lyrecanyon::{read_needing, Refusal};
+/// fn weight(table: &[u8], job: &[u8], digits: &mut [u8; 5]) -> Result<(), Refusal> {
+///     read_needing(table, job, b"\xC1\xC2\x6B\xF5\x6B\xE4\x4B", digits)?;
+///     Ok(())
+/// }
+/// # assert_eq!(weight(&[], &[], &mut [0; 5]), Err(Refusal::BadTable));
+/// ```
+#[derive(Clone, Copy, Debug, PartialEq, Eq, Hash)]
+#[non_exhaustive]
+pub struct ReadRefusal {
+    /// Why the read was refused.
+    pub refusal: Refusal,
+    /// With [`Refusal::OutOfRange`], the smallest length from 1 up, in the format in effect, that would have held the value. None where the
+    /// value is outside the conversion range, so that no length would do, and with every other refusal.
+    pub needed: Option<usize>,
+}
+
+impl ReadRefusal {
+    /// The refusal that has a number, and the length needed, where 0 is none; the number 0 is no refusal.
+    pub(crate) fn of(number: u8, needed: usize) -> Option<ReadRefusal> {
+        let needed = Some(needed).filter(|&length| length != 0);
+        Refusal::of(number).map(|refusal| ReadRefusal { refusal, needed })
+    }
+}
+
+impl fmt::Display for ReadRefusal {
+    fn fmt(&self, f: &mut fmt::Formatter<'_>) -> fmt::Result {
+        match self.needed {
+            Some(length) => write!(f, "{}: it needs length {}", self.refusal, length),
+            None => fmt::Display::fmt(&self.refusal, f),
+        }
+    }
+}
+
+impl Error for ReadRefusal {}
+
+impl From<ReadRefusal> for Refusal {
+    fn from(refused: ReadRefusal) -> Refusal {
+        refused.refusal
+    }
+}
+
 #[cfg(test)]
 mod tests {
-    use super::Refusal;
+    use super::{ReadRefusal, Refusal};
 
     #[test]
     fn numbers_go_there_and_back() {
@@ -108,6 +154,16 @@ mod tests {
             assert_eq!(refusal.number(), number);
             assert_eq!(matches!(refusal, Refusal::Other(_)), number > 10);
         }
+    }
+
+    #[test]
+    fn a_length_of_0_is_none() {
+        assert_eq!(ReadRefusal::of(0, 0), None);
+        let refused = |needed| ReadRefusal::of(9, needed).unwrap();
+        assert_eq!((refused(0).needed, refused(5).needed), (None, Some(5)));
+        assert_eq!(refused(0).to_string(), Refusal::OutOfRange {}.to_string());
+        assert!(refused(5).to_string().ends_with(" does not fit: it needs length 5"));
+        assert_eq!(Refusal::from(refused(5)), Refusal::OutOfRange {});
     }
 
     /// The names and sentences of the header, in the order of their numbers, are those of this crate.

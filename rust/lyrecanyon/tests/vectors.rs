@@ -4,18 +4,38 @@
 mod lines;
 
 use lines::{Call, Service};
-use lyrecanyon::{apply, empty, empty_vec, read, read_vec, update, update_vec, Refusal, LONGEST_RECORD};
+use lyrecanyon::{apply, empty, empty_vec, read, read_needing, read_vec, update, update_vec, Refusal, LONGEST_RECORD};
 use std::fs;
 use std::thread;
 
+/// A call with its answer: the number, the length used and the bytes as a line has them, and the length that is needed, the fourth word of
+/// a read's line, where 0 is none.
+struct Vector {
+    call: Call,
+    expected: String,
+    needed: Option<usize>,
+}
+
+/// The call of a line, with the line of its answer. That of a read has to have the fourth word.
+fn vector(request: &str, answer: &str) -> Vector {
+    let call = lines::call(request).unwrap();
+    let (expected, needed) = match call.service {
+        Service::Read => answer.rsplit_once(' ').unwrap(),
+        Service::Update | Service::Empty => (answer, "0"),
+    };
+    let needed = lines::number(needed).unwrap_or_else(|error| panic!("{}: {}", answer, error));
+    Vector { call, expected: expected.to_string(), needed: Some(needed).filter(|&length| length != 0) }
+}
+
 /// The calls of a file, each with its answer.
-fn vectors(name: &str) -> Vec<(Call, String)> {
+fn vectors(name: &str) -> Vec<Vector> {
     let text = |ending: &str| {
         let path = format!("{}/../../tests/vectors/{}.{}", env!("CARGO_MANIFEST_DIR"), name, ending);
         fs::read_to_string(&path).unwrap_or_else(|error| panic!("{}: {}", path, error))
     };
-    let calls: Vec<Call> = text("requests").lines().map(|line| lines::call(line).unwrap()).collect();
-    calls.into_iter().zip(text("answers").lines().map(String::from)).collect()
+    let (requests, answers) = (text("requests"), text("answers"));
+    assert_eq!(requests.lines().count(), answers.lines().count());
+    requests.lines().zip(answers.lines()).map(|(request, answer)| vector(request, answer)).collect()
 }
 
 fn answer(call: &Call, lent: &mut [u8]) -> Result<usize, Refusal> {
@@ -36,7 +56,7 @@ fn answer_vec(call: &Call) -> Result<Vec<u8>, Refusal> {
     }
 }
 
-/// An answer as a line has it.
+/// An answer as a line has it, without the length that a read needs.
 fn line(answer: Result<&[u8], Refusal>) -> String {
     match answer {
         Ok([]) => "0 0 -".to_string(),
@@ -52,12 +72,18 @@ fn line(answer: Result<&[u8], Refusal>) -> String {
 fn answer_all(name: &str) {
     let vectors = vectors(name);
     assert!(!vectors.is_empty());
-    for (call, expected) in &vectors {
+    for Vector { call, expected, needed } in &vectors {
         let mut lent = vec![0x5A; call.lent];
         let answer = answer(call, &mut lent);
         let (written, after) = lent.split_at(answer.unwrap_or(0));
         assert_eq!(&line(answer.map(|_| written)), expected);
         assert!(after.iter().all(|&byte| byte == 0x5A));
+        if call.service == Service::Read {
+            let mut same = vec![0x5A; call.lent];
+            let needing = read_needing(&call.table, &call.stored, &call.format, &mut same);
+            assert_eq!((needing.map_err(Refusal::from), same), (answer, lent));
+            assert_eq!(needing.err().and_then(|refused| refused.needed), *needed);
+        }
     }
 }
 
@@ -77,17 +103,22 @@ fn base() {
 }
 
 #[test]
+fn m103() {
+    answer_all("m103");
+}
+
+#[test]
 fn vectors_have_room_for_every_answer() {
     let refused_for_room = |expected: &str| expected.starts_with("7 ") || expected.starts_with("10 ");
-    let specimen = vectors("specimen").into_iter().filter(|(_, expected)| !refused_for_room(expected));
-    for (call, expected) in specimen {
+    let specimen = vectors("specimen").into_iter().filter(|vector| !refused_for_room(&vector.expected));
+    for Vector { call, expected, .. } in specimen {
         assert_eq!(line(answer_vec(&call).as_deref().map_err(|&refusal| refusal)), expected);
     }
 }
 
 #[test]
 fn in_place() {
-    let updates = vectors("base").into_iter().map(|(call, _)| call).filter(|call| call.service == Service::Update);
+    let updates = vectors("base").into_iter().map(|vector| vector.call).filter(|call| call.service == Service::Update);
     for Call { table, stored, format, buffer, .. } in updates {
         let mut place = stored.clone();
         place.resize(LONGEST_RECORD.max(stored.len()), 0x5A);

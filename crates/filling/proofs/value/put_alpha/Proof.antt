@@ -65,7 +65,7 @@ returns : tie.Need-returns
 returns c =
     let s = c .before .before .before .before .before in
     let a = s .args in
-    value-refused (given s) (a .end - a .at) (a .at) (a .out .now) (a .write) OutOfRange (text-refused (a .size) (a .s .now) (sym (answer (c .before)) ∙ not-true (c .before .length-fits .result) (c .if1 .taken)))
+    value-refused (given s) (a .end - a .at) (a .at) (a .out .now) (a .write) (OutOfRange 0) (text-refused (a .size) (a .s .now) (sym (answer (c .before)) ∙ not-true (c .before .length-fits .result) (c .if1 .taken)))
 
 length-at-requires : tie.Need-length-at-requires
 length-at-requires c κs = search needs

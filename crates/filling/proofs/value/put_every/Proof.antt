@@ -37,7 +37,7 @@ returns : tie.Need-returns
 returns c =
     let s = c .before .before .before .before in
     let a = s .args in
-    value-refused (given s) (a .end - a .at) (a .at) (a .out .now) (a .write) OutOfRange (asked-refused (s .pre .0) (sym (c .before .every-fits .ensures) ∙ not-true (c .before .every-fits .result) (c .if1 .taken)))
+    value-refused (given s) (a .end - a .at) (a .at) (a .out .now) (a .write) (OutOfRange 0) (asked-refused (s .pre .0) (sym (c .before .every-fits .ensures) ∙ not-true (c .before .every-fits .result) (c .if1 .taken)))
 
 converted-size-requires : tie.Need-converted-size-requires
 converted-size-requires c κs =

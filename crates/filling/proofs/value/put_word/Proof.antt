@@ -73,7 +73,7 @@ returns : tie.Need-returns
 returns c =
     let s = c .before .before .before .before .before .before .before .before in
     let a = s .args in
-    value-refused (given s) (a .end - a .at) (a .at) (a .out .now) (a .write) OutOfRange (asked-refused (s .pre .0) (sym (answer (c .before)) ∙ not-true (c .before .word-fits .result) (c .if1 .taken)))
+    value-refused (given s) (a .end - a .at) (a .at) (a .out .now) (a .write) (OutOfRange 0) (asked-refused (s .pre .0) (sym (answer (c .before)) ∙ not-true (c .before .word-fits .result) (c .if1 .taken)))
 
 sub-if2 : tie.Need-sub-if2
 sub-if2 c = search needs
@@ -113,7 +113,7 @@ returns-4 : tie.Need-returns-4
 returns-4 c =
     let s = c .before .before .before .before .before in
     let a = s .args in
-    value-refused (given s) (a .end - a .at) (a .at) (a .out .now) (a .write) OutOfRange
+    value-refused (given s) (a .end - a .at) (a .at) (a .out .now) (a .write) (OutOfRange 0)
     (asked-refused (s .pre .0) (word-beyond (s .pre .0) (a .natural) (s .pre .1) (sym (c .before .before .to-word .ensures) ∙ c .enum-told .given .1)))
 
 returns-5 : tie.Need-returns-5

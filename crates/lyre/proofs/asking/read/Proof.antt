@@ -12,10 +12,11 @@ same-length c = search needs
 
 returns : tie.Need-returns
 returns c =
-    let s = c .before .before .before .before .read .ensures in
-    counts _ _ (omega (arith, same-length c, c .length .ensures, s .size-is, simp (length-append, length-drop) at (ap length (s .bytes-are))))
+    let l = c .before in
+    let s = l .before .before .before .before .read .ensures in
+    counts _ _ (omega (arith, same-length c, l .length .ensures, s .size-is, simp (length-append, length-drop) at (ap length (s .bytes-are))))
 
 pub read-spec : {M : Type 1} → statement M
 read-spec =
     tie.close
-    (tie.spec (λ c κs. search needs) (λ c κs. search needs) (λ c κs. search needs) same-length returns)
+    (tie.spec (λ c κs. search needs) (λ c κs. search needs) (λ c κs. search needs) (λ c κs. search needs) same-length returns)

@@ -56,17 +56,17 @@ returns c us t =
 enum-known-first-2 : tie.Need-enum-known-first-2 Inv-loop μ-loop
 enum-known-first-2 c = search needs
 
-sub-put-value : tie.Need-sub-put-value Inv-loop μ-loop
-sub-put-value c = let s = start (c .before) in ahead (c .before) (s .pre .2 .0) (s .pre .2 .1) .content .ordered
+sub-s : tie.Need-sub-s Inv-loop μ-loop
+sub-s c = let s = start (c .before) in ahead (c .before) (s .pre .2 .0) (s .pre .2 .1) .content .ordered
 
-part-put-value-start : tie.Need-part-put-value-start Inv-loop μ-loop
-part-put-value-start c =
+part-s-start : tie.Need-part-s-start Inv-loop μ-loop
+part-s-start c =
     let s = start (c .before) in
     let x = ahead (c .before) (s .pre .2 .0) (s .pre .2 .1) in
     omega (arith, x .content .ordered, x .content .inside)
 
-part-put-value-end : tie.Need-part-put-value-end Inv-loop μ-loop
-part-put-value-end c =
+part-s-end : tie.Need-part-s-end Inv-loop μ-loop
+part-s-end c =
     let s = start (c .before) in
     let x = ahead (c .before) (s .pre .2 .0) (s .pre .2 .1) in
     omega (arith, x .content .ordered, x .content .inside)
@@ -81,18 +81,25 @@ put-value-requires c κs =
 enum-known-put : tie.Need-enum-known-put Inv-loop μ-loop
 enum-known-put c = search needs
 
+with-needed-requires : tie.Need-with-needed-requires Inv-loop μ-loop
+with-needed-requires c κs =
+    let v = value (c .before .before .before .before .before) in
+    let s = start v in
+    let g = turn v .loop .inv (s .pre .2 .0) (s .pre .2 .1) in
+    ((s .args .w .size, value-asked (s .pre .0) g (ahead v (s .pre .2 .0) (s .pre .2 .1))), s .pre .0 .converts)
+
 same-length-2 : tie.Need-same-length-2 Inv-loop μ-loop
 same-length-2 c =
-    let v = value (c .before .before .before .before .before) in
+    let v = value (c .before .before .before .before .before .before) in
     let s = start v in
     let g = turn v .loop .inv (s .pre .2 .0) (s .pre .2 .1) .continues .same in
     omega arith
 
 returns-2 : tie.Need-returns-2 Inv-loop μ-loop
 returns-2 c us t =
-    let p = c .before .before .before .before .before in
+    let p = c .before .before .before .before .before .before in
     let v = value p in
-    convert-off (start v .pre .0) (turn v .loop .inv us t) (ahead v us t) (p .put-value .ensures) _ (c .before .put .given .1)
+    convert-off (start v .pre .0) (turn v .loop .inv us t) (ahead v us t) (p .put-value .ensures) (c .before .before .put .given .1) _ (c .with-needed .ensures)
 
 enum-known-put-2 : tie.Need-enum-known-put-2 Inv-loop μ-loop
 enum-known-put-2 c = search needs
@@ -127,11 +134,12 @@ put-converted-spec =
     same-length
     returns
     enum-known-first-2
-    sub-put-value
-    part-put-value-start
-    part-put-value-end
+    sub-s
+    part-s-start
+    part-s-end
     put-value-requires
     enum-known-put
+    with-needed-requires
     same-length-2
     returns-2
     enum-known-put-2
