@@ -7,7 +7,7 @@ use lib.ListN.{length, take, drop, length-append}
 use Rattle.rules.specs.Outcome.{Outcome, done, refused}
 use Rattle.rules.specs.Lists.{Bytes, bytes-of}
 use Rattle.rules.proofs.Only.{Only}
-use Rattle.rules.proofs.Numbered.{Numbered, not-zero}
+use Rattle.rules.proofs.Numbered.{Numbered, above-zero, not-zero}
 use Rattle.buffer.specs.Splice.{splice}
 use Rattle.buffer.proofs.Laws.{take-splice}
 use Rattle.rules.specs.Outcome as outcome
@@ -37,7 +37,7 @@ refusal-is x m e l = rw (e, l) refl
 
 pub refused-back : (o : Outcome Bytes) (entry exit : Bytes) (x : Refusal) → Settled o entry exit (Refused x) → (o ≡ refused (refusal x)) × (exit ≡ entry)
 unfolding bytes-of
-refused-back (done b) entry exit x s = absurd (let h = not-zero (refusal x) (x, refl) in omega (arith, h, s .number-is))
+refused-back (done b) entry exit x s = absurd (let h = above-zero x in omega (arith, h, s .number-is))
 refused-back (refused m) entry exit x s = (ap refused (sym (refusal-is x m (s .number-is) (s .needed-is))), s .bytes-are)
 
 -- The same of an update in place as C has it.
@@ -47,7 +47,7 @@ applied-done (done b) k entry exit used n s = record { number-is = refl; used-is
 applied-done (refused m) k entry exit used n s = absurd (let h = not-zero m k in omega (arith, h, s .number-is))
 
 pub applied-refused : (o : Outcome Bytes) (entry exit : Bytes) (used : ℕ) (x : Refusal) → Settled o entry exit (Refused x) → Applied o entry exit used used (refusal-number x)
-applied-refused (done b) entry exit used x s = absurd (let h = not-zero (refusal x) (x, refl) in omega (arith, h, s .number-is))
+applied-refused (done b) entry exit used x s = absurd (let h = above-zero x in omega (arith, h, s .number-is))
 applied-refused (refused m) entry exit used x s = record { number-is = s .number-is; used-is = refl; bytes-are = s .bytes-are }
 
 -- What is written lies in the slice, which is as long as before.

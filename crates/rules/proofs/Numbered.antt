@@ -1,14 +1,15 @@
--- A service is refused only with the number of a refusal of document 01, so the number 0 means done and nothing else: every test refuses with
--- such a number, and a `do` block keeps to the numbers of its steps.
+-- A service is refused only with the number of a refusal of document 01, so the number 0 means done and nothing else, and only with 9 a read says a
+-- length: every test refuses with such a number and no length, and a `do` block keeps to the refusals of its steps.
 use mathlib.Core.Path.{_≡_, refl, ap}
 use mathlib.Core.Bool.{Bool, true, false, not, _&&_}
+use mathlib.Core.Logic.{_⊎_, inl, inr}
 use mathlib.Core.List.{List, [], _∷_}
 use mathlib.Core.Option.{Option, none, some}
 use Prim.Native.Nat.{ℕ, zero, suc, _-_, _*_, _/_, _^_, _≤_, min}
 use native.Mathlib.Omega.{arith}
 use lib.Dec.{eqb, leb, ltb}
 use lib.ListN.{length, take}
-use Rattle.rules.specs.Outcome.{Outcome, done, refused, with-needed, needing}
+use Rattle.rules.specs.Outcome.{Outcome, done, refused, by, with-needed, needing}
 use Rattle.rules.specs.Limits.{longest-alpha, longest-items, longest-new-record}
 use Rattle.rules.specs.Lists.{Bytes, absent, all, cut, but-last, last}
 use Rattle.rules.specs.Outcome as rules
@@ -27,17 +28,24 @@ use Rattle.rules.proofs.Steps.{by-test}
 use Rattle.rules.proofs.Only.{Only, Is, only-bind, only-need, only-pick, only-option}
 use Rattle.rules.proofs.Refusals.{table-only, stored-only, elements-only}
 
--- A refusal with a number that document 01 gives to one.
+-- A refusal with a number that document 01 gives to one, and no length; and one of a read, where 9 may have a length.
 abbrev pub Numbered : rules.Refusal → Type 0
-Numbered n = (x : Refusal) × (n .number ≡ refusal-number x)
+Numbered n = (x : Refusal) × (n ≡ by (refusal-number x))
+
+abbrev pub Read-numbered : rules.Refusal → Type 0
+Read-numbered n = Numbered n ⊎ (n .number ≡ 9)
 
 by-one : {A : Type 0} (x : Refusal) (o : Outcome A) → Only (Is (refusal-number x)) o → Only Numbered o
 by-one x (done a) h = tt
-by-one x (refused n) h = (x, ap (λ (y : rules.Refusal). y .number) h)
+by-one x (refused n) h = (x, h)
 
-said-kept : {A : Type 0} (n : ℕ) (o : Outcome A) → Only Numbered o → Only Numbered (needing n o)
+in-read : {A : Type 0} (o : Outcome A) → Only Numbered o → Only Read-numbered o
+in-read (done a) h = tt
+in-read (refused n) h = inl h
+
+said-kept : {A : Type 0} (n : ℕ) (o : Outcome A) → Only Numbered o → Only Read-numbered (needing n o)
 said-kept n (done a) h = tt
-said-kept n (refused x) h = by-test (eqb (x .number) 9) (λ e. rw (e, with-needed) (OutOfRange n, refl)) (λ e. rw (e, with-needed) h)
+said-kept n (refused x) h = by-test (eqb (x .number) 9) (λ e. rw (e, with-needed) (inr refl)) (λ e. rw (e, with-needed) (inl h))
 
 -- ---- elements and uses
 
@@ -188,11 +196,11 @@ first-kept (suc n) bs = cut-kept (suc n) bs
 
 -- ---- items
 
-value-kept : (f g : Format) (n : ℕ) (bs : Bytes) → Only Numbered (read-value f g n bs)
+value-kept : (f g : Format) (n : ℕ) (bs : Bytes) → Only Read-numbered (read-value f g n bs)
 unfolding read-value
 value-kept f g n bs = said-kept (smallest-length f g bs) (converted-bytes f g n bs) (converted-kept f g n bs)
 
-item-kept : (ps : List Part) (r : Record) (x : Item) → Only Numbered (item-bytes ps r x)
+item-kept : (ps : List Part) (r : Record) (x : Item) → Only Read-numbered (item-bytes ps r x)
 unfolding item-bytes
 item-kept ps r (blanks-item n) = tt
 item-kept ps r (text-item t) = tt
@@ -200,12 +208,12 @@ item-kept ps r (group-count n) = tt
 item-kept ps r (value-count n i) = tt
 item-kept ps r (value-item p g n bare) = value-kept (p .field .format) g n _
 
-filled-kept : (ps : List Part) (r : Record) (room : ℕ) (xs : List Item) → Only Numbered (filled ps r room xs)
+filled-kept : (ps : List Part) (r : Record) (room : ℕ) (xs : List Item) → Only Read-numbered (filled ps r room xs)
 unfolding filled
 filled-kept ps r room [] = tt
-filled-kept ps r room (x ∷ xs) = only-bind Numbered (item-bytes ps r x) _ (item-kept ps r x)
-    (λ b. only-need Numbered (leb (length b) room) (BeyondBuffer, refl) _
-    (only-bind Numbered (filled ps r (room - length b) xs) _ (filled-kept ps r (room - length b) xs) (λ bs. tt)))
+filled-kept ps r room (x ∷ xs) = only-bind Read-numbered (item-bytes ps r x) _ (item-kept ps r x)
+    (λ b. only-need Read-numbered (leb (length b) room) (inl (BeyondBuffer, refl)) _
+    (only-bind Read-numbered (filled ps r (room - length b) xs) _ (filled-kept ps r (room - length b) xs) (λ bs. tt)))
 
 assignments-kept : (xs : List Item) (bs : Bytes) → Only Numbered (assignments xs bs)
 unfolding assignments
@@ -230,12 +238,12 @@ fitting-kept : (room : ℕ) (b : Bytes) → Only Numbered (fitting room b)
 unfolding fitting
 fitting-kept room b = only-need Numbered (leb (length b) (min room longest-new-record)) (NoRoom, refl) _ tt
 
-pub read-numbered : (t b f : Bytes) (room : ℕ) → Only Numbered (read t b f room)
+pub read-numbered : (t b f : Bytes) (room : ℕ) → Only Read-numbered (read t b f room)
 unfolding read
-read-numbered t b f room = only-bind Numbered (table t) _ (by-one BadTable (table t) (table-only t))
-    (λ es. only-bind Numbered (stored (parts es) b) _ (by-one BadRecord (stored (parts es) b) (stored-only (parts es) b))
-    (λ r. only-bind Numbered (elements f) _ (by-one BadSyntax (elements f) (elements-only f))
-    (λ xs. only-bind Numbered (meanings es [] [] xs) _ (meanings-kept es [] [] xs)
+read-numbered t b f room = only-bind Read-numbered (table t) _ (in-read (table t) (by-one BadTable (table t) (table-only t)))
+    (λ es. only-bind Read-numbered (stored (parts es) b) _ (in-read (stored (parts es) b) (by-one BadRecord (stored (parts es) b) (stored-only (parts es) b)))
+    (λ r. only-bind Read-numbered (elements f) _ (in-read (elements f) (by-one BadSyntax (elements f) (elements-only f)))
+    (λ xs. only-bind Read-numbered (meanings es [] [] xs) _ (in-read (meanings es [] [] xs) (meanings-kept es [] [] xs))
     (λ ms. filled-kept (parts es) r (min room longest-items) (items-read (parts es) (counts-in (parts es) r) ms)))))
 
 pub update-numbered : (t b f buffer : Bytes) (room : ℕ) → Only Numbered (update t b f buffer room)
@@ -251,7 +259,7 @@ empty-numbered t room = only-bind Numbered (table t) _ (by-one BadTable (table t
     (λ es. fitting-kept room (record-bytes (parts es) (empty-record (parts es))))
 
 -- No refusal has the number 0.
-above-zero : (x : Refusal) → 1 ≤ refusal-number x
+pub above-zero : (x : Refusal) → 1 ≤ refusal-number x
 above-zero BadTable = omega arith
 above-zero BadRecord = omega arith
 above-zero BadSyntax = omega arith
@@ -264,4 +272,16 @@ above-zero (OutOfRange n) = omega arith
 above-zero NoRoom = omega arith
 
 pub not-zero : (n : rules.Refusal) → Numbered n → 1 ≤ n .number
-not-zero n (x, e) = let h = above-zero x in omega (arith, h, e)
+not-zero n (x, e) = let h = above-zero x in omega (arith, h, ap (λ (y : rules.Refusal). y .number) e)
+
+pub read-not-zero : (n : rules.Refusal) → Read-numbered n → 1 ≤ n .number
+read-not-zero n (inl h) = not-zero n h
+read-not-zero n (inr e) = omega (arith, e)
+
+-- "All other answers carry 0 there.": those of an update and of the empty record, and those of a read but for 9.
+pub no-length : (n : rules.Refusal) → Numbered n → n .length ≡ 0
+no-length n (x, e) = ap (λ (y : rules.Refusal). y .length) e
+
+pub other-length : (n : rules.Refusal) → Read-numbered n → (n .number ≡ 9 → ⊥) → n .length ≡ 0
+other-length n (inl h) k = no-length n h
+other-length n (inr e) k = absurd (k e)
