@@ -1,5 +1,5 @@
-// The specimen job record of document 01: its cases, run by the compiled services. Each line has a call, and the number, the length and the
-// bytes of its answer.
+// The specimen job record of document 01: its cases, run by the compiled services. Each line has a call, and of its answer the number, the
+// length, the bytes, and the length that a value of a read needs.
 use lyrecanyon::Answer;
 ghost use Prim.Native.Nat.{_≤_};
 ghost use lib.ListN.{length};
@@ -30,9 +30,10 @@ fn show(name: &[u8], answer: Answer, written: &[u8])
     requires { ⌜ (length (now name) ≤ 32) × (length (now written) ≤ 32) × (answer-length answer ≤ length (now written)) ⌝ }
 {
     let used = answer.length();
-    let mut out = [0u8; 112];
+    let mut out = [0u8; 120];
     let at = buffer::put(name, &mut out, 0);
-    let end = protocol::put_answer(answer.number(), &written[..used], &mut out, at);
+    let needed = answer.needed() as usize;
+    let end = protocol::put_read_answer(answer.number(), &written[..used], needed, &mut out, at);
     lines::write(&out, end);
 }
 

@@ -14,23 +14,29 @@ slice-aggregate-put c = search needs
 put-requires : tie.Need-put-requires
 put-requires c κs = search needs
 
+needed-requires : tie.Need-needed-requires
+needed-requires c κs = search needs
+
+cast-needed : tie.Need-cast-needed
+cast-needed c = search needs
+
 number-requires : tie.Need-number-requires
 number-requires c κs = search needs
 
-slice-aggregate-put-answer : tie.Need-slice-aggregate-put-answer
-slice-aggregate-put-answer c = simp length-take (omega arith)
+slice-aggregate-put-read-answer : tie.Need-slice-aggregate-put-read-answer
+slice-aggregate-put-read-answer c = simp length-take (omega arith)
 
-slice-aggregate-put-answer-2 : tie.Need-slice-aggregate-put-answer-2
-slice-aggregate-put-answer-2 c = search needs
+slice-aggregate-put-read-answer-2 : tie.Need-slice-aggregate-put-read-answer-2
+slice-aggregate-put-read-answer-2 c = search needs
 
-put-answer-requires : tie.Need-put-answer-requires
-put-answer-requires c κs = simp length-take (omega arith, omega (arith, c .before .before .before .before .put .ensures .0))
+put-read-answer-requires : tie.Need-put-read-answer-requires
+put-read-answer-requires c κs = simp length-take (omega arith, omega arith, omega (arith, c .before .before .before .before .before .put .ensures .0))
 
 slice-aggregate-write : tie.Need-slice-aggregate-write
 slice-aggregate-write c = search needs
 
 write-requires : tie.Need-write-requires
-write-requires c κs = let e = simp length-take at (c .before .before .put-answer .ensures .short) in omega arith
+write-requires c κs = let e = simp length-take at (c .before .before .put-read-answer .ensures .short) in omega arith
 
 returns : tie.Need-returns
 returns c = search needs
@@ -42,10 +48,12 @@ show-spec =
     length-requires
     slice-aggregate-put
     put-requires
+    needed-requires
+    cast-needed
     number-requires
-    slice-aggregate-put-answer
-    slice-aggregate-put-answer-2
-    put-answer-requires
+    slice-aggregate-put-read-answer
+    slice-aggregate-put-read-answer-2
+    put-read-answer-requires
     slice-aggregate-write
     write-requires
     returns)
