@@ -63,7 +63,7 @@ fn from_the_last() -> Vec<Call> {
     ]
 }
 
-/// One field of a long record: the first value gets longer, so that all behind it moves; or what is behind it stays as it is.
+/// One field of a long record: the first value gets longer, so that all after it moves; or what is after it stays as it is.
 fn one_field() -> Vec<Call> {
     let before = |fields: &str| "1AV A0  ".to_string() + fields;
     let short = |rest: Vec<u8>| record(vec![vec![1], rest].into_iter());
@@ -74,7 +74,7 @@ fn one_field() -> Vec<Call> {
     let group = "1PG _0 P".to_string() + &fields(2, "B1");
     let values = [vec![191], vec![0xF1; 191]].concat().repeat(20);
     vec![
-        update("a value that moves all behind it", &before(MIXED), short(mixed_record()[5..].to_vec()), "AV.", long()),
+        update("a value that moves all after it", &before(MIXED), short(mixed_record()[5..].to_vec()), "AV.", long()),
         update(
             "one field before 191 occurrences of 20 fields",
             &before(&group),
@@ -93,7 +93,7 @@ fn one_field() -> Vec<Call> {
 }
 
 /// As many bare names as a format buffer holds. They name the values of four MU fields, and no two name the same, so that each is
-/// compared with all before it; and the same where the fields stand behind sixty others.
+/// compared with all before it; and the same where the fields stand after sixty others.
 fn bare_names() -> Vec<Call> {
     let names = ["QA", "QB", "QC", "QD"];
     let fields: String = names.iter().map(|name| format!("  1{} U1 M", name)).collect();

@@ -1,7 +1,12 @@
 //! Writes calls with every half byte as a sign, at every length of P and U, in each round: an update with the value at the
 //! field's own form, an update of a field of another form that it fits, and a read of a record that holds it.
 
-use super::{encode, hexadecimal, length_for, make_value, put_sign, table_bytes, Entry, Form, Random, Update, MOST_RECORD};
+use crate::bytes::{encode, hexadecimal};
+use crate::random::Random;
+use crate::records::MOST_RECORD;
+use crate::tables::{length_for, table_bytes, Entry, Form};
+use crate::updates::Update;
+use crate::values::{make_value, put_sign};
 use std::io::{self, Write};
 
 pub(crate) fn write_signs(random: &mut Random, rounds: u64, out: &mut impl Write) -> io::Result<()> {
