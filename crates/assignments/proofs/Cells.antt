@@ -4,25 +4,22 @@ use mathlib.Core.Path.{_≡_, refl, sym, ap, _∙_}
 use mathlib.Core.Bool.{Bool, true, false, cond, _&&_}
 use mathlib.Core.List.{List, [], _∷_, _++_, map}
 use mathlib.Core.Option.{none}
-use Prim.Native.Nat.{ℕ, zero, suc, _+_, _-_, _≤_, _<_, max}
+use Prim.Native.Nat.{ℕ, zero, suc, _+_, _-_, _<_, max}
 use native.Mathlib.Omega.{arith}
 use borrow.Author.Tests.{eqb-true, eqb-false, ltb-true}
 use lib.Dec.{eqb, ltb}
-use lib.ListN.{length, getD, take, drop-of-length-le}
-use lib.Seq.{slice, slice-cons, length-take-le}
+use lib.ListN.{length, getD}
 use Rattle.rules.specs.Limits.{highest-index}
 use Rattle.rules.specs.Outcome.{done}
 use Rattle.rules.specs.Lists.{Bytes, all, any, filter, join, maximum, run}
-use Rattle.rules.specs.Table.{Entry, Part}
-use Rattle.rules.specs.Use.{Place, Use, items-of, items}
-use Rattle.rules.specs.Update.{Assignment, assignments, same-place, assigned, to-field, bare-only, highest-value, highest-occurrence}
+use Rattle.rules.specs.Table.{Entry}
+use Rattle.rules.specs.Use.{Place, items-of, items}
+use Rattle.rules.specs.Update.{Assignment, assignments, same-place, assigned, to-field, bare-only, highest-value}
 use Rattle.rules.proofs.Steps.{by-test}
 use Rattle.rules.proofs.Named.{values-named, value-and-bare, assigned-named}
 use Rattle.rules.proofs.Runs.{run-agree}
 use Rattle.rules.proofs.Ranges.{assignments-taking}
-use Rattle.buffer.proofs.Cases.{by-order}
 use Rattle.tables.specs.Entries.{blank, is-group}
-use Rattle.tables.specs.Groups.{fields-in}
 use Rattle.tables.proofs.EntryFields.{name-at}
 use Rattle.uses.specs.Kept.{use-at, uses-kept}
 use Rattle.uses.specs.Meant.{use-meant}
@@ -30,17 +27,11 @@ use Rattle.assignments.specs.Notes.{chains, cell-chain, chained, highest
 use Rattle.assignments.specs.Answers.{chain-at, chains-for, highest-by, bare-by, value-by, Noted-by, Can-name, Tally, Names}
 use Rattle.assignments.specs.declared.Naming.{Naming}
 use Rattle.assignments.proofs.Giving.{places-once, takes-there}
-use Rattle.assignments.proofs.Heights.{join-none, greatest, greatest-none, greatest-more, greatest-append, greatest-map, greatest-join, greatest-three, filter-in, filter-out, unmet, met, all-greatest, any-greatest, maximum-zero, maximum-above, maximum-within, maximum-met, height, to-name, height-within, height-above, among, fields-height, no-height, first-field-height, first-group-height, part-height}
-use Rattle.assignments.proofs.UseNames.{cell-by, named-run, use-there, use-highest, use-bare, use-value, use-reached, use-small, use-met, use-some, use-most, use-in}
-
-map-none : {A B : Type 0} (g : A → B) (xs : List A) → map g xs ≡ [] → xs ≡ []
-map-none g [] e = refl
-map-none g (x ∷ xs) e = cc
-
-items-run : (g : ℕ → Use) (i n : ℕ) → items (run g i n) ≡ join (run (λ m. items-of (g m)) i n)
-unfolding items run join
-items-run g i zero = refl
-items-run g i (suc n) = ap (_++_ (items-of (g i))) (items-run g (suc i) n)
+use Rattle.assignments.proofs.Heights.{join-none, greatest, greatest-none, greatest-more, greatest-append, greatest-map, greatest-join, greatest-three, filter-in, filter-out, unmet, met, all-greatest, any-greatest, maximum-zero, maximum-above, maximum-within}
+use Rattle.assignments.proofs.SpanNames.{named-run}
+use Rattle.assignments.proofs.UseNames.{cell-by, use-there, use-highest, use-bare, use-value, use-reached, use-some, use-most, use-in}
+use Rattle.assignments.proofs.Splitting.{items-run}
+use Rattle.assignments.proofs.CellParts.{nothing-mapped}
 
 -- What is given to entry i in occurrence o, with whether it is bare: what the uses give to it, one after the other.
 cell-given : {es : List Entry} {f : Bytes} {kept : List ℕ} {count : ℕ} {list : List ℕ} {stage : Bytes} {ws : List Assignment}
@@ -80,7 +71,7 @@ pub none-given : {es : List Entry} {f : Bytes} {kept : List ℕ} {count : ℕ} {
     → Indexed es f kept count list stage ws → (i o : ℕ) → i < length es → is-group (getD es i blank .what) ≡ false
     → ((n : ℕ) → n < count → use-names (use-at kept n) i o ≡ false) → to-field ws (getD es i blank .name) o ≡ []
 none-given {es} {f} {kept} {count} x i o h g e =
-    map-none _ _ (cell-given x i o
+    nothing-mapped _ _ (cell-given x i o
     ∙ join-none _ 0 count (λ m a b. use-there es f (x .apart) i o h g (use-at kept m) (x .listed .uses m (omega arith)) (e m (omega arith))))
 
 pub none-assigned : {es : List Entry} {f : Bytes} {kept : List ℕ} {count : ℕ} {list : List ℕ} {stage : Bytes} {ws : List Assignment}
@@ -192,7 +183,7 @@ module _ {es : List Entry} {f : Bytes} {kept : List ℕ} {count : ℕ} {list : L
       ∙ any-greatest (λ n. value-by (use-at kept n) i o v) all-uses e
 
   -- Something is given where a use names the cell, and there alone.
-  given-some : (n : ℕ) → n < count → use-names (use-at kept n) i o ≡ true → to-field ws (getD es i blank .name) o ≡ [] → ⊥
+  pub given-some : (n : ℕ) → n < count → use-names (use-at kept n) i o ≡ true → to-field ws (getD es i blank .name) o ≡ [] → ⊥
   given-some n k t e =
       let z : greatest (λ a. a .place .value) (to-field ws (getD es i blank .name) o) ≡ 0 = ap (greatest _) e ∙ greatest-none _ in
       let a = use-some es f (use-at kept n) (x .listed .uses n k) i o t in
@@ -250,59 +241,3 @@ tally-names {es} {f} {kept} {count} {list} {stage} {ws} {i} {o} c by r r′ t e 
           (λ q. rw q (t .bare ∙ sym (given-bare x i o (c .entry) (c .field)) ∙ sym (some-bare (to-field ws n o) (λ z. eqb-false (r .highest) 0 q (u ∙ sym v ∙ z)))));
       each = λ k l. takes x i o (c .entry) (c .field) k (getD by k 0) (t .noted k l);
     }
-
--- The highest occurrence that is noted of a field is the highest that is named of it.
-noted-height : {es : List Entry} {f : Bytes} {kept : List ℕ} {count : ℕ} {list : List ℕ} {stage : Bytes} {ws : List Assignment}
-    → Indexed es f kept count list stage ws → (i : ℕ) → i < length es → is-group (getD es i blank .what) ≡ false
-    → height (to-name (getD es i blank .name)) ws ≡ highest-noted list i
-noted-height {es} {f} {kept} {count} {list} {stage} {ws} x i h g =
-    let n = getD es i blank .name in
-    let reach : ℕ → ℕ = λ m. use-reach (use-at kept m) i in
-    let most : height (to-name n) ws ≤ highest-noted list i = height-within n (highest-noted list i) ws (λ o l. none-given x i o h g (none-above x i o h g l)) in
-    let least : highest-noted list i ≤ height (to-name n) ws =
-    maximum-met reach 0 (count - 0)
-    (λ z. omega (arith, x .chains .highest i h g))
-    (λ m a b e. by-order 0 (reach m)
-    (λ q.
-    let t = use-met es f (use-at kept m) (x .listed .uses m (omega arith)) i q in
-    let r : reach m ≤ height (to-name n) ws = height-above n (reach m) ws (given-some x i (reach m) h g m (omega arith) t) in
-    omega (arith, x .chains .highest i h g))
-    (λ q. omega (arith, x .chains .highest i h g))) in
-    omega arith
-
--- That of some entries, from the last on.
-climb : {es : List Entry} {f : Bytes} {kept : List ℕ} {count : ℕ} {list : List ℕ} {stage : Bytes} {ws : List Assignment}
-    → Indexed es f kept count list stage ws → (c first end : ℕ) → end ≡ first + c → end ≤ length es
-    → maximum (run (highest-noted list) first c) ≡ fields-height (slice first end es) ws
-unfolding run maximum
-climb {es} {ws = ws} x zero first end s l =
-    let none : slice first end es ≡ [] = drop-of-length-le (take end es) {i = first} (rw (length-take-le end es l) (omega arith)) in
-    sym (ap (λ vs. fields-height vs ws) none ∙ no-height ws)
-climb {es} {list = list} {ws = ws} x (suc c) first end s l =
-    let rest = climb x c (suc first) end (omega arith) l in
-    let next = slice-cons first end es blank (omega arith) l in
-    let below = slice (suc first) end es in
-    by-test (is-group (getD es first blank .what))
-    (λ g.
-    let q : fields-height (slice first end es) ws ≡ fields-height below ws = ap (λ vs. fields-height vs ws) next ∙ first-group-height (getD es first blank) below ws g in
-    omega (arith, x .chains .groups first (omega arith) g))
-    (λ g.
-    let q : fields-height (slice first end es) ws ≡ max (height (to-name (getD es first blank .name)) ws) (fields-height below ws) =
-    ap (λ vs. fields-height vs ws) next ∙ first-field-height (getD es first blank) below ws g in
-    omega (arith, noted-height x first (omega arith) g))
-
--- The highest of the occurrences that are noted of some entries is the highest named of their fields.
-pub highest-named : {es : List Entry} {f : Bytes} {kept : List ℕ} {count : ℕ} {list : List ℕ} {stage : Bytes} {ws : List Assignment}
-    → Indexed es f kept count list stage ws → (first end : ℕ) → first ≤ end → end ≤ length es → (p : Part) → p .members ≡ fields-in (slice first end es)
-    → maximum (run (highest-noted list) first (end - first)) ≡ highest-occurrence ws p
-highest-named {list = list} {ws = ws} x first end h l p e =
-    climb x (end - first) first end (omega arith) l ∙ ap (λ fs. height (among fs) ws) (sym e) ∙ part-height ws p
-
-pub highest-small : {es : List Entry} {f : Bytes} {kept : List ℕ} {count : ℕ} {list : List ℕ} {stage : Bytes} {ws : List Assignment}
-    → Indexed es f kept count list stage ws → (i : ℕ) → i < length es → highest-noted list i ≤ highest-index
-highest-small {es} {f} {kept} {count} x i h =
-    by-test (is-group (getD es i blank .what))
-    (λ g. omega (arith, x .chains .groups i h g))
-    (λ g.
-    let m = maximum-within (λ n. use-reach (use-at kept n) i) highest-index 0 (count - 0) (λ n a b. use-small es f (use-at kept n) (x .listed .uses n (omega arith)) i) in
-    omega (arith, x .chains .highest i h g))

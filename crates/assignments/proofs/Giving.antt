@@ -29,7 +29,7 @@ use Rattle.uses.specs.declared.Use.the-variants as code
 use Rattle.assignments.specs.Notes.{bytes-given, Stands-in, Takes-at, On-stage, Listed, Indexed}
 use Rattle.assignments.specs.Answers.{Reads-back}
 use Rattle.assignments.proofs.Tabled.{listed-allowed}
-use Rattle.assignments.proofs.Splitting.{taking-reads, taking-places, uses-allowed, stage-after, stage-length}
+use Rattle.assignments.proofs.Given.{taking-reads, taking-places, uses-allowed, stage-after, stage-length}
 
 -- Each value that is given is read back.
 pub all-read-back : {es : List Entry} {f : Bytes} {kept : List ℕ} {count : ℕ} {list : List ℕ} {stage : Bytes} {ws : List Assignment}

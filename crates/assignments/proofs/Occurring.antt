@@ -15,8 +15,8 @@ use Rattle.uses.specs.Kept.{use-at, uses-kept}
 use Rattle.uses.specs.declared.Use.{Use as Kept}
 use Rattle.uses.specs.declared.Use.the-variants as code
 use Rattle.assignments.specs.Notes.{Listed}
-use Rattle.assignments.proofs.UseNames.{span-occurrences}
-use Rattle.assignments.proofs.Splitting.{taking-places}
+use Rattle.assignments.proofs.SpanNames.{span-occurrences}
+use Rattle.assignments.proofs.Given.{taking-places}
 
 abbrev Occurs : Place → Type 0
 Occurs p = 1 ≤ p .occurrence

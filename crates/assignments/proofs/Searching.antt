@@ -1,15 +1,13 @@
 -- Chains gone over: what is left of a chain answers as the whole, and each number of a chain is that of a use of values that belongs to it.
 use mathlib.Core.Path.{_≡_, refl, sym, ap, subst, _∙_}
 use mathlib.Core.Bool.{Bool, true, false, cond, _||_, true≢false}
-use mathlib.Core.Logic.{_⊎_, ⊎-elim}
 use mathlib.Core.List.{List, [], _∷_}
-use Prim.Native.Nat.{ℕ, zero, suc, _+_, _-_, _*_, _≤_, _<_, max}
+use Prim.Native.Nat.{ℕ, zero, suc, _+_, _-_, _*_, _≤_, _<_}
 use native.Mathlib.Omega.{arith}
-use native.Mathlib.Numerals.{add-one}
 use lib.Dec.{eqb, leb, ltb}
 use lib.ListN.{length, getD}
 use Rattle.rules.specs.Limits.{most-entries}
-use Rattle.rules.specs.Lists.{Bytes, filter, all, any, maximum, run}
+use Rattle.rules.specs.Lists.{Bytes, filter, all, any, run}
 use Rattle.rules.specs.Table.{Entry}
 use Rattle.rules.specs.Update.{Assignment}
 use Rattle.rules.proofs.Steps.{by-test, eqb-same}
@@ -20,10 +18,11 @@ use Rattle.uses.specs.declared.Span.{Span}
 use Rattle.uses.specs.declared.Use.{Use}
 use Rattle.uses.specs.declared.Use.the-variants as code
 use Rattle.uses.proofs.Numbers.{use-blanks, use-text, use-group-count, use-value-count, use-values}
-use borrow.Author.Tests.{eqb-true, eqb-false, ltb-true, ltb-false, eq-eqb, ne-eqb, le-leb, lt-leb}
+use borrow.Author.Tests.{eqb-true, ltb-true, ltb-false, eq-eqb, ne-eqb, le-leb, lt-leb}
 use Rattle.assignments.specs.Notes.{note-bound, chains, cell-chains, field-chains, group-chain, note-place, highest-noted, next-noted, cell-chain, use-chain, use-names, names-cell, chained, Indexed}
 use Rattle.assignments.specs.Answers.{Of-each, Found-in, chain-at, chains-for}
 use Rattle.assignments.proofs.Cells.{none-above, in-chains}
+use Rattle.assignments.proofs.Chained.{chained-end, chained-more, belongs-to, all-filter, none-of, chained-alike, none-below}
 
 -- A span names a cell by four tests.
 pub names-as : {s x : Span} (i o : ℕ) → s ≡ x → names-cell s i o ≡ names-cell x i o
@@ -98,67 +97,6 @@ module _ (kept : List ℕ) (n x : ℕ) (h : x < chains) (e : use-chain (use-at k
   pub chained-names : (i o : ℕ) → use-names (use-at kept n) i o ≡ names-cell (span-at kept (numbers-kept * n)) i o
   unfolding use-names
   chained-names i o = ap (λ (u : Use). use-names u i o) chained-use
-
--- What is left of a chain.
-chained-end : (list : List ℕ) (most : ℕ) → chained list most 0 ≡ []
-unfolding chained
-chained-end list zero = refl
-chained-end list (suc most) = refl
-
-chained-more : (list : List ℕ) (most n : ℕ) → 0 < n → 0 < most → chained list most n ≡ (n - 1) ∷ chained list (most - 1) (next-noted list (n - 1))
-unfolding chained
-chained-more list zero n h k = absurd (omega arith)
-chained-more list (suc most) zero h k = absurd (omega arith)
-chained-more list (suc most) (suc m) h k = let a : suc m - 1 ≡ m = omega arith in let b : suc most - 1 ≡ most = omega arith in rw (a, b)
-
-abbrev pub belongs-to : List ℕ → ℕ → ℕ → Bool
-belongs-to kept x n = eqb (use-chain (use-at kept n)) x
-
-all-filter : (p : ℕ → Bool) (xs : List ℕ) → all p (filter p xs) ≡ true
-unfolding all filter
-all-filter p [] = refl
-all-filter p (x ∷ xs) = by-test (p x) (λ e. rw (e, filter, all, e) (all-filter p xs)) (λ e. rw (e, filter) (all-filter p xs))
-
-by-order : (i m : ℕ) → (i ≡ m → ⊥) → i ≤ m → i < m
-by-order i m d h = by-test (ltb i m) (λ e. ltb-true i m e) (λ e. let k = ltb-false i m e in absurd (d (omega arith)))
-
-filter-nil : (q : ℕ → Bool) → filter q [] ≡ []
-unfolding filter
-filter-nil q = refl
-
-filter-in : (q : ℕ → Bool) (x : ℕ) (xs : List ℕ) → q x ≡ true → filter q (x ∷ xs) ≡ x ∷ filter q xs
-unfolding filter
-filter-in q x xs e = rw (e, filter)
-
-filter-out : (q : ℕ → Bool) (x : ℕ) (xs : List ℕ) → q x ≡ false → filter q (x ∷ xs) ≡ filter q xs
-unfolding filter
-filter-out q x xs e = rw (e, filter)
-
-not-either : (a b : Bool) → (a || b) ≡ false → (a ≡ false) × (b ≡ false)
-not-either true b e = absurd (true≢false e)
-not-either false b e = (refl, e)
-
-any-none : (p : ℕ → Bool) (x : ℕ) (xs : List ℕ) → any p (x ∷ xs) ≡ false → (p x ≡ false) × (any p xs ≡ false)
-unfolding any
-any-none p x xs e = not-either (p x) (any p xs) e
-
--- What none of the numbers that meet a test does, each that meets it does not.
-none-of : (p q : ℕ → Bool) (i n : ℕ) → any p (filter q (run (λ m. m) i n)) ≡ false → (m : ℕ) → i ≤ m → m < i + n → q m ≡ true → p m ≡ false
-unfolding run
-none-of p q i zero e m h k t = absurd (omega arith)
-none-of p q i (suc n) e m h k t =
-    let rest : List ℕ = run (λ m. m) (suc i) n in
-    by-test (eqb i m)
-    (λ y.
-    let d : i ≡ m = eqb-true i m y in
-    ap p (sym d) ∙ any-none p i (filter q rest) (sym (ap (any p) (filter-in q i rest (ap q d ∙ t))) ∙ e) .0)
-    (λ y.
-    let l = eqb-false i m y in
-    let later : i < m = by-order i m l h in
-    let e′ : any p (filter q rest) ≡ false = by-test (q i)
-    (λ z. any-none p i (filter q rest) (sym (ap (any p) (filter-in q i rest z)) ∙ e) .1)
-    (λ z. sym (ap (any p) (filter-out q i rest z)) ∙ e) in
-    none-of p q (suc i) n e′ m (omega arith) (omega arith) t)
 
 -- A walk stands before the use with one number less than n. No more uses are left than it may take.
 pub record Walk (kept list : List ℕ) (x count n : ℕ) : Type 0 where
@@ -269,56 +207,6 @@ module _ (kept list : List ℕ) (x i o : ℕ) (c : x < chains) where
           let (w, e) = s es f count stage ws ix in
           let k : names-at kept i o (n - 1) ≡ false = walk-names ix c w h i o ∙ t in
           (walk-next ix c w h, ap (λ b. b || any (names-at kept i o) (left (walk-next ix c w h))) (sym k) ∙ sym (ap (any (names-at kept i o)) (left-next ix c w h)) ∙ e)
-
--- The highest of some numbers: the higher of what was met and of those that are left.
-abbrev pub Climbing : (ℕ → ℕ) → ℕ → ℕ → ℕ → ℕ → Type 0
-Climbing g first end highest i = max highest (maximum (run g i (end - i))) ≡ maximum (run g first (end - first))
-
-run-first : (g : ℕ → ℕ) (i n m : ℕ) → n ≡ suc m → maximum (run g i n) ≡ max (g i) (maximum (run g (i + 1) m))
-unfolding run maximum
-run-first g i n m e = rw (e, add-one i)
-
-run-none : (g : ℕ → ℕ) (i n : ℕ) → n ≡ 0 → maximum (run g i n) ≡ 0
-unfolding run maximum
-run-none g i n e = rw e
-
-module _ (g : ℕ → ℕ) (first end : ℕ) where
-  pub climb-start : Climbing g first end 0 first
-  climb-start = omega arith
-
-  module _ (highest i : ℕ) (c : Climbing g first end highest i) where
-    pub climb-on : (r : ℕ) → i < end → r ≡ max highest (g i) → Climbing g first end r (i + 1)
-    climb-on r h e = let q = run-first g i (end - i) (end - (i + 1)) (omega arith) in omega (arith, c)
-
-    pub climb-end : end ≤ i → highest ≡ maximum (run g first (end - first))
-    climb-end h = let q = run-none g i (end - i) (omega arith) in omega (arith, c)
-
-pub higher : (highest v r : ℕ) → ((highest < v) × (r ≡ v)) ⊎ ((v ≤ highest) × (r ≡ highest)) → r ≡ max highest v
-higher highest v r w = ⊎-elim (λ u. omega (arith, u .0, u .1)) (λ u. omega (arith, u .0, u .1)) w
-
--- A chain is as long as it is, if enough may be taken.
-chained-alike : (list : List ℕ) (count : ℕ) → ((n : ℕ) → n < count → (next-noted list n ≤ count) × (0 < next-noted list n → suc n < next-noted list n))
-    → (a b n : ℕ) → n ≤ count → (0 < n → count < a + n) → (0 < n → count < b + n) → chained list a n ≡ chained list b n
-unfolding chained
-chained-alike list count f zero b zero h j k = sym (chained-end list b)
-chained-alike list count f zero b (suc m) h j k = absurd (let q = j (omega arith) in omega arith)
-chained-alike list count f (suc a) b zero h j k = sym (chained-end list b)
-chained-alike list count f (suc a) zero (suc m) h j k = absurd (let q = k (omega arith) in omega arith)
-chained-alike list count f (suc a) (suc b) (suc m) h j k =
-    let g = f m (omega arith) in
-    let p = j (omega arith) in
-    let q = k (omega arith) in
-    ap (_∷_ m) (chained-alike list count f a b (next-noted list m) (g .0) (λ l. let y = g .1 l in omega arith) (λ l. let y = g .1 l in omega arith))
-
-none-below : (q : ℕ → Bool) (i n m : ℕ) → i + n ≤ m → any (eqb m) (filter q (run (λ k. k) i n)) ≡ false
-unfolding run any
-none-below q i zero m h = ap (any (eqb m)) (filter-nil q)
-none-below q i (suc n) m h =
-    let rest : List ℕ = run (λ k. k) (suc i) n in
-    let later = none-below q (suc i) n m (omega arith) in
-    by-test (q i)
-    (λ e. ap (any (eqb m)) (filter-in q i rest e) ∙ rw (ne-eqb m i (λ d. omega (arith, d))) later)
-    (λ e. ap (any (eqb m)) (filter-out q i rest e) ∙ later)
 
 -- Two that the same list may hold know the same uses of values.
 known-both : {es es′ : List Entry} {f f′ : Bytes} {kept : List ℕ} {count count′ : ℕ} {list : List ℕ} {stage stage′ : Bytes} {ws ws′ : List Assignment}

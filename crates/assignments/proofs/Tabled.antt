@@ -3,7 +3,7 @@ use mathlib.Core.Path.{_≡_, sym, subst}
 use mathlib.Core.Bool.{true, false, true≢false}
 use mathlib.Core.List.{List}
 use Prim.Native.Nat.{ℕ}
-use lib.ListN.{length, getD}
+use lib.ListN.{getD}
 use Rattle.rules.specs.Lists.{Bytes}
 use Rattle.rules.specs.Values.{allowed}
 use Rattle.rules.specs.Table.{What, field, group, Entry}
@@ -13,7 +13,8 @@ use Rattle.tables.specs.Groups.{field-at, field-by}
 use Rattle.tables.proofs.EntryBytes.{Sound}
 use Rattle.tables.proofs.Tables.{valid-sound}
 use Rattle.assignments.specs.Notes.{Listed}
-use Rattle.assignments.proofs.Splitting.{Allowed-fields, Periodic-top}
+use Rattle.assignments.proofs.Given.{Allowed-fields}
+use Rattle.assignments.proofs.Splitting.{Periodic-top}
 
 sound-field : (n l : ℕ) (w : What) → Sound l w → is-group w ≡ false → allowed (field-by n w .format) (field-by n w .size) ≡ true
 unfolding field-by

@@ -23,7 +23,7 @@ use Rattle.assignments.specs.Notes.{chains, next-noted, names-cell, chai
 use Rattle.assignments.specs.Answers.{Named-by, Block, Begins-at, Noted-at, Can-fill, Filled, highest-by, bare-by, value-by, Noted-by, Tally, Can-name, Tallies, Names-all, chain-at, chains-for}
 use Rattle.assignments.specs.declared.Naming.{Naming}
 use Rattle.assignments.proofs.Searching.{Walk, left, walk-start, walk-next, walk-use, walk-names, left-start, left-none, left-next}
-use Rattle.assignments.proofs.Filling.{cell-span}
+use Rattle.assignments.proofs.CellSpans.{cell-span}
 use Rattle.assignments.proofs.Cells.{gone-over, tally-names}
 
 maximum-last : (g : ℕ → ℕ) (ns : List ℕ) (n : ℕ) → maximum (map g (ns ++ (n ∷ []))) ≡ max (maximum (map g ns)) (g n)

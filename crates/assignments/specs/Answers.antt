@@ -2,7 +2,7 @@
 use mathlib.Core.Path.{_≡_}
 use mathlib.Core.Bool.{Bool, true, false, cond, not, _&&_, _||_}
 use mathlib.Core.Logic.{_⊎_}
-use mathlib.Core.List.{List, [], _∷_, _++_, map}
+use mathlib.Core.List.{List, _++_, map}
 use Prim.Native.Nat.{ℕ, zero, suc, _+_, _-_, _*_, _≤_, _<_, max}
 use lib.Dec.{T, eqb, leb, ltb}
 use lib.ListN.{length, getD, set}
@@ -20,7 +20,7 @@ use Rattle.uses.specs.Kept.{numbers-kept, span-at, use-at, uses-kept}
 use Rattle.uses.specs.declared.Span.{Span}
 use Rattle.uses.specs.declared.Use.{Use}
 use Rattle.uses.specs.declared.Use.the-variants as code
-use Rattle.assignments.specs.Notes.{note-bound, field-chains, group-chain, highest-from, firsts-from, widths-from, note-place, highest-noted, first-noted, width-noted, next-noted, cell-chain, span-chain, use-names, use-chain, names-cell, chained, place-at, bytes-given, Stands-in, Takes-at, On-stage, Listed, Chained, Indexed, width-before}
+use Rattle.assignments.specs.Notes.{note-bound, field-chains, group-chain, highest-from, firsts-from, widths-from, note-place, highest-noted, first-noted, width-noted, next-noted, cell-chain, span-chain, use-names, names-cell, chained, place-at, bytes-given, Stands-in, Takes-at, On-stage, Listed, Chained, Indexed, width-before}
 use Rattle.assignments.specs.declared.Naming.{Naming}
 
 -- Value 1 of entry i in occurrence 1 is noted to stand at a place, unless one is noted already.

@@ -4,7 +4,7 @@
 use mathlib.Core.Path.{_≡_}
 use mathlib.Core.Bool.{Bool, true, false, cond, _&&_}
 use mathlib.Core.List.{List, [], _∷_, _++_, map}
-use mathlib.Core.Option.{Option, none, some}
+use mathlib.Core.Option.{none, some}
 use Prim.Native.Nat.{ℕ, zero, suc, _+_, _-_, _*_, _%_, _≤_, _<_}
 use lib.Dec.{T, eqb, leb, ltb}
 use lib.ListN.{length, getD, take}
@@ -18,7 +18,7 @@ use Rattle.rules.proofs.Ranges.{taking}
 use Rattle.rules.proofs.Digits.{Below}
 use Rattle.tables.specs.Entries.{Valid, entries-of, blank, is-group, size-of}
 use Rattle.tables.specs.Groups.{field-at}
-use Rattle.uses.specs.Kept.{numbers-kept, span-at, use-at, uses-kept, Good-uses}
+use Rattle.uses.specs.Kept.{numbers-kept, use-at, uses-kept, Good-uses}
 use Rattle.uses.specs.declared.Span.{Span}
 use Rattle.uses.specs.declared.Use.{Use}
 use Rattle.uses.specs.declared.Use.the-variants as code

@@ -7,6 +7,7 @@ use native.Mathlib.Omega.{arith}
 use lib.ListN.{length, getD, length-map, List·getD-map}
 use Rattle.rules.specs.Lists.{Bytes, but-last, last}
 use Rattle.rules.specs.Values.{halves}
+use Rattle.rules.proofs.Lengths.{length-halves, length-but-last}
 use Rattle.decimals.specs.Decimals.{digits-of, sign-half, places}
 
 halves-high : (s : List ℕ) (i m : ℕ) → m ≡ 2 * i → getD (halves s) m 0 ≡ getD s i 0 / 16
@@ -27,23 +28,12 @@ halves-low (b ∷ s) zero (suc (suc m)) e = absurd (omega arith)
 halves-low (b ∷ s) (suc i) (suc zero) e = absurd (omega arith)
 halves-low (b ∷ s) (suc i) (suc (suc m)) e = halves-low s i m (omega arith)
 
-length-halves : (s : List ℕ) → length (halves s) ≡ 2 * length s
-unfolding halves
-length-halves [] = refl
-length-halves (b ∷ s) = omega (arith, length-halves s)
-
 but-last-at : (l : List ℕ) (i : ℕ) → i + 1 < length l → getD (but-last l) i 0 ≡ getD l i 0
 unfolding but-last
 but-last-at [] i h = absurd (omega arith)
 but-last-at (x ∷ []) i h = absurd (omega arith)
 but-last-at (x ∷ y ∷ l) zero h = refl
 but-last-at (x ∷ y ∷ l) (suc i) h = but-last-at (y ∷ l) i (omega arith)
-
-length-but-last : (l : List ℕ) → length (but-last l) ≡ length l - 1
-unfolding but-last
-length-but-last [] = refl
-length-but-last (x ∷ []) = refl
-length-but-last (x ∷ y ∷ l) = omega (arith, length-but-last (y ∷ l))
 
 last-at : (l : List ℕ) (i : ℕ) → i + 1 ≡ length l → last l ≡ getD l i 0
 unfolding last

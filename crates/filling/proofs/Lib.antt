@@ -4,3 +4,4 @@ pub mod Singles
 pub mod Nulls
 pub mod Held
 pub mod Smallest
+pub mod Beyond

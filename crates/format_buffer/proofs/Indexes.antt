@@ -123,15 +123,15 @@ module _ (x : Indexing) (bs : Bytes) where
       range-to-number h = rw (e, q, h) refl
 
       module _ (h : y .scope ≡ written-scope → ⊥) where
-        range-behind : range-to (indexing-of x) bs ≡ (need (eqb (x .from) 1) 3 >>= λ _. done (reaching all-scope (range 1 1), cs))
+        range-after : range-to (indexing-of x) bs ≡ (need (eqb (x .from) 1) 3 >>= λ _. done (reaching all-scope (range 1 1), cs))
         unfolding range-to reaching
-        range-behind = let l = only-last y h (index-kind bs (indexing-of y, cs) q) in rw (e, q, l) refl
+        range-after = let l = only-last y h (index-kind bs (indexing-of y, cs) q) in rw (e, q, l) refl
 
         pub range-to-last : x .from ≡ 1 → range-to (indexing-of x) bs ≡ done (reaching all-scope (range 1 1), cs)
-        range-to-last o = range-behind ∙ rw (eq-eqb _ _ o) refl
+        range-to-last o = range-after ∙ rw (eq-eqb _ _ o) refl
 
         pub range-to-other : (x .from ≡ 1 → ⊥) → range-to (indexing-of x) bs ≡ refused (by 3)
-        range-to-other o = range-behind ∙ rw (ne-eqb _ _ o) refl
+        range-to-other o = range-after ∙ rw (ne-eqb _ _ o) refl
 
 -- An index, or a range where a hyphen follows.
 pub range-end-nothing : (x : rules.Indexing) (f : Bytes) (at upto : ℕ) → at ≡ upto → range-end x (part f at upto) ≡ done (x, part f at upto)

@@ -31,26 +31,26 @@ module _ (n : ℕ) (f : Bytes) (at upto : ℕ) where
   number-large e h = rw (part-nil f at upto (omega arith), lt-leb _ _ h) refl
 
   module _ (h : at < upto) (k : upto ≤ length f) where
-    number-behind : after-number n (part f at upto)
+    number-after : after-number n (part f at upto)
         ≡ (need (byte-alone letter-X (part f at upto) && leb 1 n && leb n longest-blanks) 3 >>= λ _. done (element (blanks n)))
     unfolding after-number byte-alone
-    number-behind = rw (part-cons f at upto h k) refl
+    number-after = rw (part-cons f at upto h k) refl
 
     pub number-zero : n ≡ 0 → after-number n (part f at upto) ≡ refused (by 3)
-    number-zero e = number-behind ∙ rw e (simp and-false)
+    number-zero e = number-after ∙ rw e (simp and-false)
 
     pub number-long : longest-blanks < n → after-number n (part f at upto) ≡ refused (by 3)
-    number-long e = number-behind ∙ rw (lt-leb _ _ e) (simp and-false)
+    number-long e = number-after ∙ rw (lt-leb _ _ e) (simp and-false)
 
     pub number-blanks : byte-alone letter-X (part f at upto) ≡ true → 1 ≤ n → n ≤ longest-blanks
         → after-number n (part f at upto) ≡ done (element (blanks n))
-    number-blanks t lo hi = number-behind ∙ rw (t, le-leb _ _ lo, le-leb _ _ hi) refl
+    number-blanks t lo hi = number-after ∙ rw (t, le-leb _ _ lo, le-leb _ _ hi) refl
 
     pub number-only : only-element (after-number n (part f at upto))
-    number-only q e = from-need (byte-alone letter-X (part f at upto) && leb 1 n && leb n longest-blanks) 3 _ (sym number-behind ∙ e) λ _ l. (blanks n, sym (done-inj l))
+    number-only q e = from-need (byte-alone letter-X (part f at upto) && leb 1 n && leb n longest-blanks) 3 _ (sym number-after ∙ e) λ _ l. (blanks n, sym (done-inj l))
 
     pub number-other : byte-alone letter-X (part f at upto) ≡ false → after-number n (part f at upto) ≡ refused (by 3)
-    number-other t = number-behind ∙ rw t refl
+    number-other t = number-after ∙ rw t refl
 
 -- A test of every byte, one at a time.
 no-apostrophe-cons : (b : ℕ) (bs : Bytes) → no-apostrophe (b ∷ bs) ≡ (not (eqb b apostrophe) && no-apostrophe bs)
@@ -73,32 +73,32 @@ module _ (f : Bytes) (at upto : ℕ) (h : at < upto) (k : upto ≤ length f) whe
   abbrev closed : Bool
   closed = eqb (getD f (upto - 1) 0) apostrophe && no-apostrophe (part f at (upto - 1))
 
-  text-behind : text-piece (part f at upto)
+  text-after : text-piece (part f at upto)
       ≡ (need closed 3 >>= λ _.
       need (leb 1 (upto - 1 - at) && leb (upto - 1 - at) longest-text) 3 >>= λ _.
       done (element (quoted (part f at (upto - 1)))))
   unfolding text-piece
-  text-behind =
+  text-after =
       rw (part-snoc f at upto h k, last-snoc, but-last-snoc, length-part f at (upto - 1) (omega arith) (omega arith)) refl
 
   pub text-unclosed : (getD f (upto - 1) 0 ≡ apostrophe → ⊥) → text-piece (part f at upto) ≡ refused (by 3)
-  text-unclosed e = text-behind ∙ rw (ne-eqb _ _ e) refl
+  text-unclosed e = text-after ∙ rw (ne-eqb _ _ e) refl
 
   pub text-empty : upto - 1 ≡ at → text-piece (part f at upto) ≡ refused (by 3)
   text-empty e =
       let z : upto - 1 - at ≡ 0 = omega arith in
-      text-behind ∙ rw z (still-refused closed 3)
+      text-after ∙ rw z (still-refused closed 3)
 
   pub text-long : longest-text < upto - 1 - at → text-piece (part f at upto) ≡ refused (by 3)
-  text-long l = text-behind ∙ rw (lt-leb _ _ l, and-false) (still-refused closed 3)
+  text-long l = text-after ∙ rw (lt-leb _ _ l, and-false) (still-refused closed 3)
 
   module _ (e : getD f (upto - 1) 0 ≡ apostrophe) where
     pub text-broken : no-apostrophe (part f at (upto - 1)) ≡ false → text-piece (part f at upto) ≡ refused (by 3)
-    text-broken t = text-behind ∙ rw (t, and-false) refl
+    text-broken t = text-after ∙ rw (t, and-false) refl
 
     pub text-is : no-apostrophe (part f at (upto - 1)) ≡ true → 1 ≤ upto - 1 - at → upto - 1 - at ≤ longest-text
         → text-piece (part f at upto) ≡ done (element (quoted (part f at (upto - 1))))
-    text-is t lo hi = text-behind ∙ rw (t, eq-eqb _ _ e, le-leb _ _ lo, le-leb _ _ hi) refl
+    text-is t lo hi = text-after ∙ rw (t, eq-eqb _ _ e, le-leb _ _ lo, le-leb _ _ hi) refl
 
 -- A piece of one byte.
 module _ (b : ℕ) where

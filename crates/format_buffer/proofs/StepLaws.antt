@@ -19,7 +19,7 @@ use Rattle.rules.proofs.Refusals.{texts-only, assembled-only}
 use Rattle.format_buffer.specs.Elements.{optional, written-scope, element-of, named-of, count-of, sound, shortest-element, with-length, with-format}
 use Rattle.format_buffer.specs.Pieces.{piece-of}
 use Rattle.format_buffer.specs.Texts.{pending, elements-first, rest, Looked}
-use Rattle.format_buffer.specs.Syntax.{parsed, element-before, by-step, elements-behind, Stepped, then-format, then-completed}
+use Rattle.format_buffer.specs.Syntax.{parsed, element-before, by-step, elements-after, Stepped, then-format, then-completed}
 use Rattle.format_buffer.specs.declared.Named.{Named}
 use Rattle.format_buffer.specs.declared.Count.{Count}
 use Rattle.format_buffer.specs.declared.Element.{Element}
@@ -70,20 +70,20 @@ name-at-length n size l = ap (λ b. named-of n size b) (optional-none (n .letter
 
 -- What follows a place, by a period or a comma there.
 module _ (f : Bytes) (stop : ℕ) where
-  pub behind-last : eqb (getD f stop 0) period ≡ true → elements-behind f stop ≡ done []
-  unfolding elements-behind
-  behind-last e = rw (e, elements-behind) refl
+  pub after-last : eqb (getD f stop 0) period ≡ true → elements-after f stop ≡ done []
+  unfolding elements-after
+  after-last e = rw (e, elements-after) refl
 
-  pub behind-more : eqb (getD f stop 0) period ≡ false → elements-behind f stop ≡ parsed (drop (stop + 1) f)
-  unfolding elements-behind
-  behind-more e = rw (e, elements-behind) refl
+  pub after-more : eqb (getD f stop 0) period ≡ false → elements-after f stop ≡ parsed (drop (stop + 1) f)
+  unfolding elements-after
+  after-more e = rw (e, elements-after) refl
 
-  rest-behind : (rest f stop >>= settle) ≡ elements-behind f stop
+  rest-after : (rest f stop >>= settle) ≡ elements-after f stop
   unfolding settled absent
-  rest-behind =
+  rest-after =
       by-test (eqb (getD f stop 0) period)
-      (λ e. ap (λ m. m >>= settle) (rest-period f stop e) ∙ sym (behind-last e))
-      (λ e. ap (λ m. m >>= settle) (rest-comma f stop e) ∙ sym (behind-more e ∙ parsed-pending (drop (stop + 1) f)))
+      (λ e. ap (λ m. m >>= settle) (rest-period f stop e) ∙ sym (after-last e))
+      (λ e. ap (λ m. m >>= settle) (rest-comma f stop e) ∙ sym (after-more e ∙ parsed-pending (drop (stop + 1) f)))
 
   pub first-period : getD f stop 0 ≡ period → elements-first (rest f stop)
   unfolding settled absent
@@ -95,11 +95,11 @@ module _ (f : Bytes) (stop : ℕ) where
 -- An element that neither a length nor a format follows, and the elements after it.
 module _ (f : Bytes) (end : ℕ) where
   at-first : (k : Pending → Outcome (List rules.Element)) (x : rules.Element) → ((es : List rules.Element) → k (both none none es) ≡ done (x ∷ es))
-      → elements-first (rest f end) → (rest f end >>= k) ≡ element-before x (elements-behind f end)
-  at-first k x h s = take-elements k x h (rest f end) s ∙ ap (element-before x) (rest-behind f end)
+      → elements-first (rest f end) → (rest f end >>= k) ≡ element-before x (elements-after f end)
+  at-first k x h s = take-elements k x h (rest f end) s ∙ ap (element-before x) (rest-after f end)
 
-  at-settled : (x : rules.Element) → (rest f end >>= λ p. need (settled p) 3 >>= λ _. done (x ∷ p .elements)) ≡ element-before x (elements-behind f end)
-  at-settled x = settle-before x (rest f end) ∙ ap (element-before x) (rest-behind f end)
+  at-settled : (x : rules.Element) → (rest f end >>= λ p. need (settled p) 3 >>= λ _. done (x ∷ p .elements)) ≡ element-before x (elements-after f end)
+  at-settled x = settle-before x (rest f end) ∙ ap (element-before x) (rest-after f end)
 
 -- A name at a length, and a name alone: the step from what follows each.
 abbrev at-length : Named → ℕ → Pending → Outcome (List rules.Element)
@@ -109,11 +109,11 @@ abbrev name-alone : Named → Option ℕ → Option ℕ → Pending → Outcome 
 name-alone n l b p = completed (named-of n l b) p >>= λ x. done (x ∷ p .elements)
 
 module _ (f : Bytes) (end : ℕ) (n : Named) where
-  pub format-first : (size : ℕ) → elements-first (rest f end) → then-format f end n size ≡ element-before (named-of n (some size) none) (elements-behind f end)
+  pub format-first : (size : ℕ) → elements-first (rest f end) → then-format f end n size ≡ element-before (named-of n (some size) none) (elements-after f end)
   unfolding then-format absent
   format-first size s = at-first f end (at-length n size) (named-of n (some size) none) (λ es. refl) s
 
-  pub name-first : (l b : Option ℕ) → elements-first (rest f end) → then-completed f end (named-of n l b) ≡ element-before (named-of n none none) (elements-behind f end)
+  pub name-first : (l b : Option ℕ) → elements-first (rest f end) → then-completed f end (named-of n l b) ≡ element-before (named-of n none none) (elements-after f end)
   unfolding then-completed completed
   name-first l b s = at-first f end (name-alone n l b) (named-of n none none) (λ es. refl) s
 
@@ -132,7 +132,7 @@ module _ (f : Bytes) (end : ℕ) (n : Named) where
 
     module _ (end′ : ℕ) where
       pub format-format : (size b : ℕ) → pending (drop (end + 1) f) ≡ (rest f end′ >>= put-before (rules.format-piece b))
-          → then-format f end n size ≡ element-before (named-of n (some size) (some b)) (elements-behind f end′)
+          → then-format f end n size ≡ element-before (named-of n (some size) (some b)) (elements-after f end′)
       unfolding then-format absent
       format-format size b w =
           let x = named-of n (some size) (some b) in
@@ -150,7 +150,7 @@ module _ (f : Bytes) (end : ℕ) (n : Named) where
             followed w (name-alone n l b) ∙ put-length (name-alone n l b) size (λ p. named-of n (some size) (p .format)) (λ p. refl) (rest f end′)
 
         pub name-format : (c : ℕ) → pending (drop (end + 1) f) ≡ (rest f end′ >>= put-before (rules.format-piece c))
-            → then-completed f end (named-of n l b) ≡ element-before (named-of n none (some c)) (elements-behind f end′)
+            → then-completed f end (named-of n l b) ≡ element-before (named-of n none (some c)) (elements-after f end′)
         unfolding then-completed completed
         name-format c w =
             let x = named-of n none (some c) in
@@ -168,7 +168,7 @@ completed-count : (c : Count) (p : Pending) → completed (count-of c) p ≡ (ne
 unfolding count-of completed
 completed-count c p = by-test (eqb (c .scope) written-scope) (λ e. rw e refl) (λ e. rw e refl)
 
-pub only-settled : (f : Bytes) (end : ℕ) (e : Element) → nameless e → then-completed f end (element-of f e) ≡ element-before (element-of f e) (elements-behind f end)
+pub only-settled : (f : Bytes) (end : ℕ) (e : Element) → nameless e → then-completed f end (element-of f e) ≡ element-before (element-of f e) (elements-after f end)
 unfolding then-completed completed
 only-settled f end (code.Blanks n) h = completed-settled (rules.blanks n) (λ p. refl) (rest f end) ∙ at-settled f end (rules.blanks n)
 only-settled f end (code.Text from upto) h =
@@ -213,9 +213,9 @@ pub is-done-before : (x : rules.Element) (o : Outcome (List rules.Element)) → 
 is-done-before x (done es) = refl
 is-done-before x (refused n) = refl
 
-pub stepped-at : {f : Bytes} {at stop : ℕ} {o : Outcome (List rules.Element)} {y : rules.Element} {e : Element} → o ≡ element-before y (elements-behind f stop)
+pub stepped-at : {f : Bytes} {at stop : ℕ} {o : Outcome (List rules.Element)} {y : rules.Element} {e : Element} → o ≡ element-before y (elements-after f stop)
     → y ≡ element-of f e → at + shortest-element ≤ stop → stop < length f → sound f e → Stepped f at o (At e stop)
-stepped-at {f} {at} {stop} h q a b s = record { answer = h ∙ ap (λ x. element-before x (elements-behind f stop)) q; place = (a, b, s) }
+stepped-at {f} {at} {stop} h q a b s = record { answer = h ∙ ap (λ x. element-before x (elements-after f stop)) q; place = (a, b, s) }
 
 -- A name to which a length or a format was given.
 pub name-given-length : (f : Bytes) (n : Named) {m : Named} {size : ℕ} → m ≡ with-length n size → n .lettered ≡ false
@@ -235,15 +235,15 @@ module _ {f : Bytes} {at : ℕ} {r : Step} (w : Stepped f at (parsed (drop at f)
   pub step-known : (e : Element) (stop : ℕ) → r ≡ At e stop → (at + shortest-element ≤ stop) × (stop < length f) × sound f e
   step-known e stop q = rw q at (w .place)
 
-  good-at : (e : Element) (stop : ℕ) → r ≡ At e stop → is-done (elements-behind f stop) ≡ is-done (parsed (drop at f))
-  good-at e stop q = sym (ap is-done (w .answer ∙ ap (by-step f) q) ∙ is-done-before (element-of f e) (elements-behind f stop))
+  good-at : (e : Element) (stop : ℕ) → r ≡ At e stop → is-done (elements-after f stop) ≡ is-done (parsed (drop at f))
+  good-at e stop q = sym (ap is-done (w .answer ∙ ap (by-step f) q) ∙ is-done-before (element-of f e) (elements-after f stop))
 
   pub good-more : (e : Element) (stop : ℕ) → r ≡ At e stop → eqb (getD f stop 0) period ≡ false
       → is-done (parsed (drop (stop + 1) f)) ≡ is-done (parsed (drop at f))
-  good-more e stop q h = ap is-done (sym (behind-more f stop h)) ∙ good-at e stop q
+  good-more e stop q h = ap is-done (sym (after-more f stop h)) ∙ good-at e stop q
 
   pub good-last : (e : Element) (stop : ℕ) → r ≡ At e stop → eqb (getD f stop 0) period ≡ true → true ≡ is-done (parsed (drop at f))
-  good-last e stop q h = ap is-done (sym (behind-last f stop h)) ∙ good-at e stop q
+  good-last e stop q h = ap is-done (sym (after-last f stop h)) ∙ good-at e stop q
 
   pub good-bad : r ≡ Bad → false ≡ is-done (parsed (drop at f))
   good-bad q = sym (ap is-done (w .answer ∙ ap (by-step f) q))

@@ -31,12 +31,12 @@ abbrev pub element-before : rules.Element → Outcome (List rules.Element) → O
 element-before e o = o >>= λ es. done (e ∷ es)
 
 -- The elements after the comma or the period at a place.
-unfoldable pub elements-behind : Bytes → ℕ → Outcome (List rules.Element)
-elements-behind f stop = elim (eqb (getD f stop 0) period) [ true ↦ done [] | false ↦ parsed (drop (stop + 1) f) ]
+unfoldable pub elements-after : Bytes → ℕ → Outcome (List rules.Element)
+elements-after f stop = elim (eqb (getD f stop 0) period) [ true ↦ done [] | false ↦ parsed (drop (stop + 1) f) ]
 
 -- The elements from a place on, by a step of the code: an element and those after it.
 abbrev pub by-step : Bytes → Step → Outcome (List rules.Element)
-by-step f (At e stop) = element-before (element-of f e) (elements-behind f stop)
+by-step f (At e stop) = element-before (element-of f e) (elements-after f stop)
 by-step f Bad = refused (by 3)
 
 -- The comma or period after an element stands in the format, after the characters of the element, and the element's numbers are as

@@ -14,7 +14,7 @@ ghost use lib.ListN.{length};
 ghost use Rattle.rules.specs.Characters.{digit, digit-0};
 ghost use Rattle.rules.specs.Format.{number-first, index-first, range-to, range-end};
 ghost use Rattle.format_buffer.specs.Part.{part};
-ghost use Rattle.format_buffer.specs.Elements.{number-bound, indexing-of, Small-indexing};
+ghost use Rattle.format_buffer.specs.Elements.{indexing-of, Small-indexing};
 ghost use Rattle.format_buffer.specs.Numbers.{Numbered, Indexes-read, byte-alone};
 
 // A number, and the place after it.

@@ -70,21 +70,21 @@ module _ (es : List Entry) (sound : All (λ e. Sound (e .level) (e .what)) es) w
       let o = spread-in-order inside (f .multiple) last os vs s h in
       rw (← done-inj k₂) (((rw (asked-field f l g a h₂) m, asked-allowed f l g a h₂), tt), o .0, o .1)
 
-  group-ok : (x : Found) (os vs : Option Range) (l g : Option ℕ) (u : Use) → ((f : Field) → Among (x .entry ∷ x .behind) f → Among es f) → use-of-group x os vs l g ≡ done u → Use-ok es u
+  group-ok : (x : Found) (os vs : Option Range) (l g : Option ℕ) (u : Use) → ((f : Field) → Among (x .entry ∷ x .after) f → Among es f) → use-of-group x os vs l g ≡ done u → Use-ok es u
   unfolding use-of-group
   group-ok x os vs l g u m q =
-      let fs = fields-below (x .entry .level) (x .behind) in
+      let fs = fields-below (x .entry .level) (x .after) in
       from-need (absent l && absent g && all plain fs) 5 _ q λ t k.
       from-bind (spread (x .inside) false 0 os vs) _ k λ s h k₂.
       let o = spread-in-order (x .inside) false 0 os vs s h in
-      rw (← done-inj k₂) (stored-asked fs (all-map (Among (x .behind)) _ (λ f i. m f (inr i)) fs (below-among (x .entry .level) (x .behind))), o .0, o .1)
+      rw (← done-inj k₂) (stored-asked fs (all-map (Among (x .after)) _ (λ f i. m f (inr i)) fs (below-among (x .entry .level) (x .after))), o .0, o .1)
 
-  series-ok : (x : Found) (n : ℕ) (u : Use) → ((f : Field) → Among (x .entry ∷ x .behind) f → Among es f) → use-of-series x n ≡ done u → Use-ok es u
+  series-ok : (x : Found) (n : ℕ) (u : Use) → ((f : Field) → Among (x .entry ∷ x .after) f → Among es f) → use-of-series x n ≡ done u → Use-ok es u
   unfolding use-of-series in-order
   series-ok x n u m q =
       from-need (not (x .inside)) 5 _ (not-group (x .entry .what) _ q) λ t k.
-      from-bind (fields-to n (x .entry ∷ x .behind)) _ k λ fs g k₂.
-      rw (← done-inj k₂) (stored-asked fs (all-map (Among (x .entry ∷ x .behind)) _ m fs (to-among n (x .entry ∷ x .behind) fs g)), tt, tt)
+      from-bind (fields-to n (x .entry ∷ x .after)) _ k λ fs g k₂.
+      rw (← done-inj k₂) (stored-asked fs (all-map (Among (x .entry ∷ x .after)) _ m fs (to-among n (x .entry ∷ x .after) fs g)), tt, tt)
 
   use-ok : (ls : Indexes) (x : Element) (u : Use) → use-of es ls x ≡ done u → Use-ok es u
   unfolding use-of find

@@ -126,7 +126,7 @@ unfolding names
 group-find before [] d n m = absurd m
 group-find before (e ∷ es) d n m = from-differ (e .name) (names es) d λ v r.
     ⊎-elim
-    (λ i. (record { entry = e; inside = is-inside before e; behind = es }, find-here before n e es (ap (λ k. eqb k n) (i .0) ∙ eqb-same n), i .1))
+    (λ i. (record { entry = e; inside = is-inside before e; after = es }, find-here before n e es (ap (λ k. eqb k n) (i .0) ∙ eqb-same n), i .1))
     (λ i.
     let (x, h, q) = group-find (is-inside before e) es r n i in
     (x, find-skip before n e es (ne-eqb (e .name) n (group-avoids (e .name) es n v i)) ∙ h, q))

@@ -25,7 +25,7 @@ const UPDATE: usize = 6;
 
 const EMPTY: usize = 3;
 
-// Whether there are so many words, or two more, which are `-o` and a file.
+// Whether the command has its words alone, or `-o` and a file too.
 fn has_file(words: usize, more: usize) -> bool {
     let n = os::arg_count();
     if n == words {

@@ -2,8 +2,7 @@
 use crate::hexadecimal;
 use crate::plain;
 use crate::words;
-ghost use Prim.Native.Nat.{_+_, _≤_};
-ghost use lib.ListN.{length};
+ghost use Prim.Native.Nat.{_+_};
 
 // The room for a path, which leaves enough for the new file's.
 const PATH: usize = 4000;

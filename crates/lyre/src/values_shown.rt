@@ -6,7 +6,6 @@ use crate::hexadecimal;
 use crate::letters;
 use crate::plain;
 ghost use Prim.Native.Nat.{_≤_, _<_};
-ghost use mathlib.Core.Path.{_≡_};
 ghost use lib.ListN.{length};
 ghost use Rattle.tables.specs.Entries.{Valid, entries-of};
 

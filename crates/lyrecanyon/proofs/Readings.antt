@@ -1,13 +1,10 @@
 -- Read is refused by its table and its record in this order, and else it is the items of its format in the buffer, within 32,767 bytes. What is made in less room is made in more, and is refused so too, unless for want of room.
 use mathlib.Core.Path.{_≡_, refl, sym, _∙_, ap}
 use mathlib.Core.Bool.{Bool, true, false}
-use mathlib.Core.List.{List, [], _∷_}
+use mathlib.Core.List.{List}
 use Prim.Native.Nat.{ℕ, _≤_, min}
 use native.Mathlib.Omega.{arith}
 use lib.ListN.{length, take}
-use types.Run.{OneOf, miss}
-use denote.Enum.Declared.{tagOf}
-use Rattle.rules.proofs.Refusal.{the-type}
 use Rattle.rules.specs.Outcome.{Outcome, done, refused, by, _>>=_, is-done}
 use Rattle.rules.specs.Outcome as outcome
 use Rattle.rules.specs.Limits.{longest-items}
@@ -19,7 +16,6 @@ use Rattle.rules.specs.Last.{counts-in, items-read}
 use Rattle.rules.specs.Services.{filled, read}
 use Rattle.rules.specs.Numbers.{refusal, refusal-number}
 use Rattle.rules.specs.declared.Refusal.{Refusal}
-use Rattle.rules.specs.declared.Refusal.the-variants.{BadTable, BadRecord, BadSyntax, UnknownName, UseRule, NamedTwice, BeyondBuffer, BadValue, OutOfRange, NoRoom}
 use Rattle.rules.proofs.Refusals.{no-table, no-record}
 use Rattle.rules.proofs.Steps.{by-outcome, not-both, done-inj, refused-inj, not-done}
 use Rattle.buffer.specs.Splice.{splice}
@@ -81,19 +77,6 @@ placed-refused (refused k) x e = ap refused (sym (refused-inj e))
 placed-at : (o : Outcome Bytes) (n : ℕ) → ended (next.At n) ≡ placed 0 o → (bs : Bytes) × (o ≡ done bs) × (n ≡ length bs)
 placed-at (done bs) n e = (bs, refl, omega (arith, done-inj e))
 placed-at (refused k) n e = absurd (not-done (sym e))
-
--- A refusal of another variant than BeyondBuffer, as a match tells it, has another number.
-pub not-beyond : (x : Refusal) → OneOf (0 ∷ 1 ∷ 2 ∷ 3 ∷ 4 ∷ 5 ∷ 7 ∷ 8 ∷ 9 ∷ []) (tagOf the-type x) → refusal-number x ≡ 7 → ⊥
-not-beyond BadTable k e = omega (arith, e)
-not-beyond BadRecord k e = omega (arith, e)
-not-beyond BadSyntax k e = omega (arith, e)
-not-beyond UnknownName k e = omega (arith, e)
-not-beyond UseRule k e = omega (arith, e)
-not-beyond NamedTwice k e = omega (arith, e)
-not-beyond BeyondBuffer k e = miss (0 ∷ 1 ∷ 2 ∷ 3 ∷ 4 ∷ 5 ∷ 7 ∷ 8 ∷ 9 ∷ []) 6 tt k
-not-beyond BadValue k e = omega (arith, e)
-not-beyond (OutOfRange n) k e = omega (arith, e)
-not-beyond NoRoom k e = omega (arith, e)
 
 -- The items are to be made in room up to the end of the buffer, or to the limit.
 pub record Ready (t b : Bytes) (places : List ℕ) (f out : Bytes) (end : ℕ) : Type 0 where

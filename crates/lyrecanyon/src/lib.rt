@@ -1,6 +1,6 @@
 // The services: read, update, and the empty record of a table.
 ghost use mathlib.Core.Path.{_≡_};
-ghost use Prim.Native.Nat.{_≤_, min};
+ghost use Prim.Native.Nat.{min};
 ghost use lib.ListN.{length, take};
 ghost use Rattle.rules.specs.Limits.{longest-items};
 ghost use Rattle.rules.specs.Services as Rules;

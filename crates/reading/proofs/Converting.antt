@@ -72,13 +72,13 @@ module _ {w : Wanted} (h : Wants w) {b : Bytes} {end n : ℕ} {us : List Bytes} 
     pub convert-ahead : {from next : ℕ} → first ≡ Value from next → Ahead w b (g .left) (n - (i + 1)) from next
     convert-ahead {from} {next} e = next-there λ v mid vs l p t.
         value-first (format-at (w .own)) (w .standard) (drop q b) p λ c c₂ c₃ c₄ c₅ c₆.
-        from-done (sym c₂ ∙ first-at f e .0) λ same behind. record {
+        from-done (sym c₂ ∙ first-at f e .0) λ same after. record {
           value = v;
           others = vs;
           is = l;
           content = content-found b q (w .standard) f (format-at (w .own)) v mid (h .standard) p e;
           means = rw (← same) (form-means (format-at (w .own)) (w .standard) c c₃);
-          stand = (g .stand .0, rw (← behind) t);
+          stand = (g .stand .0, rw (← after) t);
         }
 
     pub convert-none : {k : Refusal} → first ≡ Bad k → ⊥

@@ -10,7 +10,7 @@ use Rattle.rules.specs.Characters.{space}
 use Rattle.rules.specs.Format.{Range}
 use Rattle.rules.specs.Table.{Entry, Field, parts}
 use Rattle.rules.specs.Record.{Record, group-count-at, value-count-at}
-use Rattle.rules.specs.Use.{Item, blanks-item, text-item, group-count, value-count, Asked, items-over}
+use Rattle.rules.specs.Use.{Item, blanks-item, text-item, group-count, Asked, items-over}
 use Rattle.rules.specs.Last.{resolved, counts-in, item-resolved, use-resolved}
 use Rattle.rules.specs.Services.{item-bytes, filled}
 use Rattle.tables.specs.Entries.{blank}

@@ -98,11 +98,11 @@ module _ (t : Bytes) (v : Valid t) (s : Span) (held : Good-span (entries-of t) s
   abbrev level : ℕ
   level = getD (entries-of t) i blank .level
 
-  abbrev behind : List Entry
-  behind = drop (i + 1) (entries-of t)
+  abbrev later : List Entry
+  later = drop (i + 1) (entries-of t)
 
   pub fields-few : n ≤ most-entries
-  fields-few = omega (arith, x .counted, numbers-short level (i + 1) behind, run-short level behind, length-drop (i + 1) (entries-of t), valid-most t v)
+  fields-few = omega (arith, x .counted, numbers-short level (i + 1) later, run-short level later, length-drop (i + 1) (entries-of t), valid-most t v)
 
   module _ (standard : s .standard ≡ true) (inside : inside-at (entries-of t) (s .first) ≡ true) where
     known : i + 1 ≤ length (entries-of t)
@@ -110,10 +110,10 @@ module _ (t : Bytes) (v : Valid t) (s : Span) (held : Good-span (entries-of t) s
 
     pub fields-numbered : Fields-numbered (entries-of t) after n
     fields-numbered k less =
-        let numbers = numbers-below level (i + 1) behind in
+        let numbers = numbers-below level (i + 1) later in
         let e : getD after k 0 ≡ getD numbers k 0 = sym (getD-take n after k 0 less) ∙ ap (λ (ns : List ℕ). getD ns k 0) (ap (take n) (x .written) ∙ take-splice numbers before n (x .counted)) in
         let m = numbers-each (entries-of t) level (i + 1) k known (omega (arith, x .counted)) in
-        rw e (omega (arith, m .below, known, run-short level behind, length-drop (i + 1) (entries-of t)), m .field)
+        rw e (omega (arith, m .below, known, run-short level later, length-drop (i + 1) (entries-of t)), m .field)
 
     fields-row : map (field-at (entries-of t)) (take n after) ≡ fields-from (entries-of t) (s .first) (s .end)
     fields-row =

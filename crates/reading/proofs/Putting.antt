@@ -25,7 +25,7 @@ use Rattle.filling.specs.declared.Next.{Next}
 use Rattle.filling.specs.declared.Next.the-variants as next
 use Rattle.reading.specs.declared.Progress.{Progress}
 use Rattle.reading.specs.declared.Progress.the-variants.{At, ItemRefused, ElementRefused}
-use Rattle.reading.proofs.Turns.{passed, refused-use, used-behind, used-at, used-within, used-refused}
+use Rattle.reading.proofs.Turns.{passed, refused-use, used-after, used-at, used-within, used-refused}
 
 pub at-fits : {s : Progress} {p end : ℕ} → s ≡ At p → filled-upto s ≤ end → p ≤ end
 at-fits {end = end} e l = subst (λ (s : Progress). filled-upto s ≤ end) e l
@@ -68,12 +68,12 @@ module _ {es : List Entry} {b : Bytes} {places : List ℕ} {f : Bytes} {end : �
     }
 
     module _ {last′ : List ℕ} {u : Use} (q : w .meant ≡ meant.As u) (k : Remembered es u (w .scopes .values) last last′) where
-      pub puts-behind : {out : Bytes} (n : Refusal) → Puts-element es b places f end write e last last′ (ItemRefused n) out out (ItemRefused n)
-      puts-behind n = record {
+      pub puts-after : {out : Bytes} (n : Refusal) → Puts-element es b places f end write e last last′ (ItemRefused n) out out (ItemRefused n)
+      puts-after n = record {
         fits = omega arith;
         same = k .same;
         kept = refl;
-        continues = λ ls ns i. (_, _, k .indexes f ls ns i, λ r h xs. used-behind es r end ls ns (element-of f e) xs (meaning-meant es f u (w .scopes)) (as-meant f ok m ls ns i q) n);
+        continues = λ ls ns i. (_, _, k .indexes f ls ns i, λ r h xs. used-after es r end ls ns (element-of f e) xs (meaning-meant es f u (w .scopes)) (as-meant f ok m ls ns i q) n);
       }
 
       pub puts-items : (p : ℕ) {out out′ : Bytes} (x : Next) → Fills-by es b places (meaning-items es f u (w .scopes)) p end write out out′ x → Has-record es b places → p ≤ end → end ≤ length out

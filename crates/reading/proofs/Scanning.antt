@@ -19,11 +19,11 @@ use Rattle.rules.specs.Last.{Meaning, Lasts, meanings, counts-in, items-read}
 use Rattle.rules.specs.Services.{filled}
 use Rattle.rules.specs.Numbers.{refusal}
 use Rattle.rules.specs.declared.Refusal.the-variants.{BadSyntax}
-use Rattle.format_buffer.specs.Syntax.{parsed, elements-behind, element-before, Stepped}
+use Rattle.format_buffer.specs.Syntax.{parsed, elements-after, element-before, Stepped}
 use Rattle.format_buffer.specs.Elements.{element-of}
 use Rattle.format_buffer.specs.declared.Element.{Element}
 use Rattle.format_buffer.specs.declared.syntax.Step.the-variants as step
-use Rattle.format_buffer.proofs.StepLaws.{elements-parsed, elements-long, behind-last, behind-more}
+use Rattle.format_buffer.proofs.StepLaws.{elements-parsed, elements-long, after-last, after-more}
 use Rattle.records.specs.Places.{Is-record}
 use Rattle.uses.specs.Meanings.{indexes-kept, Remembers, meanings-of}
 use Rattle.uses.proofs.Remembering.{none-remembered}
@@ -110,11 +110,11 @@ module _ {es : List Entry} {b : Bytes} {places : List ℕ} {f : Bytes} {end : �
   -- The element at a place is put.
   module _ {at : ℕ} {e : Element} {stop : ℕ} (t : Stepped f at (parsed (drop at f)) (step.At e stop)) {last last′ : List ℕ} {s s′ : Progress} {out out′ : Bytes}
       (w : Scanning es b places f end write out₀ last (parsed (drop at f)) s out) (p : Puts-element es b places f end write e last last′ s out out′ s′) where
-    behind-element : Scanning es b places f end write out₀ last′ (elements-behind f stop) s′ out′
-    behind-element = scan-on e (elements-behind f stop) (scan-as w (element-before (element-of f e) (elements-behind f stop)) (t .answer)) p
+    after-element : Scanning es b places f end write out₀ last′ (elements-after f stop) s′ out′
+    after-element = scan-on e (elements-after f stop) (scan-as w (element-before (element-of f e) (elements-after f stop)) (t .answer)) p
 
     pub scan-last : eqb (getD f stop 0) period ≡ true → Scans es b places f end write out₀ out′ (answer-of s′)
-    scan-last q = scan-end s′ (scan-as behind-element (done []) (behind-last f stop q))
+    scan-last q = scan-end s′ (scan-as after-element (done []) (after-last f stop q))
 
     pub scan-more : eqb (getD f stop 0) period ≡ false → Scanning es b places f end write out₀ last′ (parsed (drop (stop + 1) f)) s′ out′
-    scan-more q = scan-as behind-element (parsed (drop (stop + 1) f)) (behind-more f stop q)
+    scan-more q = scan-as after-element (parsed (drop (stop + 1) f)) (after-more f stop q)

@@ -124,9 +124,9 @@ module _ (es : List Entry) (r : Record) (end : ℕ) (ls : Indexes) (ns : Lasts) 
       more = xs >>= meanings es (indexes-after (m .meant) ls) (lasts-after m ns)
 
       -- After an item that is refused.
-      pub used-behind : (n : Refusal) {write : Bool} {out : Bytes} → Continues (left-of es r end ls ns (element-before x xs) (ItemRefused n)) (left-of es r end (indexes-after (m .meant) ls) (lasts-after m ns) xs (ItemRefused n)) 0 0 write out out
+      pub used-after : (n : Refusal) {write : Bool} {out : Bytes} → Continues (left-of es r end ls ns (element-before x xs) (ItemRefused n)) (left-of es r end (indexes-after (m .meant) ls) (lasts-after m ns) xs (ItemRefused n)) 0 0 write out out
       unfolding left-of
-      used-behind k =
+      used-after k =
           let n = refusal k in
           continues-both-off (unless more n)
           (refused-then (element-before x xs >>= meanings es ls ns) n ∙ ap (λ o. refused (unless o n)) (before-done es ls ns x xs m h) ∙ ap refused (unless-then more (λ ms. m ∷ ms) n))

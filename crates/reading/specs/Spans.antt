@@ -68,7 +68,7 @@ occurrences-items es s o last = value-items (asked-of es s) (range o last) (rang
 abbrev pub span-items : List Entry → Span → ℕ → List Item
 span-items es s o = occurrences-items es s o (s .upto)
 
--- The items of a span from an occurrence on, by how far its values reach: each field has so many values in each occurrence.
+-- The items of a span from an occurrence on, by how far its values reach, which each occurrence of a field says for itself.
 abbrev pub scoped-items : List Entry → Record → Span → ℕ → ℕ → List Item
 scoped-items es r s scope o =
     items-over (asked-of es s) (range o (s .upto))

@@ -9,11 +9,11 @@ use native.Mathlib.Omega.{arith}
 use lib.ListN.{length, drop, getD, drop-of-length-le}
 use lib.Seq.{drop-cons}
 use Rattle.rules.specs.Limits.{record-head-size}
-use Rattle.rules.specs.Outcome.{Refusal, Outcome, done, refused, by, _>>=_}
+use Rattle.rules.specs.Outcome.{Refusal, Outcome, done, refused, by}
 use Rattle.rules.specs.Lists.{Bytes}
 use Rattle.rules.specs.Table.{What, field, group, Entry, Part, is-inside, parts-from, part-of}
 use Rattle.rules.specs.Record.{Reader, each, stored-part}
-use Rattle.records.specs.Walk.{rest-of, behind, start-of, Starts}
+use Rattle.records.specs.Walk.{rest-of, after-entry, start-of, Starts}
 use Rattle.rules.proofs.Steps.{done-inj, not-done, by-outcome}
 use Rattle.buffer.proofs.Cases.{by-order}
 use Rattle.records.proofs.Walks.{each-turn, each-stop}
@@ -47,13 +47,13 @@ left before es bs = rest-of (each stored-part (parts-from before es) bs)
 
 -- An entry and those after it.
 module _ (before : Bool) (e : Entry) (es : List Entry) (bs : Bytes) where
-  entry-on : (cs : Bytes) → behind (is-inside before e) e es bs ≡ done cs → left before (e ∷ es) bs ≡ left (is-inside before e) es cs
-  unfolding parts-from behind
+  entry-on : (cs : Bytes) → after-entry (is-inside before e) e es bs ≡ done cs → left before (e ∷ es) bs ≡ left (is-inside before e) es cs
+  unfolding parts-from after-entry
   entry-on cs q = rw (part-first (is-inside before e) (e .name) (e .what) es (parts-from (is-inside before e) es))
       (each-on stored-part (parts-from (is-inside before e) es) (part-of (is-inside before e) (e .name) (e .what) es []) bs cs q)
 
-  entry-off : (k : Refusal) → behind (is-inside before e) e es bs ≡ refused k → left before (e ∷ es) bs ≡ refused k
-  unfolding parts-from behind
+  entry-off : (k : Refusal) → after-entry (is-inside before e) e es bs ≡ refused k → left before (e ∷ es) bs ≡ refused k
+  unfolding parts-from after-entry
   entry-off k q = rw (part-first (is-inside before e) (e .name) (e .what) es (parts-from (is-inside before e) es))
       (each-off stored-part (parts-from (is-inside before e) es) (part-of (is-inside before e) (e .name) (e .what) es []) bs k q)
 
@@ -61,7 +61,7 @@ module _ (before : Bool) (e : Entry) (es : List Entry) (bs : Bytes) where
   unfolding start-of
   start-here = refl
 
-  start-on : (cs : Bytes) (j : ℕ) → behind (is-inside before e) e es bs ≡ done cs → start-of before (e ∷ es) bs (suc j) ≡ start-of (is-inside before e) es cs j
+  start-on : (cs : Bytes) (j : ℕ) → after-entry (is-inside before e) e es bs ≡ done cs → start-of before (e ∷ es) bs (suc j) ≡ start-of (is-inside before e) es cs j
   unfolding start-of
   start-on cs j q = rw q refl
 
@@ -92,7 +92,7 @@ module _ {es : List Entry} {b : Bytes} {places : List ℕ} {before : Bool} {i p 
   here = rw add-zero at (sym (c .starts 0)) ∙ rw (drop-cons es i d less) (start-here before (getD es i d) (drop (suc i) es) (drop p b))
 
   pub turn : (q : ℕ) (after : List ℕ) → getD after i 0 ≡ p → ((j : ℕ) → j < i → getD after j 0 ≡ getD places j 0) → q ≤ length b
-      → behind (is-inside before (getD es i d)) (getD es i d) (drop (suc i) es) (drop p b) ≡ done (drop q b)
+      → after-entry (is-inside before (getD es i d)) (getD es i d) (drop (suc i) es) (drop p b) ≡ done (drop q b)
       → Checking es b after (is-inside before (getD es i d)) (i + 1) q
   turn q after new old h e = record {
     upto = omega arith;
@@ -103,7 +103,7 @@ module _ {es : List Entry} {b : Bytes} {places : List ℕ} {before : Bool} {i p 
     kept = λ j k. by-order j i (λ l. rw (old j l) (c .kept j l)) (λ l. let z : j ≡ i = omega arith in rw (z, new) (c .inside, sym here));
   }
 
-  pub bad : behind (is-inside before (getD es i d)) (getD es i d) (drop (suc i) es) (drop p b) ≡ refused (by 2) → left false es (drop record-head-size b) ≡ refused (by 2)
+  pub bad : after-entry (is-inside before (getD es i d)) (getD es i d) (drop (suc i) es) (drop p b) ≡ refused (by 2) → left false es (drop record-head-size b) ≡ refused (by 2)
   bad e = sym (c .rest) ∙ rw (drop-cons es i d less) (entry-off before (getD es i d) (drop (suc i) es) (drop p b) (by 2) e)
 
 pub over : {es : List Entry} {b : Bytes} {places : List ℕ} {before : Bool} {i p : ℕ} → Checking es b places before i p → length es ≤ i → left false es (drop record-head-size b) ≡ done (drop p b)

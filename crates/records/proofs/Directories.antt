@@ -16,7 +16,7 @@ use Rattle.buffer.proofs.Cases.{by-order}
 use Rattle.tables.specs.Entries.{blank}
 use Rattle.rules.specs.Limits.{most-entries}
 use Rattle.records.specs.Counts.{greatest-byte}
-use Rattle.records.specs.Walk.{Walked, behind, is-headed, firsts, kept-from, directory, occurrence, occurrences-counted, Kept, Occurrences-kept, Checked}
+use Rattle.records.specs.Walk.{Walked, after-entry, is-headed, firsts, kept-from, directory, occurrence, occurrences-counted, Kept, Occurrences-kept, Checked}
 use Rattle.records.specs.declared.Reach.{Reach}
 use Rattle.records.specs.declared.Reach.the-variants.{At, Bad}
 use Rattle.records.proofs.Entries.{never}
@@ -92,7 +92,7 @@ module _ {es : List Entry} {b : Bytes} {places : List ℕ} {i kept : ℕ} (l : R
 module _ {es : List Entry} {b : Bytes} {places : List ℕ} {before : Bool} {i p : ℕ} (c : Checking es b places before i p) where
   -- After entry i, or at something that is not its part.
   module _ (less : i < length es) (d : Entry) {inside : Bool} (q : inside ≡ is-inside before (getD es i d))
-      {s : Reach} (w : Walked b (behind inside (getD es i d) (drop (suc i) es) (drop p b)) s) where
+      {s : Reach} (w : Walked b (after-entry inside (getD es i d) (drop (suc i) es) (drop p b)) s) where
     pub passed : {next : ℕ} → s ≡ At next → (after : List ℕ) → getD after i 0 ≡ p → ((j : ℕ) → j < i → getD after j 0 ≡ getD places j 0) → Checking es b after inside (i + 1) next
     passed {next} e after n o = let h = walked-at w e in rw q (turn c less d next after n o (h .1) (rw q at (h .0)))
 

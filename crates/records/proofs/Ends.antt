@@ -21,7 +21,7 @@ use Rattle.tables.specs.Entries.{blank, group-number, format-at, format-number,
 use Rattle.tables.specs.Groups.{run-below, group-end, fields-in}
 use Rattle.tables.proofs.Nesting.{run-short}
 use Rattle.records.specs.Counts.{has-count}
-use Rattle.records.specs.Walk.{rest-of, behind, occurrence, occurrences-counted, Kept}
+use Rattle.records.specs.Walk.{rest-of, after-entry, occurrence, occurrences-counted, Kept}
 use Rattle.records.specs.Where.{field-of}
 use Rattle.records.proofs.Walks.{each-turn, each-stop, count-missing, count-over, count-good, not-counted}
 use Rattle.records.proofs.Entries.{never}
@@ -90,17 +90,17 @@ module _ (inside : Bool) (n : ℕ) (es : List Entry) (bs : Bytes) where
   outside-part (group p) h i = rw h refl
 
 module _ (inside : Bool) (e : Entry) (es : List Entry) (bs : Bytes) where
-  pub behind-periodic : is-periodic (e .what) ≡ true → behind inside e es bs ≡ rest-of (counted true (each stored-cell (fields-below 1 es)) bs)
-  unfolding behind
-  behind-periodic h = periodic-part inside (e .name) es bs (e .what) h
+  pub after-periodic : is-periodic (e .what) ≡ true → after-entry inside e es bs ≡ rest-of (counted true (each stored-cell (fields-below 1 es)) bs)
+  unfolding after-entry
+  after-periodic h = periodic-part inside (e .name) es bs (e .what) h
 
-  pub behind-inside : is-periodic (e .what) ≡ false → inside ≡ true → behind inside e es bs ≡ done bs
-  unfolding behind
-  behind-inside h i = inside-part inside (e .name) es bs (e .what) h i
+  pub after-inside : is-periodic (e .what) ≡ false → inside ≡ true → after-entry inside e es bs ≡ done bs
+  unfolding after-entry
+  after-inside h i = inside-part inside (e .name) es bs (e .what) h i
 
-  pub behind-outside : is-periodic (e .what) ≡ false → inside ≡ false → behind inside e es bs ≡ rest-of (each stored-cell (field-of (e .name) (e .what)) bs)
-  unfolding behind
-  behind-outside h i = outside-part inside (e .name) es bs (e .what) h i
+  pub after-outside : is-periodic (e .what) ≡ false → inside ≡ false → after-entry inside e es bs ≡ rest-of (each stored-cell (field-of (e .name) (e .what)) bs)
+  unfolding after-entry
+  after-outside h i = outside-part inside (e .name) es bs (e .what) h i
 
 -- The fields of a group of level 1 are those among the entries from after it to its end.
 below-run : (es : List Entry) → fields-below 1 es ≡ fields-in (take (run-below 1 es) es)
@@ -140,13 +140,13 @@ module _ (w : What) where
 
 -- What stands after a periodic group, by its count and its end.
 module _ (inside : Bool) (es : List Entry) (g : ℕ) (b : Bytes) (at : ℕ) (p : is-periodic (getD es g blank .what) ≡ true) where
-  pub behind-countless : has-count b at ≡ false → behind inside (getD es g blank) (drop (suc g) es) (drop at b) ≡ refused (by 2)
-  behind-countless h = behind-periodic inside (getD es g blank) (drop (suc g) es) (drop at b) p ∙ count-none (each stored-cell (fields-below 1 (drop (suc g) es))) b at h
+  pub after-countless : has-count b at ≡ false → after-entry inside (getD es g blank) (drop (suc g) es) (drop at b) ≡ refused (by 2)
+  after-countless h = after-periodic inside (getD es g blank) (drop (suc g) es) (drop at b) p ∙ count-none (each stored-cell (fields-below 1 (drop (suc g) es))) b at h
 
-  pub behind-counted : has-count b at ≡ true → getD es g blank .level ≡ 1 → (end : ℕ) → end ≡ group-end es g
-      → behind inside (getD es g blank) (drop (suc g) es) (drop at b) ≡ rest-of (times (getD b at 0) (each stored-cell (fields-in (slice (g + 1) end es))) (drop (at + 1) b))
-  behind-counted h l end q =
-      behind-periodic inside (getD es g blank) (drop (suc g) es) (drop at b) p
+  pub after-counted : has-count b at ≡ true → getD es g blank .level ≡ 1 → (end : ℕ) → end ≡ group-end es g
+      → after-entry inside (getD es g blank) (drop (suc g) es) (drop at b) ≡ rest-of (times (getD b at 0) (each stored-cell (fields-in (slice (g + 1) end es))) (drop (at + 1) b))
+  after-counted h l end q =
+      after-periodic inside (getD es g blank) (drop (suc g) es) (drop at b) p
       ∙ count-there (each stored-cell (fields-below 1 (drop (suc g) es))) b at h
       ∙ rw (group-fields es g l, q) refl
 

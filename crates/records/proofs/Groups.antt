@@ -77,13 +77,13 @@ some-there n (x ∷ fs₁) f fs₂ m q = by-test (eqb (x .name) n) (λ y. absurd
     rw (y, member) (some-there n fs₁ f fs₂ (rw (y, member) at m) q)
 
 -- Entry j, a field in the group that entry g is, and the first entry with the name n.
-module _ (es : List Entry) (d : Entry) (g j n : ℕ) (behind : g < j) (deep : Deeper es d g j) (first : First n es j) (f : Format) (s : ℕ) (mu : Bool) (what : getD es j d .what ≡ field f s mu) where
+module _ (es : List Entry) (d : Entry) (g j n : ℕ) (later : g < j) (deep : Deeper es d g j) (first : First n es j) (f : Format) (s : ℕ) (mu : Bool) (what : getD es j d .what ≡ field f s mu) where
   abbrev own : Field
   own = record { name = getD es j d .name; format = f; size = s; multiple = mu }
 
   split-own : fields-below 1 (drop (suc g) es) ≡ fields-in (slice (suc g) j es) ++ own ∷ fields-below 1 (drop (suc j) es)
   unfolding field-of
-  split-own = split-below es d g j behind (first-within n es j first) deep ∙ rw what refl
+  split-own = split-below es d g j later (first-within n es j first) deep ∙ rw what refl
 
   pub member-below : member n (fields-below 1 (drop (suc g) es)) ≡ some own
   member-below = rw split-own (some-there n (fields-in (slice (suc g) j es)) own (fields-below 1 (drop (suc j) es)) (none-between n es (suc g) j first) (first-name n es d j first))

@@ -47,7 +47,7 @@ unfolding parts part-of part-holding
 holding es named i g less what home =
     let n = getD es i blank .name in
     let first = differ-first es blank i less (true-T named) in
-    let behind = home-before es i g (field-periodic (getD es i blank .what) what) home in
+    let later = home-before es i g (field-periodic (getD es i blank .what) what) home in
     by-field (getD es i blank .what) what λ f s mu w.
     reached n false es blank g (omega arith) (unnamed n es g i (omega arith) first) (λ t z. never (le-ltb 1 (getD es g blank .level) (omega (arith, home .level))) t)
-    ∙ rw (home .periodic, member-below es blank g i n behind (home-deeper es i g home) first f s mu w, part-holding) refl
+    ∙ rw (home .periodic, member-below es blank g i n later (home-deeper es i g home) first f s mu w, part-holding) refl

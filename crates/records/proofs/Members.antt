@@ -3,14 +3,14 @@
 use mathlib.Core.Path.{_≡_, sym, _∙_, ap}
 use mathlib.Core.Bool.{false}
 use mathlib.Core.List.{List}
-use Prim.Native.Nat.{ℕ, _+_, _-_, _≤_, _<_}
+use Prim.Native.Nat.{ℕ, _+_, _-_, _<_}
 use native.Mathlib.Omega.{arith}
 use lib.ListN.{length, drop, getD}
 use lib.Seq.{slice}
 use Rattle.rules.specs.Lists.{Bytes}
 use Rattle.rules.specs.Record.{Record, each, stored-cell}
 use Rattle.tables.specs.Entries.{Valid, entries-of, blank, is-group}
-use Rattle.tables.specs.Groups.{group-end, fields-in}
+use Rattle.tables.specs.Groups.{fields-in}
 use Rattle.tables.proofs.Tables.{valid-names}
 use Rattle.tables.proofs.Known.{periodic-level}
 use Rattle.records.specs.Walk.{rest-of, Ends, Behind}

@@ -31,9 +31,9 @@ module _ {before : Bool} {es : List Entry} {bs : Bytes} {r : Record} {d : Entry}
   occurrences = counted-many (each stored-cell (fields-below 1 (drop (suc g) es))) (start-of before es bs g) (q .stands)
 
   -- Entry j, a field in the group, and the first entry with the name n.
-  module _ (level : getD es g d .level ≤ 1) (n j : ℕ) (behind : g < j) (deep : Deeper es d g j) (first : First n es j) (f : Format) (s : ℕ) (mu : Bool) (what : getD es j d .what ≡ field f s mu) where
+  module _ (level : getD es g d .level ≤ 1) (n j : ℕ) (later : g < j) (deep : Deeper es d g j) (first : First n es j) (f : Format) (s : ℕ) (mu : Bool) (what : getD es j d .what ≡ field f s mu) where
     pub values-missing : (i : ℕ) → length os < i → values-at (parts-from before es) r n i ≡ []
-    values-missing i l = q .values level n j behind deep first f s mu what i
+    values-missing i l = q .values level n j later deep first f s mu what i
         ∙ rw (List·getD-eq-default os [] {n = pred i} (omega arith)) (no-cells n (fields-below 1 (drop (suc g) es)))
 
     pub values-there : {C : Type 0} (tail : Bytes) → times (length os) (each stored-cell (fields-below 1 (drop (suc g) es))) tail ≡ done (os, mid) → (i : ℕ) → i < length os
@@ -42,8 +42,8 @@ module _ {before : Bool} {es : List Entry} {bs : Bytes} {r : Record} {d : Entry}
         → stored-cell (record { name = n; format = f; size = s; multiple = mu }) cell ≡ done (values-at (parts-from before es) r n (suc i), next) → C) → C
     values-there tail t i l k =
         times-at (each stored-cell (fields-below 1 (drop (suc g) es))) [] (length os) i tail l t λ one after h₁ h₂.
-        cell-below es d g j n behind deep first f s mu what one h₂ λ cs cell next h₃ h₄.
-        k one cell next (ap rest-of h₁) (ap rest-of h₃) (h₄ ∙ rw (q .values level n j behind deep first f s mu what (suc i)) refl)
+        cell-below es d g j n later deep first f s mu what one h₂ λ cs cell next h₃ h₄.
+        k one cell next (ap rest-of h₁) (ap rest-of h₃) (h₄ ∙ rw (q .values level n j later deep first f s mu what (suc i)) refl)
 
 -- A walk over no field is over.
 pub between-over : (es : List Entry) (j : ℕ) (bs : Bytes) → rest-of (each stored-cell (fields-in (slice j j es)) bs) ≡ done bs

@@ -11,20 +11,21 @@ use Rattle.rules.specs.Outcome.{done}
 use Rattle.rules.specs.Limits.{record-head-size}
 use Rattle.rules.specs.Lists.{Bytes}
 use Rattle.rules.specs.Values.{Format}
-use Rattle.rules.specs.Table.{What, field, group, Entry, Field, Part, is-inside, fields-below, alone, part-of, parts-from, parts, names, differ}
+use Rattle.rules.specs.Table.{What, field, group, Entry, Part, is-inside, fields-below, alone, part-of, parts-from, parts}
 use Rattle.rules.specs.Record.{Occurrence, Record, each, stored-part}
 use Rattle.rules.proofs.Steps.{by-test}
 use Rattle.rules.proofs.Back.{Beside}
 use Rattle.tables.specs.Entries.{Valid, entries-of, blank, is-periodic}
-use Rattle.tables.specs.Groups.{run-below, group-end}
+use Rattle.tables.specs.Groups.{group-end}
 use Rattle.tables.specs.Places.{inside-from, inside-at}
-use Rattle.tables.proofs.Nesting.{run-levels, periodic-what, members-inside}
+use Rattle.tables.proofs.LevelSteps.{periodic-what}
+use Rattle.tables.proofs.Nesting.{run-levels, members-inside}
 use Rattle.tables.proofs.Known.{level-known, periodic-level}
 use Rattle.tables.proofs.Tables.{valid-names, valid-sound}
-use Rattle.records.specs.Walk.{rest-of, behind, start-of}
+use Rattle.records.specs.Walk.{rest-of, after-entry, start-of}
 use Rattle.records.specs.Places.{Is-record}
 use Rattle.records.proofs.Cells.{each-first}
-use Rattle.records.proofs.Ends.{each-single, behind-inside, group-within}
+use Rattle.records.proofs.Ends.{each-single, after-inside, group-within}
 use Rattle.records.proofs.Passing.{parts-at}
 use Rattle.records.proofs.Pieces.{inside-group, next-left}
 use Rattle.records.proofs.Placed.{whole-body}
@@ -46,7 +47,7 @@ module _ (P : Part → List Occurrence → Type 0) where
   reach : {C : Type 0} (before : Bool) (es : List Entry) (bs : Bytes) (r : Record) (rest : Bytes) (j : ℕ) → j < length es
       → each stored-part (parts-from before es) bs ≡ done (r, rest) → Beside P (parts-from before es) r
       → ((r′ : Record) → each stored-part (parts-at before es blank j) (start-of before es bs j) ≡ done (r′, rest) → Beside P (parts-at before es blank j) r′ → C) → C
-  unfolding parts-from inside-from start-of behind
+  unfolding parts-from inside-from start-of after-entry
   reach before [] bs r rest j l p a k = absurd (not-suc-le-zero l)
   reach before (e ∷ es) bs r rest zero l p a k = k r p a
   reach before (e ∷ es) bs r rest (suc j) l p a k =
@@ -78,14 +79,14 @@ module _ (P : Part → List Occurrence → Type 0) where
     members-passed g l what (suc n) j o e h =
         let m : j < length (entries-of t) = omega arith in
         let i = members-inside (entries-of t) (λ k l. valid-sound t valid k l) g (level-known t valid g l .0) j (omega arith) (omega arith) ∙ inside-group (entries-of t) g what in
-        sym (next-left held (valid-names t valid) j m (behind-inside (inside-at (entries-of t) j) (getD (entries-of t) j blank) (drop (suc j) (entries-of t)) (from j) (member-plain g l j o (omega arith) m) i))
+        sym (next-left held (valid-names t valid) j m (after-inside (inside-at (entries-of t) j) (getD (entries-of t) j blank) (drop (suc j) (entries-of t)) (from j) (member-plain g l j o (omega arith) m) i))
         ∙ members-passed g l what n (suc j) (omega arith) (omega arith) h
 
     -- What stands from a periodic group on.
     pub group-stands : {C : Type 0} (g : ℕ) → g < length (entries-of t) → getD (entries-of t) g blank .what ≡ group true
         → ((os : List Occurrence) → stored-part (record { name = getD (entries-of t) g blank .name; periodic = true; members = fields-below 1 (drop (suc g) (entries-of t)) }) (from g) ≡ done (os, from (group-end (entries-of t) g))
         → P (record { name = getD (entries-of t) g blank .name; periodic = true; members = fields-below 1 (drop (suc g) (entries-of t)) }) os → C) → C
-    unfolding parts part-of behind
+    unfolding parts part-of after-entry
     group-stands g l what k = whole-body (parts (entries-of t)) b r (held .stands) λ rest h z.
         reach false (entries-of t) (drop record-head-size b) r rest g l h beside λ r′ s a.
         first (record { name = getD (entries-of t) g blank .name; periodic = true; members = fields-below 1 (drop (suc g) (entries-of t)) }) _ (from g) r′ rest (rw what at s) (rw what at a) λ os mid q x.
@@ -98,7 +99,7 @@ module _ (P : Part → List Occurrence → Type 0) where
     pub field-stands : {C : Type 0} (i : ℕ) → i < length (entries-of t) → inside-at (entries-of t) i ≡ false → (f : Format) (s : ℕ) (mu : Bool) → getD (entries-of t) i blank .what ≡ field f s mu
         → ((os : List Occurrence) → stored-part (alone (record { name = getD (entries-of t) i blank .name; format = f; size = s; multiple = mu })) (from i) ≡ done (os, from (suc i))
         → P (alone (record { name = getD (entries-of t) i blank .name; format = f; size = s; multiple = mu })) os → C) → C
-    unfolding parts part-of behind
+    unfolding parts part-of after-entry
     field-stands i l out f s mu what k = whole-body (parts (entries-of t)) b r (held .stands) λ rest h z.
         reach false (entries-of t) (drop record-head-size b) r rest i l h beside λ r′ c a.
         first (alone (record { name = getD (entries-of t) i blank .name; format = f; size = s; multiple = mu })) _ (from i) r′ rest (rw (what, out) at c) (rw (what, out) at a) λ os mid q x.

@@ -14,7 +14,7 @@ use Rattle.rules.specs.Record.{Record, each, stored-part, values-at, group-coun
 use Rattle.rules.proofs.Steps.{by-test}
 use Rattle.tables.specs.Entries.{is-periodic}
 use Rattle.tables.specs.Places.{inside-from}
-use Rattle.records.specs.Walk.{rest-of, behind, start-of}
+use Rattle.records.specs.Walk.{rest-of, after-entry, start-of}
 use Rattle.records.specs.Where.{First, field-of}
 use Rattle.records.proofs.Cells.{each-first}
 use Rattle.records.proofs.EmptyEntries.{inside-periodic, inside-deeper}
@@ -111,7 +111,7 @@ pub record Reached (before : Bool) (es : List Entry) (bs : Bytes) (r : Record) (
 
 pub reach : {C : Type 0} (before : Bool) (es : List Entry) (bs : Bytes) (r : Record) (rest : Bytes) (d : Entry) (j : ℕ) → j < length es
     → each stored-part (parts-from before es) bs ≡ done (r, rest) → ((r′ : Record) → Reached before es bs r rest d j r′ → C) → C
-unfolding parts-from inside-from start-of behind
+unfolding parts-from inside-from start-of after-entry
 reach before [] bs r rest d j l p k = absurd (not-suc-le-zero l)
 reach before (e ∷ es) bs r rest d zero l p k = k r (record { stands = p; counts = λ n u. refl; values = λ n u c i. refl })
 reach before (e ∷ es) bs r rest d (suc j) l p k =

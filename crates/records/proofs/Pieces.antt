@@ -20,20 +20,20 @@ use Rattle.tables.specs.Entries.{blank, is-group, is-multiple, is-periodic}
 use Rattle.tables.specs.Groups.{field-at, fields-in}
 use Rattle.tables.specs.Places.{inside-from, inside-at}
 use Rattle.tables.proofs.Periodic.{inside-by}
-use Rattle.records.specs.Walk.{rest-of, bytes-left, behind, start-of}
+use Rattle.records.specs.Walk.{rest-of, bytes-left, after-entry, start-of}
 use Rattle.records.specs.Where.{field-of}
 use Rattle.records.specs.Places.{Is-record, values-of, Outside, Celled, Piece-of}
 use Rattle.records.specs.declared.places.Extent.the-variants.{At}
 use Rattle.records.proofs.Entries.{never}
 use Rattle.records.proofs.Cells.{counted-once}
-use Rattle.records.proofs.Ends.{each-single, behind-outside}
+use Rattle.records.proofs.Ends.{each-single, after-outside}
 use Rattle.records.proofs.Groups.{fields-first}
 use Rattle.records.proofs.Passing.{reach}
 use Rattle.records.proofs.Placed.{whole-body, field-is, cell-outside}
 
 -- What stands from the next entry on, and after the last.
 start-next : (before : Bool) (es : List Entry) (d : Entry) (bs : Bytes) (j : ℕ) → suc j < length es
-    → start-of before es bs (suc j) ≡ bytes-left (behind (inside-from before es j) (getD es j d) (drop (suc j) es) (start-of before es bs j))
+    → start-of before es bs (suc j) ≡ bytes-left (after-entry (inside-from before es j) (getD es j d) (drop (suc j) es) (start-of before es bs j))
 unfolding start-of inside-from
 start-next before [] d bs j l = absurd (not-suc-le-zero l)
 start-next before (e ∷ []) d bs zero l = absurd (not-suc-le-zero (le-of-suc-le-suc l))
@@ -68,10 +68,10 @@ module _ {es : List Entry} {b : Bytes} {places : List ℕ} {r : Record} (held : 
 
   module _ (j : ℕ) (less : j < length es) where
     abbrev left : Outcome Bytes
-    left = behind (inside-at es j) (getD es j blank) (drop (suc j) es) (from j)
+    left = after-entry (inside-at es j) (getD es j blank) (drop (suc j) es) (from j)
 
     last-left : length es ≤ suc j → {mid : Bytes} → left ≡ done mid → mid ≡ []
-    unfolding parts parts-from behind
+    unfolding parts parts-from after-entry
     last-left l e = whole-body (parts es) b r (held .stands) λ rest h z.
         reach false es (drop record-head-size b) r rest blank j less h λ r′ q.
         done-inj (sym (rw (drop-of-length-le es l) at e) ∙ ap rest-of (rw (drop-of-length-le es l) at (q .stands))) ∙ z
@@ -89,12 +89,12 @@ module _ {es : List Entry} {b : Bytes} {places : List ℕ} {r : Record} (held : 
         let own : Field = record { name = getD es j blank .name; format = f; size = s; multiple = mu } in
         let vs = values-at (parts es) r (getD es j blank .name) 1 in
         let d : stored-cell own (from j) ≡ done (vs, mid) = rw (field-is es j f s mu q) at (ap (stored-cell (field-at es j)) (sym (held .starts j less .1)) ∙ c) in
-        let e = behind-outside (inside-at es j) (getD es j blank) (drop (suc j) es) (from j) (ap is-periodic q) out
+        let e = after-outside (inside-at es j) (getD es j blank) (drop (suc j) es) (from j) (ap is-periodic q) out
         ∙ ap (λ (w : What). rest-of (each stored-cell (field-of (getD es j blank .name) w) (from j))) q ∙ each-single stored-cell own (from j) ∙ ap rest-of d in
         once-bytes mu f s (from j) m d ∙ rw (append-nil (join vs), next-left e) refl
     step-by out (group true) q m = absurd (never out (inside-group es j q))
     step-by out (group false) q m = sym (next-left
-        (behind-outside (inside-at es j) (getD es j blank) (drop (suc j) es) (from j) (ap is-periodic q) out
+        (after-outside (inside-at es j) (getD es j blank) (drop (suc j) es) (from j) (ap is-periodic q) out
         ∙ ap (λ (w : What). rest-of (each stored-cell (field-of (getD es j blank .name) w) (from j))) q))
 
   chain : (n first end : ℕ) → first + n ≡ end → end ≤ length es → Outside es first end → from first ≡ values-of es r 1 (fields-in (slice first end es)) ++ from end

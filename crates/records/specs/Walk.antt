@@ -43,19 +43,20 @@ Ends o = (rest : Bytes) × (o ≡ done rest)
 abbrev pub Behind : Bytes → Outcome Bytes → ℕ → Type 0
 Behind b o r = Ends o → Walked b o (At r)
 
--- What stands after the part that an entry begins, if it begins one.
+-- The bytes that are left, none where they are refused.
 abbrev pub bytes-left : Outcome Bytes → Bytes
 bytes-left (done bs) = bs
 bytes-left (refused n) = []
 
-unfoldable pub behind : Bool → Entry → List Entry → Bytes → Outcome Bytes
-behind inside e es bs = rest-of (each stored-part (part-of inside (e .name) (e .what) es []) bs)
+-- What stands after the part that an entry begins, if it begins one.
+unfoldable pub after-entry : Bool → Entry → List Entry → Bytes → Outcome Bytes
+after-entry inside e es bs = rest-of (each stored-part (part-of inside (e .name) (e .what) es []) bs)
 
 -- The bytes from entry j's part on, in a body that begins with the entries es.
 unfoldable pub start-of : Bool → List Entry → Bytes → ℕ → Bytes
 start-of before [] bs j = []
 start-of before (e ∷ es) bs zero = bs
-start-of before (e ∷ es) bs (suc j) = start-of (is-inside before e) es (bytes-left (behind (is-inside before e) e es bs)) j
+start-of before (e ∷ es) bs (suc j) = start-of (is-inside before e) es (bytes-left (after-entry (is-inside before e) e es bs)) j
 
 -- Whether bytes are not too many for a record and begin as one.
 unfoldable pub is-headed : Bytes → Bool

@@ -12,7 +12,7 @@ ghost use Rattle.tables.specs.Entries.{Valid, entries-of, blank, format-at};
 ghost use Rattle.records.specs.Where.{field-of};
 ghost use Rattle.tables.specs.Groups.{fields-in};
 ghost use Rattle.records.specs.Counts.{count-at, greatest-byte};
-ghost use Rattle.records.specs.Walk.{directory, rest-of, Walked, behind, occurrence, occurrences-counted, Keeps, Checked, greatest-kept};
+ghost use Rattle.records.specs.Walk.{directory, rest-of, Walked, after-entry, occurrence, occurrences-counted, Keeps, Checked, greatest-kept};
 use crate::DIRECTORY;
 use crate::FIRSTS;
 use crate::KEPT;
@@ -180,7 +180,7 @@ fn entry_end(
     kept: usize,
 ) -> Reach
     requires { ⌜ Valid (now t) × (i < length (entries-of (now t))) × (at ≤ length (now b)) × (length (now b) ≤ longest-record) × (length (now places) ≡ directory) × (kept + greatest-byte ≤ greatest-kept) ⌝ }
-    ensures { λ r. ⌜ Walked (now (b .entry)) (behind inside (getD (entries-of (now (t .entry))) i blank) (drop (suc i) (entries-of (now (t .entry)))) (drop at (now (b .entry)))) r × Keeps (occurrence (entries-of (now (t .entry))) i) (now (b .entry)) (at + count-size) (occurrences-counted (getD (entries-of (now (t .entry))) i blank .what) (count-at (now (b .entry)) at)) kept (now (places .entry)) (now (places .exit)) r ⌝ }
+    ensures { λ r. ⌜ Walked (now (b .entry)) (after-entry inside (getD (entries-of (now (t .entry))) i blank) (drop (suc i) (entries-of (now (t .entry)))) (drop at (now (b .entry)))) r × Keeps (occurrence (entries-of (now (t .entry))) i) (now (b .entry)) (at + count-size) (occurrences-counted (getD (entries-of (now (t .entry))) i blank .what) (count-at (now (b .entry)) at)) kept (now (places .entry)) (now (places .exit)) r ⌝ }
 {
     if tables::periodic_at(t, i) {
         if counts::has_count(b, at) {

@@ -1,18 +1,16 @@
 -- A record as it should be, written, is read back as that record: what a writer wrote the reader takes, whatever stands after it.
-use mathlib.Core.Path.{_≡_, refl, sym, _∙_, ap, subst}
-use mathlib.Core.Bool.{Bool, true, false, _&&_}
+use mathlib.Core.Path.{_≡_, refl}
+use mathlib.Core.Bool.{Bool, true, false}
 use mathlib.Core.List.{List, [], _∷_, _++_, map, append-assoc, append-nil}
-use Prim.Native.Nat.{ℕ, zero, suc, _≤_}
-use native.Mathlib.Omega.{arith}
-use lib.Dec.{T, leb, le→leb}
-use lib.ListN.{length, take, drop}
-use lib.Seq.{take-append-seam, drop-append-seam}
-use Rattle.rules.specs.Outcome.{Outcome, done, refused, _>>=_, need}
+use Prim.Native.Nat.{ℕ, _≤_}
+use lib.Dec.{le→leb}
+use lib.ListN.{length}
+use Rattle.rules.specs.Outcome.{done}
 use Rattle.rules.specs.Limits.{greatest-count, longest-record}
 use Rattle.rules.specs.Lists.{Bytes, nothing, same, join}
 use Rattle.rules.specs.Table.{Field, Part}
 use Rattle.rules.specs.Record.{Cell, Occurrence, Record, Reader, times, stored-count, counted, each, count-bytes, counted-bytes, each-bytes, stored-value, stored-cell, stored-part, stored, record-head, cell-bytes, part-bytes, body-bytes, record-bytes}
-use Rattle.rules.proofs.Steps.{need-true, same-same}
+use Rattle.rules.proofs.Steps.{need-true}
 
 -- every element of a list; two lists side by side
 abbrev pub All : {X : Type 0} → (X → Type 0) → List X → Type 0

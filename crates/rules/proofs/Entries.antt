@@ -92,7 +92,7 @@ to-among n (e ∷ es) fs p =
     (λ b q. from-need (not b && not (eqb (e .name) n)) 5 _ (rw q at p) λ t k. among-more e es fs (to-among n es fs k))
 
 pub find-among : (before : Bool) (n : ℕ) (es : List Entry) (x : Found) → find-from before n es ≡ done x
-    → (x .entry .name ≡ n) × ((f : Field) → Among (x .entry ∷ x .behind) f → Among es f)
+    → (x .entry .name ≡ n) × ((f : Field) → Among (x .entry ∷ x .after) f → Among es f)
 unfolding find-from
 find-among before n [] x p = absurd (not-done p)
 find-among before n (e ∷ es) x p =

@@ -31,7 +31,7 @@ periodic-part n fs = record { name = n; periodic = true; members = fs }
 -- ---- one step of each look-up
 
 module _ (before : Bool) (n : ℕ) (e : Entry) (es : List Entry) where
-  pub find-here : eqb (e .name) n ≡ true → find-from before n (e ∷ es) ≡ done (record { entry = e; inside = is-inside before e; behind = es })
+  pub find-here : eqb (e .name) n ≡ true → find-from before n (e ∷ es) ≡ done (record { entry = e; inside = is-inside before e; after = es })
   unfolding find-from
   find-here t = rw (t, find-from)
 
@@ -137,7 +137,7 @@ module _ (k level : ℕ) (es : List Entry) where
 
   pub find-same : (n : ℕ) (w : What) → ltb 1 level ≡ false → find-from true n (named-entry k level w ∷ es) ≡ find-from false n (named-entry k level w ∷ es)
   unfolding find-from
-  find-same n w t = ap (λ b. elim (eqb k n) [ true ↦ done (record { entry = named-entry k level w; inside = b; behind = es }) | false ↦ find-from b n es ]) (inside-same w t)
+  find-same n w t = ap (λ b. elim (eqb k n) [ true ↦ done (record { entry = named-entry k level w; inside = b; after = es }) | false ↦ find-from b n es ]) (inside-same w t)
 
   inside-deep : (w : What) → ltb 1 level ≡ true → inside-of true level w ≡ true
   unfolding inside-of
@@ -200,7 +200,7 @@ unfolding names
 among-find before [] d f m = absurd m
 among-find before (e ∷ es) d f m = from-differ (e .name) (names es) d λ v r.
     ⊎-elim
-    (λ i. (record { entry = e; inside = is-inside before e; behind = es }, find-here before (f .name) e es (ap (λ n. eqb n (f .name)) (i .0) ∙ eqb-same (f .name)), i .1))
+    (λ i. (record { entry = e; inside = is-inside before e; after = es }, find-here before (f .name) e es (ap (λ n. eqb n (f .name)) (i .0) ∙ eqb-same (f .name)), i .1))
     (λ i.
     let (x, h, q) = among-find (is-inside before e) es r f i in
     (x, find-skip before (f .name) e es (ne-eqb (e .name) (f .name) (among-avoids (e .name) es f v i)) ∙ h, q))

@@ -28,11 +28,11 @@ In-periodic (p ∷ ps) f = ((p .periodic ≡ true) × In f (p .members)) ⊎ In-
 
 abbrev Group-outside : List Entry → Type 0
 Group-outside es = (n : ℕ) (x : Found) (p : Bool) → find-from false n es ≡ done x → x .entry .what ≡ group p → x .inside ≡ true
-    → All (In-periodic (parts-from false es)) (fields-below (x .entry .level) (x .behind))
+    → All (In-periodic (parts-from false es)) (fields-below (x .entry .level) (x .after))
 
 abbrev Group-inside : List Entry → Type 0
 Group-inside es = (n : ℕ) (x : Found) (p : Bool) → find-from true n es ≡ done x → x .entry .what ≡ group p → x .inside ≡ true
-    → All (λ f. In f (fields-below 1 es) ⊎ In-periodic (parts-from true es) f) (fields-below (x .entry .level) (x .behind))
+    → All (λ f. In f (fields-below 1 es) ⊎ In-periodic (parts-from true es) f) (fields-below (x .entry .level) (x .after))
 
 all-in : (fs gs : List Field) → ((f : Field) → In f fs → In f gs) → All (λ f. In f gs) fs
 all-in [] gs h = tt
@@ -69,12 +69,12 @@ module _ (k level : ℕ) (es : List Entry) (out : Group-outside es) (ins : Group
   unfolding parts-from part-of inside-of alone
   group-outside-on (field g r mu) sound n x p h q i = by-test (eqb k n)
       (λ t. let z = done-inj (sym (find-here false n (named-entry k level (field g r mu)) es t) ∙ h) in not-field (ap (λ y. y .entry .what) z ∙ q))
-      (λ t. all-map (In-periodic (parts-from false es)) (In-periodic (alone (named-field k g r mu) ∷ parts-from false es)) (λ f j. inr j) (fields-below (x .entry .level) (x .behind)) (out n x p (sym (find-skip false n (named-entry k level (field g r mu)) es t) ∙ h) q i))
+      (λ t. all-map (In-periodic (parts-from false es)) (In-periodic (alone (named-field k g r mu) ∷ parts-from false es)) (λ f j. inr j) (fields-below (x .entry .level) (x .after)) (out n x p (sym (find-skip false n (named-entry k level (field g r mu)) es t) ∙ h) q i))
   group-outside-on (group true) sound n x p h q i = by-test (eqb k n)
       (λ t. let z = done-inj (sym (find-here false n (named-entry k level (group true)) es t) ∙ h) in
       rw (← z, sound) (all-map (λ f. In f (fields-below 1 es)) (In-periodic (periodic-part k (fields-below 1 es) ∷ parts-from true es)) (λ f j. inl (refl, j)) (fields-below 1 es) (in-itself (fields-below 1 es))))
       (λ t. all-map (λ f. In f (fields-below 1 es) ⊎ In-periodic (parts-from true es) f) (In-periodic (periodic-part k (fields-below 1 es) ∷ parts-from true es))
-      (λ f j. ⊎-elim (λ a. inl (refl, a)) (λ a. inr a) j) (fields-below (x .entry .level) (x .behind)) (ins n x p (sym (find-skip false n (named-entry k level (group true)) es t) ∙ h) q i))
+      (λ f j. ⊎-elim (λ a. inl (refl, a)) (λ a. inr a) j) (fields-below (x .entry .level) (x .after)) (ins n x p (sym (find-skip false n (named-entry k level (group true)) es t) ∙ h) q i))
   group-outside-on (group false) sound n x p h q i = by-test (eqb k n)
       (λ t. let z = done-inj (sym (find-here false n (named-entry k level (group false)) es t) ∙ h) in absurd (not-both (ap (λ y. y .inside) z ∙ i)))
       (λ t. out n x p (sym (find-skip false n (named-entry k level (group false)) es t) ∙ h) q i)
@@ -82,14 +82,14 @@ module _ (k level : ℕ) (es : List Entry) (out : Group-outside es) (ins : Group
   group-inside-end : (w : What) → Sound level w → ltb 1 level ≡ false → Group-inside (named-entry k level w ∷ es)
   group-inside-end w sound t n x p h q i =
       let a = group-outside-on w sound n x p (sym (find-same k level es n w t) ∙ h) q i in
-      rw (parts-same k level es w t) (all-map (In-periodic (parts-from false (named-entry k level w ∷ es))) (λ f. In f (fields-below 1 (named-entry k level w ∷ es)) ⊎ In-periodic (parts-from false (named-entry k level w ∷ es)) f) (λ f j. inr j) (fields-below (x .entry .level) (x .behind)) a)
+      rw (parts-same k level es w t) (all-map (In-periodic (parts-from false (named-entry k level w ∷ es))) (λ f. In f (fields-below 1 (named-entry k level w ∷ es)) ⊎ In-periodic (parts-from false (named-entry k level w ∷ es)) f) (λ f j. inr j) (fields-below (x .entry .level) (x .after)) a)
 
   group-inside-on : (w : What) → Sound level w → Group-inside (named-entry k level w ∷ es)
   group-inside-on (field g r mu) sound n x p h q i = by-test (ltb 1 level)
       (λ t. by-test (eqb k n)
       (λ u. let z = done-inj (sym (find-here true n (named-entry k level (field g r mu)) es u) ∙ h) in not-field (ap (λ y. y .entry .what) z ∙ q))
       (λ u. rw (below-field k level es g r mu t, parts-field k level es g r mu t) (all-map (λ f. In f (fields-below 1 es) ⊎ In-periodic (parts-from true es) f)
-      (λ f. In f (named-field k g r mu ∷ fields-below 1 es) ⊎ In-periodic (parts-from true es) f) (λ f j. ⊎-elim (λ a. inl (inr a)) (λ a. inr a) j) (fields-below (x .entry .level) (x .behind))
+      (λ f. In f (named-field k g r mu ∷ fields-below 1 es) ⊎ In-periodic (parts-from true es) f) (λ f j. ⊎-elim (λ a. inl (inr a)) (λ a. inr a) j) (fields-below (x .entry .level) (x .after))
       (ins n x p (sym (find-deep k level es n (field g r mu) t u) ∙ h) q i))))
       (λ t. group-inside-end (field g r mu) sound t n x p h q i)
   group-inside-on (group true) sound n x p h q i = by-test (ltb 1 level)
@@ -121,9 +121,9 @@ periodic-home qs f (p ∷ ps) i a = ⊎-elim (λ j. (p, in-home (λ g. home (g .
 
 pub group-home : (es : List Entry) → All (λ e. Sound (e .level) (e .what)) es → All (λ p. All (λ f. home (f .name) (parts es) ≡ some (p, f)) (p .members)) (parts es)
     → (n : ℕ) (x : Found) (p : Bool) → find n es ≡ done x → x .entry .what ≡ group p → x .inside ≡ true
-    → All (λ f. (p : Part) × (home (f .name) (parts es) ≡ some (p, f)) × (p .periodic ≡ true)) (fields-below (x .entry .level) (x .behind))
+    → All (λ f. (p : Part) × (home (f .name) (parts es) ≡ some (p, f)) × (p .periodic ≡ true)) (fields-below (x .entry .level) (x .after))
 unfolding find parts
-group-home es a found n x p h q i = all-map (In-periodic (parts es)) _ (λ f j. periodic-home (parts es) f (parts es) j found) (fields-below (x .entry .level) (x .behind)) (groups-stand es a .0 n x p h q i)
+group-home es a found n x p h q i = all-map (In-periodic (parts es)) _ (λ f j. periodic-home (parts es) f (parts es) j found) (fields-below (x .entry .level) (x .after)) (groups-stand es a .0 n x p h q i)
 
 -- ---- a periodic group is a part
 

@@ -1,19 +1,19 @@
 -- What is read from bytes is a record as it should be: counts in range, every value stored as its reader takes it.
-use mathlib.Core.Path.{_≡_, refl, sym, _∙_, ap}
+use mathlib.Core.Path.{_≡_, refl, ap}
 use mathlib.Core.Bool.{Bool, true, false, _&&_}
-use mathlib.Core.List.{List, [], _∷_, _++_, append-assoc}
-use Prim.Native.Nat.{ℕ, zero, suc, _-_, _≤_}
+use mathlib.Core.List.{List, [], _∷_, _++_}
+use Prim.Native.Nat.{ℕ, zero, suc, _-_}
 use native.Mathlib.Omega.{arith}
-use lib.Dec.{T, leb, leb→le, le→leb}
+use lib.Dec.{leb, leb→le}
 use lib.ListN.{length, take, drop}
-use Rattle.rules.specs.Outcome.{Outcome, done, refused, _>>=_, need, refused-as}
-use Rattle.rules.specs.Limits.{greatest-count, longest-record, longest-alpha}
+use Rattle.rules.specs.Outcome.{done}
+use Rattle.rules.specs.Limits.{longest-record, longest-alpha}
 use Rattle.rules.specs.Lists.{Bytes, nothing, same, cut}
-use Rattle.rules.specs.Values.{Format, first-value, with-length-byte, in-normal-form}
+use Rattle.rules.specs.Values.{first-value, with-length-byte, in-normal-form}
 use Rattle.rules.specs.Table.{Field, Part}
-use Rattle.rules.specs.Record.{Cell, Occurrence, Record, Reader, times, stored-count, counted, each, stored-value, stored-cell, stored-part, stored, record-head}
-use Rattle.rules.proofs.Steps.{from-bind, from-need, from-as, from-done, done-inj, not-done, same-eq, and-left, and-right, same-same, need-true, and-intro}
-use Rattle.rules.proofs.Readers.{times-sound, count-sound, cut-sound}
+use Rattle.rules.specs.Record.{Record, Reader, times, stored-count, counted, each, stored-value, stored-cell, stored-part, stored, record-head}
+use Rattle.rules.proofs.Steps.{from-bind, from-need, from-as, from-done, done-inj, not-done, and-left, need-true}
+use Rattle.rules.proofs.Readers.{count-sound, cut-sound}
 use Rattle.rules.proofs.Back.{All, Beside, Sized, Stored, Cell-ok, Part-ok, Record-ok}
 
 -- whatever a reader takes has the property

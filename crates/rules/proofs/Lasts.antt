@@ -84,7 +84,7 @@ scopes-told es ls (named n os vs l g) u p =
     from-bind (find n es) _ p λ x h k.
     rw (scoped-name es n os vs l g u x h) (by-what (x .entry .what)
     (λ f s mu e. from-bind (spread (x .inside) mu _ (ranges-of os) (ranges-of vs)) _ (rw e at k) λ r h₂ _. name-scopes (x .inside) mu _ os vs r h₂)
-    (λ b e. from-need (absent l && absent g && all plain (fields-below (x .entry .level) (x .behind))) 5 _ (rw e at k) λ t k₂.
+    (λ b e. from-need (absent l && absent g && all plain (fields-below (x .entry .level) (x .after))) 5 _ (rw e at k) λ t k₂.
     from-bind (spread (x .inside) false 0 (ranges-of os) (ranges-of vs)) _ k₂ λ r h₂ _. name-scopes (x .inside) false 0 os vs r h₂))
 
 -- A use of which every index is meant as it is written.

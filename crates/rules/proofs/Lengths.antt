@@ -157,12 +157,12 @@ decimal-fits ds s v h e =
 at-most : (n m : ℕ) → (leb 1 n && leb n m) ≡ true → n ≤ m
 at-most n m a = leb-true n m (and-both (leb 1 n) (leb n m) a .1)
 
-length-halves : (bs : Bytes) → length (halves bs) ≡ 2 * length bs
+pub length-halves : (bs : Bytes) → length (halves bs) ≡ 2 * length bs
 unfolding halves
 length-halves [] = refl
 length-halves (b ∷ bs) = omega (arith, length-halves bs)
 
-length-but-last : (ds : List ℕ) → length (but-last ds) ≡ length ds - 1
+pub length-but-last : (ds : List ℕ) → length (but-last ds) ≡ length ds - 1
 unfolding but-last
 length-but-last [] = refl
 length-but-last (x ∷ []) = refl

@@ -184,7 +184,7 @@ count-quiet n i ls m (field f s mu) inside (some o) u q = from-need (mu && insid
 group-quiet : (n i : ℕ) (ls : Indexes) (x : Found) (os vs : Option Range) (l g : Option ℕ) (u : Use) → use-of-group x os vs l g ≡ done u → Quiet n i ls u
 unfolding use-of-group
 group-quiet n i ls x os vs l g u q =
-    let fs = fields-below (x .entry .level) (x .behind) in
+    let fs = fields-below (x .entry .level) (x .after) in
     from-need (absent l && absent g && all plain fs) 5 _ q λ t k.
     from-bind (spread (x .inside) false 0 os vs) _ k λ s h k₂.
     let a = plain-single fs (and-right (absent l && absent g) (all plain fs) t) in
@@ -196,8 +196,8 @@ series-quiet : (n i : ℕ) (ls : Indexes) (x : Found) (m : ℕ) (u : Use) → us
 unfolding use-of-series
 series-quiet n i ls x m u q =
     from-need (not (x .inside)) 5 _ (not-group (x .entry .what) _ q) λ t k.
-    from-bind (fields-to m (x .entry ∷ x .behind)) _ k λ fs g k₂.
-    rw (← done-inj k₂) (fields-quiet n i ls fs (just 1) (just 1) (to-picked m (x .entry ∷ x .behind) fs g .1))
+    from-bind (fields-to m (x .entry ∷ x .after)) _ k λ fs g k₂.
+    rw (← done-inj k₂) (fields-quiet n i ls fs (just 1) (just 1) (to-picked m (x .entry ∷ x .after) fs g .1))
 
 -- By cases of an element: the name of a field, or another.
 pub by-use : {C : Type 0} (n i : ℕ) (es : List Entry) (ls : Indexes) (e : Element) (u : Use) → use-of es ls e ≡ done u

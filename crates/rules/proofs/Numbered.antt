@@ -76,7 +76,7 @@ spread-kept false false last (some os) none = (UseRule, refl)
 
 group-kept : (x : Found) (os vs : Option Range) (l g : Option ℕ) → Only Numbered (use-of-group x os vs l g)
 unfolding use-of-group
-group-kept x os vs l g = only-need Numbered (absent l && absent g && all plain (fields-below (x .entry .level) (x .behind))) (UseRule, refl) _
+group-kept x os vs l g = only-need Numbered (absent l && absent g && all plain (fields-below (x .entry .level) (x .after))) (UseRule, refl) _
     (only-bind Numbered (spread (x .inside) false 0 os vs) _ (spread-kept (x .inside) false 0 os vs) (λ s. tt))
 
 field-kept : (f : Field) (inside : Bool) (last : ℕ) (os vs : Option Range) (l g : Option ℕ) → Only Numbered (use-of-field f inside last os vs l g)
@@ -103,7 +103,7 @@ unfolding fields-to
 fields-kept n [] = (UseRule, refl)
 fields-kept n (e ∷ es) = series-step n (e .name) (e .level) (e .what) es (fields-kept n es)
 
-series-kept : (n name level : ℕ) (w : What) (inside : Bool) (es : List Entry) → Only Numbered (use-of-series (record { entry = record { name = name; level = level; what = w }; inside = inside; behind = es }) n)
+series-kept : (n name level : ℕ) (w : What) (inside : Bool) (es : List Entry) → Only Numbered (use-of-series (record { entry = record { name = name; level = level; what = w }; inside = inside; after = es }) n)
 unfolding use-of-series
 series-kept n name level (group p) inside es = (UseRule, refl)
 series-kept n name level (field f s mu) inside es = only-need Numbered (not inside) (UseRule, refl) _
@@ -123,7 +123,7 @@ use-kept es ls (quoted t) = tt
 use-kept es ls (count n i) = only-bind Numbered (find n es) _ (find-kept n es) (λ x. count-kept n (x .entry .what) (x .inside) i)
 use-kept es ls (count-in-last n) = only-bind Numbered (find n es) _ (find-kept n es) (λ x. count-kept n (x .entry .what) (x .inside) (some 1))
 use-kept es ls (series n m) = only-bind Numbered (find n es) _ (find-kept n es)
-    (λ x. only-bind Numbered (find m es) _ (find-kept m es) (λ _. series-kept m (x .entry .name) (x .entry .level) (x .entry .what) (x .inside) (x .behind)))
+    (λ x. only-bind Numbered (find m es) _ (find-kept m es) (λ _. series-kept m (x .entry .name) (x .entry .level) (x .entry .what) (x .inside) (x .after)))
 use-kept es ls (named n os vs l g) = only-bind Numbered (find n es) _ (find-kept n es) (λ x. named-kept x ls n (ranges-of os) (ranges-of vs) l g (x .entry .what))
 
 uses-kept : (es : List Entry) (ls : Indexes) (xs : List Element) → Only Numbered (uses es ls xs)

@@ -1,18 +1,18 @@
 -- What was read from bytes, written again, is those bytes: each reader is sound, and so are readers one after the other.
-use mathlib.Core.Path.{_≡_, refl, sym, _∙_, ap, subst}
+use mathlib.Core.Path.{_≡_, refl, sym, _∙_, ap}
 use mathlib.Core.Bool.{Bool, true, false, _&&_}
 use mathlib.Core.List.{List, [], _∷_, _++_, map, append-assoc, append-nil}
 use Prim.Native.Nat.{ℕ, zero, suc, _-_, _+_, _≤_}
 use native.Mathlib.Omega.{arith}
-use lib.Dec.{T, leb, leb→le}
+use lib.Dec.{leb, leb→le}
 use lib.ListN.{length, take, drop, take-append-drop}
-use Rattle.rules.specs.Outcome.{Outcome, done, refused, _>>=_, need, refused-as}
+use Rattle.rules.specs.Outcome.{done}
 use Rattle.rules.specs.Limits.{greatest-count, longest-record, longest-alpha}
 use Rattle.rules.specs.Lists.{Bytes, nothing, same, cut, join}
 use Rattle.rules.specs.Values.{Format, first-value, with-length-byte, in-normal-form}
-use Rattle.rules.specs.Table.{Field, Part}
-use Rattle.rules.specs.Record.{Cell, Occurrence, Record, Reader, times, stored-count, counted, each, count-bytes, counted-bytes, each-bytes, stored-value, stored-cell, stored-part, stored, record-head, cell-bytes, part-bytes, body-bytes, record-bytes}
-use Rattle.rules.proofs.Steps.{nothing-eq, done-inj, not-done, from-need, from-as, from-bind, from-done, and-left, and-right, same-eq}
+use Rattle.rules.specs.Table.{Part}
+use Rattle.rules.specs.Record.{Record, Reader, times, stored-count, counted, each, count-bytes, counted-bytes, each-bytes, stored-value, stored-cell, stored-part, stored, record-head, cell-bytes, part-bytes, body-bytes, record-bytes}
+use Rattle.rules.proofs.Steps.{nothing-eq, done-inj, not-done, from-need, from-as, from-bind, from-done, and-left, same-eq}
 
 -- what a reader took is what the writer writes
 abbrev pub Sound : {X : Type 0} → Reader X → (X → Bytes) → Type 0

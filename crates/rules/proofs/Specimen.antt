@@ -1,6 +1,6 @@
 -- Document 01, "The specimen job record": the starred cases are one table, proved by one statement, by computing the definitions.
 -- Beside it stand the other cases of that section, and those of "Errors that look reasonable".
-use mathlib.Core.Bool.{Bool, true, false, _&&_}
+use mathlib.Core.Bool.{Bool, false, _&&_}
 use mathlib.Core.List.{List, [], _∷_}
 use Prim.Native.Nat.{ℕ}
 use lib.Dec.{T, eqb}

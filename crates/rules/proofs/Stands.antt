@@ -185,12 +185,12 @@ module _ (es : List Entry) (sound : All (λ e. Sound (e .level) (e .what)) es) (
       → use-of-group x (ranges-of os) (ranges-of vs) l g ≡ done u → Use-stands es (outer (x .inside) os) (inner (x .inside) os vs) u
   unfolding use-of-group find
   group-stands n x b os vs l g u h e q =
-      let fs = fields-below (x .entry .level) (x .behind) in
+      let fs = fields-below (x .entry .level) (x .after) in
       from-need (absent l && absent g && all plain fs) 5 _ q λ t k.
       from-bind (spread (x .inside) false 0 (ranges-of os) (ranges-of vs)) _ k λ s h₁ k₂.
       let o = spread-in-order (x .inside) false 0 (ranges-of os) (ranges-of vs) s h₁ in
       let z = spread-only (x .inside) false 0 os vs s h₁ in
-      let m = all-map (Among (x .behind)) (Among es) (λ f i. find-among false n es x h .1 f (inr i)) fs (below-among (x .entry .level) (x .behind)) in
+      let m = all-map (Among (x .after)) (Among es) (λ f i. find-among false n es x h .1 f (inr i)) fs (below-among (x .entry .level) (x .after)) in
       rw (← done-inj k₂) (
         o .0,
         o .1,
@@ -199,12 +199,12 @@ module _ (es : List Entry) (sound : All (λ e. Sound (e .level) (e .what)) es) (
             (λ i. once-stands fs _ _ (s .occurrences) (s .values) (z .0 i) (z .1 refl) m),
       )
 
-  series-stands : (x : Found) (n : ℕ) (u : Use) → ((f : Field) → Among (x .entry ∷ x .behind) f → Among es f) → use-of-series x n ≡ done u → Use-stands es as-written as-written u
+  series-stands : (x : Found) (n : ℕ) (u : Use) → ((f : Field) → Among (x .entry ∷ x .after) f → Among es f) → use-of-series x n ≡ done u → Use-stands es as-written as-written u
   unfolding use-of-series in-order
   series-stands x n u m q =
       from-need (not (x .inside)) 5 _ (not-group (x .entry .what) _ q) λ t k.
-      from-bind (fields-to n (x .entry ∷ x .behind)) _ k λ fs g k₂.
-      rw (← done-inj k₂) (tt, tt, once-stands fs as-written as-written (just 1) (just 1) (refl, refl) (refl, refl) (all-map (Among (x .entry ∷ x .behind)) _ m fs (to-among n (x .entry ∷ x .behind) fs g)))
+      from-bind (fields-to n (x .entry ∷ x .after)) _ k λ fs g k₂.
+      rw (← done-inj k₂) (tt, tt, once-stands fs as-written as-written (just 1) (just 1) (refl, refl) (refl, refl) (all-map (Among (x .entry ∷ x .after)) _ m fs (to-among n (x .entry ∷ x .after) fs g)))
 
   -- What an element of a read means stands, whatever is stored.
   pub use-stands : (ls : Indexes) (x : Element) (u : Use) → use-of es ls x ≡ done u → Use-stands es (scoped es x u .occurrences) (scoped es x u .values) u

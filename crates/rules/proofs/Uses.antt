@@ -85,7 +85,7 @@ to-picked n (e ∷ es) fs p =
     rw (← done-inj k₂) (taken a, (not-T-false m t, b))))
     (λ b q. from-need (not b && not (eqb (e .name) n)) 5 _ (rw q at p) λ t k. let (a, b) = to-picked n es fs k in (left-out a, b))
 
-pub find-picked : (before : Bool) (n : ℕ) (es : List Entry) (x : Found) → find-from before n es ≡ done x → Picked (names (x .entry ∷ x .behind)) (names es)
+pub find-picked : (before : Bool) (n : ℕ) (es : List Entry) (x : Found) → find-from before n es ≡ done x → Picked (names (x .entry ∷ x .after)) (names es)
 unfolding find-from names
 find-picked before n [] x p = absurd (not-done p)
 find-picked before n (e ∷ es) x p =
@@ -172,25 +172,25 @@ field-once f inside last os vs l g u q =
     let o = spread-in-order inside (f .multiple) last os vs s h in
     rw (← done-inj k₂) (tt, o .0, o .1)
 
-group-once : (x : Found) (os vs : Option Range) (l g : Option ℕ) (u : Use) → T (differ (names (x .entry ∷ x .behind))) → use-of-group x os vs l g ≡ done u → Once u
+group-once : (x : Found) (os vs : Option Range) (l g : Option ℕ) (u : Use) → T (differ (names (x .entry ∷ x .after))) → use-of-group x os vs l g ≡ done u → Once u
 unfolding use-of-group names
 group-once x os vs l g u d q =
-    let fs = fields-below (x .entry .level) (x .behind) in
+    let fs = fields-below (x .entry .level) (x .after) in
     from-need (absent l && absent g && all plain fs) 5 _ q λ t k.
     from-bind (spread (x .inside) false 0 os vs) _ k λ s h k₂.
     let o = spread-in-order (x .inside) false 0 os vs s h in
-    rw (← done-inj k₂) (as-stored-once fs (picked-differ (left-out (below-picked (x .entry .level) (x .behind))) d), o .0, o .1)
+    rw (← done-inj k₂) (as-stored-once fs (picked-differ (left-out (below-picked (x .entry .level) (x .after))) d), o .0, o .1)
 
 pub not-group : {A : Type 0} (w : What) (m : Outcome A) {a : A} → elim w [ group p ↦ refused (by 5) | field f s mu ↦ m ] ≡ done a → m ≡ done a
 not-group (field f s mu) m p = p
 not-group (group q) m p = absurd (not-done p)
 
-series-once : (x : Found) (n : ℕ) (u : Use) → T (differ (names (x .entry ∷ x .behind))) → use-of-series x n ≡ done u → Once u
+series-once : (x : Found) (n : ℕ) (u : Use) → T (differ (names (x .entry ∷ x .after))) → use-of-series x n ≡ done u → Once u
 unfolding use-of-series in-order
 series-once x n u d q =
     from-need (not (x .inside)) 5 _ (not-group (x .entry .what) _ q) λ t k.
-    from-bind (fields-to n (x .entry ∷ x .behind)) _ k λ fs g k₂.
-    rw (← done-inj k₂) (as-stored-once fs (picked-differ (to-picked n (x .entry ∷ x .behind) fs g .0) d), tt, tt)
+    from-bind (fields-to n (x .entry ∷ x .after)) _ k λ fs g k₂.
+    rw (← done-inj k₂) (as-stored-once fs (picked-differ (to-picked n (x .entry ∷ x .after) fs g .0) d), tt, tt)
 
 module _ (es : List Entry) (d : T (differ (names es))) where
   use-once : (ls : Indexes) (x : Element) (u : Use) → use-of es ls x ≡ done u → Once u

@@ -1,7 +1,7 @@
 -- Document 01, "The stored record". Every refusal here is 2.
-use mathlib.Core.Bool.{Bool, true, false, _&&_}
+use mathlib.Core.Bool.{Bool, true, false}
 use mathlib.Core.List.{List, [], _∷_, _++_, map}
-use mathlib.Core.Option.{Option, none, some}
+use mathlib.Core.Option.{none, some}
 use Prim.Native.Nat.{ℕ, zero, suc, pred, _+_}
 use lib.Dec.{eqb, leb}
 use lib.ListN.{length, take, drop, getD}

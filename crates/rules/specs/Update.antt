@@ -3,12 +3,12 @@ use mathlib.Core.Bool.{Bool, true, false, not, _&&_, _||_}
 use mathlib.Core.List.{List, [], _∷_, map}
 use mathlib.Core.Option.{Option, none, some}
 use Prim.Native.Nat.{ℕ, max}
-use lib.Dec.{eqb, leb, ltb}
+use lib.Dec.{eqb, leb}
 use lib.ListN.{length}
-use Rattle.rules.specs.Outcome.{Outcome, done, refused, _>>=_}
+use Rattle.rules.specs.Outcome.{Outcome, done, _>>=_}
 use Rattle.rules.specs.Lists.{Bytes, absent, all, any, filter, maximum, cut}
 use Rattle.rules.specs.Values.{converted-bytes, first-value}
-use Rattle.rules.specs.Table.{Field, Part, member}
+use Rattle.rules.specs.Table.{Part, member}
 use Rattle.rules.specs.Record.{Record, value-at, value-count-at, Plan, laid-out, count-or-one}
 use Rattle.rules.specs.Format.{Range}
 use Rattle.rules.specs.Use.{Place, Item, blanks-item, text-item, group-count, value-count, value-item, Asked, Use, one, values}

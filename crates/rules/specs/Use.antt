@@ -60,12 +60,12 @@ items us = join (map items-of us)
 pub record Found : Type 0 where
   pub entry : Entry
   pub inside : Bool
-  pub behind : List Entry
+  pub after : List Entry
 
 unfoldable pub find-from : Bool → ℕ → List Entry → Outcome Found
 find-from before n [] = refused (by 4)
 find-from before n (e ∷ es) = elim (eqb (e .name) n) [
-  | true ↦ done (record { entry = e; inside = is-inside before e; behind = es })
+  | true ↦ done (record { entry = e; inside = is-inside before e; after = es })
   | false ↦ find-from (is-inside before e) n es
 ]
 
@@ -156,7 +156,7 @@ plain f = not (f .multiple) && leb 1 (f .size)
 
 -- A name: "a group takes no length or format".
 unfoldable pub use-of-group : Found → Option Range → Option Range → Option ℕ → Option ℕ → Outcome Use
-use-of-group x os vs l g = let fs = fields-below (x .entry .level) (x .behind) in do
+use-of-group x os vs l g = let fs = fields-below (x .entry .level) (x .after) in do
   _ ← need (absent l && absent g && all plain fs) 5
   s ← spread (x .inside) false 0 os vs
   done (values (map as-stored fs) (s .occurrences) (s .values) (s .bare))
@@ -198,7 +198,7 @@ use-of-series x n = elim (x .entry .what) [
   | group p ↦ refused (by 5)
   | field f s mu ↦ do
     _ ← need (not (x .inside)) 5
-    fs ← fields-to n (x .entry ∷ x .behind)
+    fs ← fields-to n (x .entry ∷ x .after)
     done (values (map as-stored fs) (just 1) (just 1) false)
 ]
 

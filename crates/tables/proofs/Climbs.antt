@@ -15,7 +15,8 @@ use Rattle.tables.specs.Places.{inside-at, Home}
 use Rattle.tables.specs.Groups.{run-below}
 use Rattle.tables.proofs.EntryBytes.{Sound}
 use Rattle.tables.proofs.Periodic.{inside-up, inside-one}
-use Rattle.tables.proofs.Nesting.{run-more, periodic-what, level-range, first-level}
+use Rattle.tables.proofs.LevelSteps.{periodic-what, level-range, first-level}
+use Rattle.tables.proofs.Nesting.{run-more}
 
 pub record Climb (es : List Entry) (i j : ℕ) : Type 0 where
   pub upto : j ≤ i

@@ -157,7 +157,7 @@ pub record First (n : ℕ) (bs : Bytes) (es : List Entry) : Type 0 where
   pub is : es ≡ first ∷ rest
   pub long : entry-size ≤ length bs
   pub made : Made bs first
-  pub behind : entries n (drop entry-size bs) ≡ done rest
+  pub after : entries n (drop entry-size bs) ≡ done rest
 
 pub entries-first : (n : ℕ) (bs : Bytes) (es : List Entry) → entries (suc n) bs ≡ done es → First n bs es
 unfolding entries entry-of-bytes group-letter
@@ -183,7 +183,7 @@ entries-first n (a ∷ b ∷ l ∷ f ∷ s ∷ o ∷ bs) es p =
         grouped = r .grouped;
         sound = r .sound;
       };
-      behind = k;
+      after = k;
     }
 
 pub entries-length : (n : ℕ) (bs : Bytes) (es : List Entry) → entries n bs ≡ done es → (length es ≡ n) × (length bs ≡ n * entry-size)
@@ -192,7 +192,7 @@ entries-length zero [] es p = (ap length (sym (done-inj p)), refl)
 entries-length zero (b ∷ bs) es p = absurd (not-done p)
 entries-length (suc n) bs es p =
     let x = entries-first n bs es p in
-    let h = entries-length n (drop entry-size bs) (x .rest) (x .behind) in
+    let h = entries-length n (drop entry-size bs) (x .rest) (x .after) in
     (ap length (x .is) ∙ ap suc (h .0), omega (arith, h .1, length-drop entry-size bs, x .long))
 
 pub entry-made : (n : ℕ) (bs : Bytes) (es : List Entry) (i : ℕ) → entries n bs ≡ done es → i < n → Made (drop (i * entry-size) bs) (getD es i blank)
@@ -201,7 +201,7 @@ entry-made (suc n) bs es zero p h = let x = entries-first n bs es p in rw (x .is
 entry-made (suc n) bs es (suc i) p h =
     let x = entries-first n bs es p in
     let e : suc i * entry-size ≡ entry-size + i * entry-size = omega arith in
-    rw (x .is, e, ← drop-drop (i * entry-size) entry-size bs) (entry-made n (drop entry-size bs) (x .rest) i (x .behind) (le-of-suc-le-suc h))
+    rw (x .is, e, ← drop-drop (i * entry-size) entry-size bs) (entry-made n (drop entry-size bs) (x .rest) i (x .after) (le-of-suc-le-suc h))
 
 -- ---- a turn of the loop over the entries
 

@@ -15,7 +15,7 @@ use Rattle.tables.specs.declared.Entry.{Entry as Decoded}
 use Rattle.tables.specs.Places.{found-at}
 use Rattle.tables.specs.Groups.{group-end}
 use Rattle.tables.proofs.Names.{one-name, find-name}
-use Rattle.tables.proofs.Nesting.{level-range, group-next}
+use Rattle.tables.proofs.LevelSteps.{level-range, group-next}
 use Rattle.tables.proofs.Partings.{parts-periodic, parts-members}
 use Rattle.value_formats.proofs.Letters.{number-back, number-small}
 use Rattle.tables.proofs.EntryBytes.{Sound}

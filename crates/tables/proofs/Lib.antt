@@ -1,6 +1,7 @@
 pub mod EntryBytes
 pub mod EntryFields
 pub mod Levels
+pub mod LevelSteps
 pub mod Marks
 pub mod Tables
 pub mod Names

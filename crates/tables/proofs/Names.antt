@@ -52,7 +52,7 @@ pub none-next : (n : ℕ) (es : List Entry) (i : ℕ) → None-before n es i →
 none-next n es i h o k l q = by-order k i (λ less. h k less q) (λ more. let z : k ≡ i = omega arith in o (rw z at q))
 
 from-here : (before : Bool) (n : ℕ) (es : List Entry) (i : ℕ) → i < length es → None-before n es i → getD es i blank .name ≡ n
-    → find-from before n es ≡ done (record { entry = getD es i blank; inside = inside-from before es i; behind = drop (suc i) es })
+    → find-from before n es ≡ done (record { entry = getD es i blank; inside = inside-from before es i; after = drop (suc i) es })
 unfolding find-from inside-from
 from-here before n [] i l h q = absurd (not-suc-le-zero l)
 from-here before n (e ∷ es) zero l h q = rw (eq-eqb (e .name) n q, find-from)

@@ -26,7 +26,7 @@ abbrev pub inside-at : List Entry → ℕ → Bool
 inside-at es i = inside-from false es i
 
 unfoldable pub found-at : List Entry → ℕ → Use.Found
-found-at es i = record { entry = getD es i blank; inside = inside-at es i; behind = drop (suc i) es }
+found-at es i = record { entry = getD es i blank; inside = inside-at es i; after = drop (suc i) es }
 
 -- What a look-up answers: the number of the entry that has the name, or that none has it.
 abbrev pub Finds : ℕ → List Entry → Found → Type 0

@@ -8,10 +8,7 @@ use native.Mathlib.Omega.{arith}
 use lib.Dec.{leb, leb→le}
 use lib.ListN.{length, take, drop, getD, length-append}
 use lib.Seq.{take-at, length-take-le}
-use types.Run.{OneOf, miss}
-use denote.Enum.Declared.{tagOf}
 use borrow.Author.Tests.{leb-false}
-use Rattle.rules.proofs.Refusal.{the-type}
 use Rattle.rules.specs.Outcome.{Outcome, done, refused, by, is-done}
 use Rattle.rules.specs.Outcome as outcome
 use Rattle.rules.specs.Limits.{most-entries, longest-new-record}
@@ -21,7 +18,7 @@ use Rattle.rules.specs.Values.{meaning}
 use Rattle.rules.specs.Table.{Entry}
 use Rattle.rules.specs.Update.{Assignment}
 use Rattle.rules.specs.declared.Refusal.{Refusal}
-use Rattle.rules.specs.declared.Refusal.the-variants.{BadTable, BadRecord, BadSyntax, UnknownName, UseRule, NamedTwice, BeyondBuffer, BadValue, OutOfRange, NoRoom}
+use Rattle.rules.specs.declared.Refusal.the-variants.{BeyondBuffer}
 use Rattle.rules.proofs.Steps.{by-test, not-done, done-inj, refused-inj, from-bind, from-need}
 use Rattle.buffer.specs.Splice.{splice}
 use Rattle.value_formats.specs.Formats.{format-at}
@@ -38,19 +35,6 @@ use Rattle.taking.specs.declared.value.Given.{Given}
 use Rattle.taking.specs.declared.Taking.{Taking}
 use Rattle.taking.specs.declared.Taken.the-variants.{At, Refused}
 use Rattle.taking.proofs.Finding.{value-bad}
-
--- A refusal of another variant than BeyondBuffer, as a match tells it, has another number.
-pub not-beyond : (x : Refusal) → OneOf (0 ∷ 1 ∷ 2 ∷ 3 ∷ 4 ∷ 5 ∷ 7 ∷ 8 ∷ 9 ∷ []) (tagOf the-type x) → refusal-number x ≡ 7 → ⊥
-not-beyond BadTable k e = omega (arith, e)
-not-beyond BadRecord k e = omega (arith, e)
-not-beyond BadSyntax k e = omega (arith, e)
-not-beyond UnknownName k e = omega (arith, e)
-not-beyond UseRule k e = omega (arith, e)
-not-beyond NamedTwice k e = omega (arith, e)
-not-beyond BeyondBuffer k e = miss (0 ∷ 1 ∷ 2 ∷ 3 ∷ 4 ∷ 5 ∷ 7 ∷ 8 ∷ 9 ∷ []) 6 tt k
-not-beyond BadValue k e = omega (arith, e)
-not-beyond (OutOfRange n) k e = omega (arith, e)
-not-beyond NoRoom k e = omega (arith, e)
 
 -- What is refused in limited room is refused itself, or longer than the room; what is done there is done.
 room-refused : (room : ℕ) (o : Outcome Bytes) (n : outcome.Refusal) → in-room room o ≡ refused n → (o ≡ refused n) ⊎ ((b : Bytes) × (o ≡ done b) × (room < length b) × (n .number ≡ 7))

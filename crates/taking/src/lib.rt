@@ -18,7 +18,7 @@ mod value;
 use rules::Refusal;
 use uses::Use;
 
-// Where the items of a call stand: at a place of the record buffer, with so many bytes on the stage. Where the stage is full the new record
+// Where the items of a call stand: at a place of the record buffer, with `staged` bytes on the stage. Where the stage is full the new record
 // is too long, and the items are only tested.
 pub struct Taking {
     pub at: usize,

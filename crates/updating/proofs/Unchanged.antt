@@ -12,7 +12,7 @@ use lib.Seq.{slice, slice-empty, take-at}
 use Rattle.rules.specs.Outcome.{done, is-done}
 use Rattle.rules.specs.Limits.{record-head-size}
 use Rattle.rules.specs.Lists.{Bytes}
-use Rattle.rules.specs.Table.{Field, What, field, group, Entry, Part, differ, names, member, alone, parts, table}
+use Rattle.rules.specs.Table.{Field, group, Entry, Part, differ, member, alone, parts, table}
 use Rattle.rules.specs.Record.{Occurrence, Record, values-at, group-count-at, stored-part, stored-cell, part-bytes, cell-bytes}
 use Rattle.rules.specs.Update.{Assignment, highest-occurrence, update-plan}
 use Rattle.rules.proofs.Steps.{by-option, by-outcome, true-T}

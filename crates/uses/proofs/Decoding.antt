@@ -22,11 +22,11 @@ use Rattle.rules.specs.declared.Refusal.the-variants.{BadSyntax, UseRule}
 use Rattle.rules.proofs.Steps.{from-bind, by-outcome, done-inj, refused-inj, not-done}
 use Rattle.rules.proofs.Lasts.{no-N-yet, lasts-plain, in-full-plain, scoped-meant, scopes-told}
 use Rattle.format_buffer.specs.Elements.{element-of, sound}
-use Rattle.format_buffer.specs.Syntax.{parsed, elements-behind, element-before, Stepped}
+use Rattle.format_buffer.specs.Syntax.{parsed, elements-after, element-before, Stepped}
 use Rattle.format_buffer.specs.declared.Element.{Element}
 use Rattle.format_buffer.specs.declared.syntax.Step.{Step}
 use Rattle.format_buffer.specs.declared.syntax.Step.the-variants as step
-use Rattle.format_buffer.proofs.StepLaws.{elements-parsed, elements-long, behind-last, behind-more}
+use Rattle.format_buffer.proofs.StepLaws.{elements-parsed, elements-long, after-last, after-more}
 use Rattle.uses.specs.Meant.{use-meant, Good-use, uses-of}
 use Rattle.uses.specs.Scopes.{scope-at, is-written}
 use Rattle.uses.specs.Meanings.{meaning-meant, Means, indexes-kept, Remembers, Remembered}
@@ -230,16 +230,16 @@ module _ {es : List Entry} {f : Bytes} where
   -- The element at a place is decoded.
   module _ {at : ℕ} {e : Element} {stop : ℕ} (t : Stepped f at (parsed (drop at f)) (step.At e stop)) {last last′ kept kept′ : List ℕ} {d d′ : Decoded}
       (w : Decoding es f last (parsed (drop at f)) kept d) (k : Keeps-element es e last last′ kept kept′ d d′) where
-    behind-element : Decoding es f last′ (elements-behind f stop) kept′ d′
-    behind-element = let v = decode-as (t .answer) w in let n = k .left f (t .place .2) (v .indexes) (v .remembers) in record {
+    after-element : Decoding es f last′ (elements-after f stop) kept′ d′
+    after-element = let v = decode-as (t .answer) w in let n = k .left f (t .place .2) (v .indexes) (v .remembers) in record {
       indexes = n .0;
       remembers = n .1;
       good = k .good f (t .place .2) (v .good);
-      left = v .left ∙ n .2 (elements-behind f stop);
+      left = v .left ∙ n .2 (elements-after f stop);
     }
 
     pub decode-last : eqb (getD f stop 0) period ≡ true → numbers-kept * uses-so-far d′ ≤ length kept′ → Decodes es f kept′ d′
-    decode-last q h = decode-end d′ h (decode-as (behind-last f stop q) behind-element)
+    decode-last q h = decode-end d′ h (decode-as (after-last f stop q) after-element)
 
     pub decode-more : eqb (getD f stop 0) period ≡ false → Decoding es f last′ (parsed (drop (stop + 1) f)) kept′ d′
-    decode-more q = decode-as (behind-more f stop q) behind-element
+    decode-more q = decode-as (after-more f stop q) after-element

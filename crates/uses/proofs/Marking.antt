@@ -8,7 +8,6 @@ use borrow.Author.Tests.{le-leb}
 use lib.Dec.{leb, leb→le}
 use lib.ListN.{length, getD}
 use lib.Seq.{sets, length-sets}
-use Rattle.rules.specs.Lists.{Bytes}
 use Rattle.rules.specs.Table.{Entry}
 use Rattle.rules.specs.Update.{meet, name-alike}
 use Rattle.rules.proofs.Bools.{and-both}
@@ -19,7 +18,7 @@ use Rattle.format_buffer.specs.Elements.{range}
 use Rattle.uses.specs.Meant.{use-meant, Good-span, Good-span-of}
 use Rattle.uses.specs.Kept.{use-at}
 use Rattle.uses.specs.Twice.{Good-spans, Alike, Met}
-use Rattle.uses.specs.Boxes.{box-meets, Clear, Box-holds, Wider, Widens, Held, Marks, Boxed, Boxes-more}
+use Rattle.uses.specs.Boxes.{box-meets, Clear, Box-holds, Widens, Held, Marks, Boxed, Boxes-more}
 use Rattle.uses.specs.declared.Span.{Span}
 use Rattle.uses.specs.declared.Use.{Use}
 use Rattle.uses.specs.declared.Use.the-variants as code
@@ -60,8 +59,8 @@ module _ (bs : List ℕ) (j : ℕ) (s : Span) (a b c d : ℕ) (h : 4 * j + 4 ≤
   before-same : (k : ℕ) → k < 4 * j → getD bs′ k 0 ≡ getD bs k 0
   before-same k l = sets-below (a ∷ b ∷ c ∷ d ∷ []) bs (4 * j) k l
 
-  behind-same : (k : ℕ) → 4 * j + 4 ≤ k → getD bs′ k 0 ≡ getD bs k 0
-  behind-same k l = sets-above (a ∷ b ∷ c ∷ d ∷ []) bs (4 * j) k l
+  after-same : (k : ℕ) → 4 * j + 4 ≤ k → getD bs′ k 0 ≡ getD bs k 0
+  after-same k l = sets-above (a ∷ b ∷ c ∷ d ∷ []) bs (4 * j) k l
 
   module _ (p : a ≤ s .from) (p′ : 0 < getD bs (4 * j + 1) 0 → a ≤ getD bs (4 * j) 0) (q : b ≡ max (getD bs (4 * j + 1) 0) (s .upto))
       (r : c ≤ s .«value_from») (r′ : 0 < getD bs (4 * j + 3) 0 → c ≤ getD bs (4 * j + 2) 0) (u : d ≡ max (getD bs (4 * j + 3) 0) (s .«value_upto»)) where
@@ -92,7 +91,7 @@ module _ (bs : List ℕ) (j : ℕ) (s : Span) (a b c d : ℕ) (h : 4 * j + 4 ≤
           by-order k j
           (λ l. holds-as (before-same (4 * k) (omega arith)) (before-same (4 * k + 1) (omega arith)) (before-same (4 * k + 2) (omega arith)) (before-same (4 * k + 3) (omega arith)) w)
           (λ l. by-order j k
-          (λ g. holds-as (behind-same (4 * k) (omega arith)) (behind-same (4 * k + 1) (omega arith)) (behind-same (4 * k + 2) (omega arith)) (behind-same (4 * k + 3) (omega arith)) w)
+          (λ g. holds-as (after-same (4 * k) (omega arith)) (after-same (4 * k + 1) (omega arith)) (after-same (4 * k + 2) (omega arith)) (after-same (4 * k + 3) (omega arith)) w)
           (λ g. let e : k ≡ j = omega arith in subst (λ i. Box-holds bs′ i x) (sym e) (wider-here x (subst (λ i. Box-holds bs i x) e w))));
     }
 

@@ -24,7 +24,7 @@ use Rattle.uses.specs.declared.Use.the-variants as code
 use Rattle.uses.proofs.Spreading.{ordered-within}
 use Rattle.uses.proofs.Sharing.{from-or}
 
--- Numbers set from a place on: those before it, those set, and those behind them.
+-- Numbers set from a place on: those before it, those set, and those after them.
 pub sets-below : (vs l : List ℕ) (at k : ℕ) → k < at → getD (sets l at vs) k 0 ≡ getD l k 0
 sets-below [] l at k h = refl
 sets-below (v ∷ vs) l at k h = sets-below vs (set l at v) (suc at) k (omega arith) ∙ getD-set-other l at k v 0 (λ e. absurd (omega arith))

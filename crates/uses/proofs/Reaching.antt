@@ -59,7 +59,7 @@ module _ (es : List Entry) (i last : ℕ) (m : Named) (u : rules.Use) (b : cond 
   unfolding use-of-group use-of-field found-at
   entry-multiple p =
       by-test (is-group (getD es i blank .what))
-      (λ g. from-need (absent (length-given m) && absent (letter-given m) && all plain (fields-below (getD es i blank .level) (found-at es i .behind))) 5 _ (rw g at p) λ t k.
+      (λ g. from-need (absent (length-given m) && absent (letter-given m) && all plain (fields-below (getD es i blank .level) (found-at es i .after))) 5 _ (rw g at p) λ t k.
       from-bind (spread (inside-at es i) false 0 (occurrences m) (bracket m)) _ k λ s h _.
       absurd (not-both (indexed-multiple (inside-at es i) (m .indexed) (m .bracketed) false 0 _ _ s b h)))
       (λ g. from-bind (spread (inside-at es i) (field-at es i .multiple) last (occurrences m) (bracket m)) _ (rw g at p) λ s h _.

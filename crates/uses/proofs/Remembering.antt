@@ -130,9 +130,9 @@ module _ (es : List Entry) (s : Span) (scope : ℕ) (last : List ℕ) where
   }
 
 -- What is kept after the index of the last entry is no entry's index.
-pub behind-remembered : (es : List Entry) (u : Use) (scope : ℕ) (last after : List ℕ) (n v : ℕ) → length es ≤ n
+pub after-remembered : (es : List Entry) (u : Use) (scope : ℕ) (last after : List ℕ) (n v : ℕ) → length es ≤ n
     → Remembered es u scope (set last n v) after → Remembered es u scope last after
-behind-remembered es u scope last after n v h r = record {
+after-remembered es u scope last after n v h r = record {
   same = r .same ∙ length-set last n v;
   indexes = λ f ls ns k. r .indexes f ls ns (λ j q o. record { kept = getD-set-other last n j v 0 (λ e. omega arith) ∙ k j q o .kept; bound = k j q o .bound });
 }

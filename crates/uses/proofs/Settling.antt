@@ -71,17 +71,17 @@ module _ (x : Found) (os vs : Option Range) where
   unfolding use-of-group absent
   group-lettered b = refl
 
-  pub group-unnamed : all plain (fields-below (x .entry .level) (x .behind)) ≡ false → use-of-group x os vs none none ≡ refused (by 5)
+  pub group-unnamed : all plain (fields-below (x .entry .level) (x .after)) ≡ false → use-of-group x os vs none none ≡ refused (by 5)
   unfolding use-of-group absent
   group-unnamed e = rw e
 
-  module _ (e : all plain (fields-below (x .entry .level) (x .behind)) ≡ true) where
+  module _ (e : all plain (fields-below (x .entry .level) (x .after)) ≡ true) where
     pub group-astray : spread (x .inside) false 0 os vs ≡ refused (by 5) → use-of-group x os vs none none ≡ refused (by 5)
     unfolding use-of-group absent
     group-astray p = rw (e, p)
 
     pub group-done : (s : Spread) → spread (x .inside) false 0 os vs ≡ done s
-        → use-of-group x os vs none none ≡ done (values (map as-stored (fields-below (x .entry .level) (x .behind))) (s .occurrences) (s .values) (s .bare))
+        → use-of-group x os vs none none ≡ done (values (map as-stored (fields-below (x .entry .level) (x .after))) (s .occurrences) (s .values) (s .bare))
     unfolding use-of-group absent
     group-done s p = rw (e, p)
 
@@ -152,11 +152,11 @@ module _ (x : Found) (n : ℕ) where
     series-inside i = first-field (x .entry .what) _ e ∙ rw i
 
     module _ (i : x .inside ≡ false) where
-      pub series-broken : fields-to n (x .entry ∷ x .behind) ≡ refused (by 5) → use-of-series x n ≡ refused (by 5)
+      pub series-broken : fields-to n (x .entry ∷ x .after) ≡ refused (by 5) → use-of-series x n ≡ refused (by 5)
       unfolding use-of-series
       series-broken p = first-field (x .entry .what) _ e ∙ rw (i, p)
 
-      pub series-done : (fs : List Field) → fields-to n (x .entry ∷ x .behind) ≡ done fs
+      pub series-done : (fs : List Field) → fields-to n (x .entry ∷ x .after) ≡ done fs
           → use-of-series x n ≡ done (values (map as-stored fs) (just 1) (just 1) false)
       unfolding use-of-series
       series-done fs p = first-field (x .entry .what) _ e ∙ rw (i, p)

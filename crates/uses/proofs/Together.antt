@@ -23,7 +23,8 @@ use Rattle.tables.specs.Groups.{run-below, group-end}
 use Rattle.tables.proofs.Tables.{valid-sound}
 use Rattle.tables.proofs.Known.{level-known, member-next, one-entry, periodic-level}
 use Rattle.tables.proofs.Periodic.{inside-next}
-use Rattle.tables.proofs.Nesting.{members-inside, periodic-what, run-nil, run-deeper, run-ends, run-more, run-then}
+use Rattle.tables.proofs.LevelSteps.{periodic-what}
+use Rattle.tables.proofs.Nesting.{members-inside, run-nil, run-deeper, run-ends, run-more, run-then}
 
 -- A run, and what is left of it further on.
 run-on : (l : ℕ) (es : List Entry) (k : ℕ) → k ≤ run-below l es → run-below l es ≡ k + run-below l (drop k es)

@@ -22,7 +22,7 @@ use Rattle.uses.specs.declared.kept.Decoded.the-variants.{Uses, Refused}
 abbrev pub numbers-kept : ℕ
 numbers-kept = 4
 
--- An element takes so many bytes of a format at least, with what ends it.
+-- The fewest bytes that an element takes of a format, with what ends it.
 abbrev pub element-bytes : ℕ
 element-bytes = 3
 

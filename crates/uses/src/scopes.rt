@@ -77,7 +77,7 @@ pub fn of_name(t: &[u8], i: usize, n: Named) -> Scopes
     }
 }
 
-// Where the indexes begin that are meant, and where they end, if so many are stored.
+// The first of the indexes that are meant, and the last, where `stored` are stored.
 pub fn resolved_from(scope: u8, from: usize, upto: usize, stored: usize) -> usize
     ensures { λ r. ⌜ r ≡ resolved (scope-at scope) (range from upto) stored .from ⌝ }
 {

@@ -3,7 +3,8 @@ use mathlib.Core.Path.{sym}
 use Prim.Native.Nat.{_≤_}
 use native.Mathlib.Omega.{arith}
 use lib.Seq.{length-take-le}
-use Rattle.lyrecanyon.proofs.Readings.{not-beyond, Ready, all-refused, less-refused, made-within, short-read}
+use Rattle.filling.proofs.Beyond.{not-beyond}
+use Rattle.lyrecanyon.proofs.Readings.{Ready, all-refused, less-refused, made-within, short-read}
 use borrow.Author.Needs.{needs}
 use Rattle.lyrecanyon.proofs.read_short.Statement.{statement}
 use Rattle.lyrecanyon.proofs.read_short.Tie as tie

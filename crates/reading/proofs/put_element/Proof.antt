@@ -5,7 +5,7 @@ use Rattle.uses.specs.Meant.{Good-use, Good-meaning}
 use Rattle.uses.specs.Meanings.{Good-scopes, Good-scopes-of}
 use Rattle.uses.specs.declared.Meant.{Meant}
 use Rattle.uses.proofs.Remembering.{span-known}
-use Rattle.reading.proofs.Putting.{at-fits, not-refused, puts-as, puts-nothing, puts-refused, puts-behind, puts-items}
+use Rattle.reading.proofs.Putting.{at-fits, not-refused, puts-as, puts-nothing, puts-refused, puts-after, puts-items}
 use borrow.Author.Needs.{needs}
 use Rattle.reading.proofs.put_element.Statement.{statement}
 use Rattle.reading.proofs.put_element.Tie as tie
@@ -86,7 +86,7 @@ returns-4 : tie.Need-returns-4
 returns-4 c =
     let r = c .before .before .before in
     let u = meant r in
-    puts-as (c .before .state2 .given .1) refl (puts-behind (start u .pre .1) (u .before .before .use-of .ensures) (u .meant2 .given .1) (r .remember .ensures) _)
+    puts-as (c .before .state2 .given .1) refl (puts-after (start u .pre .1) (u .before .before .use-of .ensures) (u .meant2 .given .1) (r .remember .ensures) _)
 
 returns-5 : tie.Need-returns-5
 returns-5 c =

@@ -8,7 +8,7 @@ use Rattle.rules.specs.Record.{group-count-at}
 use Rattle.rules.specs.Update.{update-plan}
 use Rattle.tables.specs.Entries.{entries-of, blank}
 use Rattle.tables.specs.Groups.{field-at}
-use Rattle.tables.proofs.Nesting.{periodic-what}
+use Rattle.tables.proofs.LevelSteps.{periodic-what}
 use Rattle.filling.proofs.Singles.{nothing-put}
 use Rattle.updating.proofs.Turns.{adds-nothing, adds-cell}
 use Rattle.updating.proofs.Laying.{puts-as}

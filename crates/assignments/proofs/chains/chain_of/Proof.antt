@@ -1,7 +1,7 @@
 -- `assignments::chains::chain_of` meets its contract, by the tests that lead to each chain.
 use mathlib.Core.Path.{_∙_}
 use native.Mathlib.Omega.{arith}
-use Rattle.assignments.proofs.Linking.{chain-several, chain-occurrences, chain-cell, cell-low}
+use Rattle.assignments.proofs.PutBefore.{chain-several, chain-occurrences, chain-cell, cell-low}
 use borrow.Author.Needs.{needs}
 use Rattle.assignments.proofs.chains.chain_of.Statement.{statement}
 use Rattle.assignments.proofs.chains.chain_of.Tie as tie

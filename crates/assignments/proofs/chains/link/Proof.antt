@@ -2,7 +2,7 @@
 use mathlib.Core.Path.{refl, sym, _∙_}
 use Rattle.tables.specs.Entries.{entries-of}
 use Rattle.uses.specs.declared.Use.the-variants as code
-use Rattle.assignments.proofs.Linking.{links-as}
+use Rattle.assignments.proofs.PutBefore.{links-as}
 use borrow.Author.Needs.{needs}
 use Rattle.assignments.proofs.chains.link.Statement.{statement}
 use Rattle.assignments.proofs.chains.link.Tie as tie

@@ -8,7 +8,8 @@ use Rattle.uses.specs.Kept.{use-at}
 use Rattle.uses.specs.declared.Span.{Span}
 use Rattle.uses.specs.declared.Use.the-variants as code
 use Rattle.assignments.specs.Answers.{Can-link}
-use Rattle.assignments.proofs.Linking.{Linking, put-linked, linking-start, can-link, linking-turn, linking-end}
+use Rattle.assignments.proofs.PutBefore.{put-linked}
+use Rattle.assignments.proofs.Linking.{Linking, linking-start, can-link, linking-turn, linking-end}
 use borrow.Author.Needs.{needs}
 use Rattle.assignments.proofs.chains.link_all.Statement.{statement}
 use Rattle.assignments.proofs.chains.link_all.Tie as tie

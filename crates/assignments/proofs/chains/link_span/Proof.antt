@@ -4,7 +4,7 @@ use native.Mathlib.Omega.{arith}
 use lib.ListN.{length-set}
 use Rattle.tables.specs.Entries.{entries-of}
 use Rattle.assignments.specs.Answers.{Marked, linked}
-use Rattle.assignments.proofs.Linking.{linked-length, marked-linked}
+use Rattle.assignments.proofs.PutBefore.{linked-length, marked-linked}
 use borrow.Author.Needs.{needs}
 use Rattle.assignments.proofs.chains.link_span.Statement.{statement}
 use Rattle.assignments.proofs.chains.link_span.Tie as tie

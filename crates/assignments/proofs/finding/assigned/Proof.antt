@@ -3,7 +3,7 @@ use Prim.Native.Nat.{_+_, _-_}
 use native.Mathlib.Omega.{arith}
 use Rattle.tables.specs.Entries.{entries-of}
 use Rattle.assignments.specs.Notes.{firsts-from}
-use Rattle.assignments.proofs.Filling.{block-within, block-takes, one-value, found-named, first-takes, none-takes}
+use Rattle.assignments.proofs.CellSpans.{block-within, block-takes, one-value, found-named, first-takes, none-takes}
 use borrow.Author.Needs.{needs}
 use Rattle.assignments.proofs.finding.assigned.Statement.{statement}
 use Rattle.assignments.proofs.finding.assigned.Tie as tie

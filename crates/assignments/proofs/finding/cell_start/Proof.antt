@@ -4,7 +4,7 @@ use native.Mathlib.Omega.{arith}
 use Rattle.tables.specs.Groups.{field-at}
 use Rattle.assignments.specs.Notes.{note-place, widths-from, width-noted}
 use Rattle.assignments.proofs.Blocks.{single-starts}
-use Rattle.assignments.proofs.Filling.{Cell-span, cell-span, starts-end, starts-single, several-noted, starts-several, values-few, widths-few}
+use Rattle.assignments.proofs.CellSpans.{Cell-span, cell-span, starts-end, starts-single, several-noted, starts-several, values-few, widths-few}
 use borrow.Author.Needs.{needs}
 use Rattle.assignments.proofs.finding.cell_start.Statement.{statement}
 use Rattle.assignments.proofs.finding.cell_start.Tie as tie

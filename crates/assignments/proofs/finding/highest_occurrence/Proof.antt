@@ -5,8 +5,8 @@ use Prim.Native.Nat.{_+_, _-_, _≤_, max}
 use native.Mathlib.Omega.{arith}
 use Rattle.rules.specs.Limits.{highest-index}
 use Rattle.assignments.specs.Notes.{highest-from, highest-noted}
-use Rattle.assignments.proofs.Cells.{highest-named, highest-small}
-use Rattle.assignments.proofs.Searching.{Climbing, climb-start, climb-on, climb-end, higher}
+use Rattle.assignments.proofs.Reaching.{highest-named, highest-small}
+use Rattle.assignments.proofs.Climbing.{Climbing, climb-start, climb-on, climb-end, higher}
 use borrow.Author.Needs.{needs}
 use Rattle.assignments.proofs.finding.highest_occurrence.Statement.{statement}
 use Rattle.assignments.proofs.finding.highest_occurrence.Tie as tie

@@ -9,7 +9,8 @@ use lib.ListN.{length}
 use Rattle.rules.specs.Limits.{highest-index}
 use Rattle.uses.specs.Kept.{numbers-kept, span-at}
 use Rattle.assignments.specs.Notes.{note-place, next-noted, names-cell}
-use Rattle.assignments.proofs.Searching.{turns-left, Room, Walk, walk-room, walk-falls, higher}
+use Rattle.assignments.proofs.Searching.{turns-left, Room, Walk, walk-room, walk-falls}
+use Rattle.assignments.proofs.Climbing.{higher}
 use Rattle.assignments.proofs.Tallying.{Tallying, naming, walk-named, walk-fills, tallying-start, tallying-end, turn-in, turn-out, bare-other, bare-still, naming-as}
 use borrow.Author.Needs.{needs}
 use Rattle.assignments.proofs.finding.named_in.Statement.{statement}

@@ -1,6 +1,6 @@
 -- `lyre::listing::say_entries` is safe and ends.
 use borrow.Author.Needs.{needs}
-use Prim.Native.Nat.{_≤_, _-_}
+use Prim.Native.Nat.{_-_}
 use Rattle.lyre.proofs.listing.say_entries.Statement.{statement}
 use Rattle.lyre.proofs.listing.say_entries.Tie as tie
 

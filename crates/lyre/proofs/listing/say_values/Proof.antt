@@ -1,6 +1,6 @@
 -- `lyre::listing::say_values` is safe and ends.
 use borrow.Author.Needs.{needs}
-use Prim.Native.Nat.{_≤_, _-_}
+use Prim.Native.Nat.{_-_}
 use Rattle.lyre.proofs.listing.say_values.Statement.{statement}
 use Rattle.lyre.proofs.listing.say_values.Tie as tie
 

@@ -1,6 +1,6 @@
 -- `lyre::spans_shown::say_field` is safe and ends.
 use borrow.Author.Needs.{needs}
-use Prim.Native.Nat.{_≤_, _-_}
+use Prim.Native.Nat.{_-_}
 use Rattle.lyre.proofs.spans_shown.say_field.Statement.{statement}
 use Rattle.lyre.proofs.spans_shown.say_field.Tie as tie
 

@@ -7,7 +7,6 @@ use Rattle.tables.proofs.Tables.{valid-most}
 use Rattle.reading.specs.Spans.{Adjacent}
 use Rattle.reading.proofs.SpanItems.{bounds}
 use Rattle.reading.proofs.Adjacents.{group-of, adjacent-none, adjacent-some}
-use borrow.Author.Needs.{needs}
 use Rattle.reading.proofs.spans.adjacent_count.Statement.{statement}
 use Rattle.reading.proofs.spans.adjacent_count.Tie as tie
 

@@ -1,5 +1,5 @@
 -- `records::empty::write_entry` meets its contract: a plain field outside periodic groups adds null, another entry a count of 0 or nothing.
-use mathlib.Core.Path.{_≡_, refl, sym, ap, _∙_}
+use mathlib.Core.Path.{_≡_, sym, ap, _∙_}
 use mathlib.Core.Bool.{true, false}
 use Prim.Native.Nat.{_+_}
 use native.Mathlib.Omega.{arith}

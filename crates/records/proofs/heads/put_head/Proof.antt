@@ -1,6 +1,5 @@
 -- `records::heads::put_head` meets its contract: the head is put to the front.
 use mathlib.Core.Path.{refl}
-use native.Mathlib.Omega.{arith}
 use borrow.Author.Needs.{needs}
 use Rattle.rules.specs.Record.{record-head}
 use Rattle.records.proofs.heads.put_head.Statement.{statement}

@@ -8,7 +8,6 @@ use Rattle.tables.specs.Entries.{entries-of, blank}
 use Rattle.tables.proofs.Tables.{valid-names}
 use Rattle.records.specs.Places.{Is-record}
 use Rattle.records.proofs.Placed.{home-end, count-there, members-end}
-use borrow.Author.Needs.{needs}
 use Rattle.records.proofs.places.entry_in.Statement.{statement}
 use Rattle.records.proofs.places.entry_in.Tie as tie
 

@@ -1,12 +1,12 @@
 -- `records::places::next_cell` meets its contract: the next cell stands where this one ends, or the occurrence does not exist.
 use mathlib.Core.Path.{subst}
 use mathlib.Core.List.{List}
-use Prim.Native.Nat.{ℕ, _+_}
+use Prim.Native.Nat.{ℕ}
 use native.Mathlib.Omega.{arith}
 use Rattle.tables.specs.Entries.{entries-of}
 use Rattle.tables.proofs.Tables.{valid-most}
 use Rattle.rules.specs.Record.{Record}
-use Rattle.records.specs.Places.{Entered, Member-entered}
+use Rattle.records.specs.Places.{Member-entered}
 use Rattle.records.specs.declared.places.Cell.the-variants.{At}
 use Rattle.records.proofs.Members.{member-ends, member-next}
 use borrow.Author.Needs.{needs}

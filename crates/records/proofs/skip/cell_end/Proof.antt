@@ -11,7 +11,6 @@ use Rattle.records.specs.Counts.{count-at}
 use Rattle.records.specs.Walk.{rest-of, Ends}
 use Rattle.records.proofs.Walks.{walked-as}
 use Rattle.records.proofs.Skips.{counted-ends, counted-one}
-use borrow.Author.Needs.{needs}
 use Rattle.records.proofs.skip.cell_end.Statement.{statement}
 use Rattle.records.proofs.skip.cell_end.Tie as tie
 

@@ -7,11 +7,11 @@ use lib.ListN.{length, getD, drop}
 use Rattle.rules.specs.Limits.{greatest-count}
 use Rattle.tables.specs.Entries.{entries-of, blank, is-periodic}
 use Rattle.tables.proofs.Tables.{valid-most}
-use Rattle.tables.proofs.Nesting.{periodic-what}
+use Rattle.tables.proofs.LevelSteps.{periodic-what}
 use Rattle.tables.proofs.Known.{periodic-level}
 use Rattle.records.specs.Counts.{count-at}
 use Rattle.records.proofs.Walks.{walked-as, not-at}
-use Rattle.records.proofs.Ends.{count-some, behind-countless, behind-counted, behind-inside, behind-outside, group-within, kept-rows, kept-none}
+use Rattle.records.proofs.Ends.{count-some, after-countless, after-counted, after-inside, after-outside, group-within, kept-rows, kept-none}
 use borrow.Author.Needs.{needs}
 use Rattle.records.proofs.walk.entry_end.Statement.{statement}
 use Rattle.records.proofs.walk.entry_end.Tie as tie
@@ -61,7 +61,7 @@ returns c =
     let l = periodic-level (a .t .now) (s .pre .0) (a .i) (s .pre .1) (periodic-what (e .what) p) in
     let o = rw (c .before .before .before .after-count .ensures, c .before .before .before .before .count-at .ensures .0) at (c .occurrences-end .ensures) in
     let g = c .before .before .group-end .ensures in (
-      walked-as (behind-counted (a .inside) es (a .i) (a .b .now) (a .at) p (sym (k .before .has-count .ensures) ∙ k .if2 .taken) l _ g) (o .0),
+      walked-as (after-counted (a .inside) es (a .i) (a .b .now) (a .at) p (sym (k .before .has-count .ensures) ∙ k .if2 .taken) l _ g) (o .0),
       λ x q. kept-rows es (a .i) p g (o .1 x q),
     )
 
@@ -70,7 +70,7 @@ returns-2 c =
     let a = start (c .before) .args in
     let e = getD (entries-of (a .t .now)) (a .i) blank in
     let p : is-periodic (e .what) ≡ true = sym (c .before .before .before .periodic-at .ensures) ∙ c .before .before .if1 .taken in
-    (record { answer = sym (behind-countless (a .inside) (entries-of (a .t .now)) (a .i) (a .b .now) (a .at) p (sym (c .before .has-count .ensures) ∙ c .if2 .left)); place = tt }, λ x q. absurd (not-at q))
+    (record { answer = sym (after-countless (a .inside) (entries-of (a .t .now)) (a .i) (a .b .now) (a .at) p (sym (c .before .has-count .ensures) ∙ c .if2 .left)); place = tt }, λ x q. absurd (not-at q))
 
 returns-3 : tie.Need-returns-3
 returns-3 c =
@@ -78,7 +78,7 @@ returns-3 c =
     let a = s .args in
     let es = entries-of (a .t .now) in
     let p : is-periodic (getD es (a .i) blank .what) ≡ false = sym (c .before .before .periodic-at .ensures) ∙ c .before .if1 .left in (
-      record { answer = sym (behind-inside (a .inside) (getD es (a .i) blank) (drop (suc (a .i)) es) (drop (a .at) (a .b .now)) p (c .if3 .taken)); place = s .pre .2 },
+      record { answer = sym (after-inside (a .inside) (getD es (a .i) blank) (drop (suc (a .i)) es) (drop (a .at) (a .b .now)) p (c .if3 .taken)); place = s .pre .2 },
       λ x q. kept-none es (a .i) p (getD (a .b .now) (a .at) 0) (a .kept) (a .places .now),
     )
 
@@ -90,7 +90,7 @@ returns-4 c =
     let a = c .before .before .before .before .before .before .args in
     let es = entries-of (a .t .now) in
     let p : is-periodic (getD es (a .i) blank .what) ≡ false = sym (c .before .before .before .periodic-at .ensures) ∙ c .before .before .if1 .left in (
-      walked-as (behind-outside (a .inside) (getD es (a .i) blank) (drop (suc (a .i)) es) (drop (a .at) (a .b .now)) p (c .before .if3 .left)) (c .member-end .ensures),
+      walked-as (after-outside (a .inside) (getD es (a .i) blank) (drop (suc (a .i)) es) (drop (a .at) (a .b .now)) p (c .before .if3 .left)) (c .member-end .ensures),
       λ x q. kept-none es (a .i) p (getD (a .b .now) (a .at) 0) (a .kept) (a .places .now),
     )
 

@@ -4,7 +4,7 @@ use native.Mathlib.Omega.{arith}
 use Prim.Native.Nat.{_<_}
 use lib.ListN.{length}
 use Rattle.tables.specs.Entries.{entries-of}
-use Rattle.tables.proofs.Nesting.{level-range}
+use Rattle.tables.proofs.LevelSteps.{level-range}
 use Rattle.tables.proofs.Climbs.{Climb, climb-start, climb-up, climb-home, climb-none, not-first}
 use Rattle.tables.proofs.Tables.{valid-levels, valid-sound}
 use Rattle.tables.proofs.lookup.periodic_group.Statement.{statement}

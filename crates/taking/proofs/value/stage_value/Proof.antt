@@ -9,7 +9,8 @@ use Rattle.rules.specs.Table.{Entry}
 use Rattle.filling.specs.declared.Next.the-variants as put
 use Rattle.taking.specs.Taking.{Room-enough, Gives}
 use Rattle.taking.proofs.Finding.{value-place}
-use Rattle.taking.proofs.Staging.{not-beyond, Begins, begins-at, begins-inside, Puts, stage-beyond, stage-refused, stage-tested, note-small, stage-on}
+use Rattle.filling.proofs.Beyond.{not-beyond}
+use Rattle.taking.proofs.Staging.{Begins, begins-at, begins-inside, Puts, stage-beyond, stage-refused, stage-tested, note-small, stage-on}
 use borrow.Author.Needs.{needs}
 use Rattle.taking.proofs.value.stage_value.Statement.{statement}
 use Rattle.taking.proofs.value.stage_value.Tie as tie

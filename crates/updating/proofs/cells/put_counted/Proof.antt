@@ -21,7 +21,7 @@ use Rattle.records.specs.Places.{Cell-of}
 use Rattle.records.proofs.Placed.{multiple-field}
 use Rattle.assignments.specs.Notes.{place-at}
 use Rattle.assignments.specs.Answers.{Names, Can-name}
-use Rattle.assignments.proofs.Filling.{standard-length}
+use Rattle.assignments.proofs.CellSpans.{standard-length}
 use Rattle.updating.specs.Laid.{cell-laid}
 use Rattle.updating.specs.New.{Assigns, Old, Notes-by, new-values}
 use Rattle.updating.proofs.OldValues.{filling-as}

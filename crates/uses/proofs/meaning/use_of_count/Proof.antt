@@ -1,6 +1,6 @@
 -- `uses::meaning::use_of_count` meets its contract: an MU field, a periodic group, or neither.
 use mathlib.Core.Path.{sym, _∙_}
-use Rattle.tables.proofs.Nesting.{periodic-what}
+use Rattle.tables.proofs.LevelSteps.{periodic-what}
 use Rattle.uses.proofs.Settling.{refuse, count-group, count-group-indexed, count-neither}
 use borrow.Author.Needs.{needs}
 use Rattle.uses.proofs.meaning.use_of_count.Statement.{statement}

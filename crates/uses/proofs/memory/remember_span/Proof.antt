@@ -17,7 +17,7 @@ use Rattle.uses.specs.declared.Use.the-variants.{Values}
 use Rattle.uses.proofs.Scoping.{last-told}
 use Rattle.uses.proofs.Spreading.{ordered-within}
 use Rattle.uses.proofs.Fields.{multiple-at}
-use Rattle.uses.proofs.Remembering.{stored-remembered, single-remembered, multiple-remembered, behind-remembered}
+use Rattle.uses.proofs.Remembering.{stored-remembered, single-remembered, multiple-remembered, after-remembered}
 use borrow.Author.Needs.{needs}
 use Rattle.uses.proofs.memory.remember_span.Statement.{statement}
 use Rattle.uses.proofs.memory.remember_span.Tie as tie
@@ -47,7 +47,7 @@ set-as : (c : tie.Then2) (k : ℕ) → (let a = start (alone c) .args in k ≡ c
 set-as c k e =
     let o = alone c in
     let s = start o in
-    behind-remembered (entries-of (s .args .t .now)) _ _ _ _ _ _ (valid-most (s .args .t .now) (s .pre .0))
+    after-remembered (entries-of (s .args .t .now)) _ _ _ _ _ _ (valid-most (s .args .t .now) (s .pre .0))
     (multiple-remembered (entries-of (s .args .t .now)) (s .args .s) _ _ k e (value-within o) (o .if1 .left)
     (multiple-at (entries-of (s .args .t .now)) _ ∙ sym (c .before .multiple-at .ensures) ∙ c .if2 .taken)
     (omega (arith, first-kept o, s .pre .2, length-set (s .args .last .now) most-entries (s .args .s .end)))
@@ -62,7 +62,7 @@ element-write-last c = search needs
 returns : tie.Need-returns
 returns c =
     let s = c .before .before .before in
-    behind-remembered (entries-of (s .args .t .now)) _ _ _ _ _ _ (valid-most (s .args .t .now) (s .pre .0))
+    after-remembered (entries-of (s .args .t .now)) _ _ _ _ _ _ (valid-most (s .args .t .now) (s .pre .0))
     (stored-remembered (entries-of (s .args .t .now)) (s .args .s) _ _ (s .pre .1) (c .if1 .taken))
 
 multiple-at-requires : tie.Need-multiple-at-requires
@@ -92,7 +92,7 @@ returns-3 c = set-as (c .before) _ (rw (last-told (start (alone (c .before)) .ar
 returns-4 : tie.Need-returns-4
 returns-4 c =
     let s = start (c .before .before) in
-    behind-remembered (entries-of (s .args .t .now)) _ _ _ _ _ _ (valid-most (s .args .t .now) (s .pre .0))
+    after-remembered (entries-of (s .args .t .now)) _ _ _ _ _ _ (valid-most (s .args .t .now) (s .pre .0))
     (single-remembered (entries-of (s .args .t .now)) (s .args .s) _ _ (c .before .before .if1 .left) (multiple-at (entries-of (s .args .t .now)) _ ∙ sym (c .before .multiple-at .ensures) ∙ c .if2 .left))
 
 pub remember-span-spec : {M : Type 1} → statement M
