@@ -71,7 +71,7 @@ fn take_values(service: Service, area: &mut [u8]) -> Input
     }
 }
 
-// The answer of a service that was not refused.
+// The answer of a service that was not refused. After a new record it is said what the format now reads, or what every field holds.
 fn say_answer(service: Service, t: &[u8], record: &[u8], f: &[u8], answer: &[u8]) {
     match service {
         Service::Read => {
@@ -79,10 +79,14 @@ fn say_answer(service: Service, t: &[u8], record: &[u8], f: &[u8], answer: &[u8]
             explaining::say_format(t, record, f, true);
         }
         Service::Update => {
-            saving::give(answer, UPDATE);
+            if saving::give(answer, UPDATE) {
+                explaining::say_format(t, answer, f, true);
+            }
         }
         Service::Empty => {
-            saving::give(answer, EMPTY);
+            if saving::give(answer, EMPTY) {
+                listing::show(t, answer);
+            }
         }
         Service::Explain => {
             explaining::say_format(t, record, f, false);

@@ -33,14 +33,15 @@ fn say_help() {
         b"lyre answers calls on job records.
 
   lyre read TABLE RECORD FORMAT                  the items of a read in hexadecimal, and each in plain words
-  lyre update TABLE RECORD FORMAT HEX [-o OUT]   the record with the values HEX stored
+  lyre update TABLE RECORD FORMAT HEX [-o OUT]   the record with the values HEX stored, and in plain words what FORMAT then reads
   lyre empty TABLE [-o OUT]                      the empty record of a table
   lyre show TABLE [RECORD]                       a table as a list, or a record field by field
   lyre explain TABLE FORMAT                      what each element of a format names
 
 TABLE and RECORD are files, - is standard input. A file is binary where its first byte is E5; any other has hexadecimal digits in
 pairs, with blanks and line ends between them. FORMAT is text, as 'AA,MF1-3,AB,5,U.', where a read may have N for the last, as in
-'MFN,HB1-N.'; HEX is digits in pairs. A record is written in hexadecimal, or in binary to the file OUT, which a refusal leaves as it was.
+'MFN,HB1-N.'; HEX is digits in pairs. A record is written in hexadecimal, or in binary to the file OUT, which a refusal leaves as it was;
+where OUT is - the bytes go to standard output alone, so that another lyre can take them.
 
 Exit status: 0 done, 1 refused, 2 wrong use or a file that cannot be read or written.
 ",

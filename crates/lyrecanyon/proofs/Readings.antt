@@ -37,7 +37,7 @@ pub read-no-table : (t b f : Bytes) (room : ℕ) → is-done (table t) ≡ false
 unfolding read
 read-no-table t b f room h = rw (no-table t h) refl
 
--- The items of a format in so much room, of a record.
+-- The items that a format gives of a record, in room of a length.
 abbrev made : List Entry → Bytes → ℕ → Record → Outcome Bytes
 made es f room r = meanings-of es f >>= λ ms. filled (parts es) r room (items-read (parts es) (counts-in (parts es) r) ms)
 
@@ -85,14 +85,14 @@ pub record Ready (t b : Bytes) (places : List ℕ) (f out : Bytes) (end : ℕ) :
   pub room : end ≡ min (length out) longest-items
 
 module _ {t b : Bytes} {places : List ℕ} {f out : Bytes} {end : ℕ} (s : Ready t b places f out end) where
-  -- The outcome in so much room, for the record that there is.
+  -- The outcome in room of a length, for the record that there is.
   abbrev given : ℕ → Outcome Bytes
   given room = made (entries-of t) f room (s .holds .0)
 
   read-given : read t b f (length out) ≡ given end
   read-given = read-stored t b f (length out) (s .valid) ∙ rw (s .holds .1 .stands, s .room) refl
 
-  -- A pass in so much room.
+  -- A pass in room of a length.
   module _ (room : ℕ) {write : Bool} {area area′ : Bytes} {m : Next} (g : Scans (entries-of t) b places f room write area area′ m) where
     filling : Filling (given room) 0 write area area′ m
     filling = g (s .holds .0) (s .holds .1)

@@ -51,7 +51,7 @@ pub record Fresh (n : ℕ) (list : List ℕ) : Type 0 where
 abbrev pub given : List Entry → Bytes → List ℕ → ℕ → Bytes → Outcome (List Assignment)
 given es f kept n buffer = assignments (items (uses-kept es f kept n)) buffer
 
--- Bytes in so much room: "over the lent room" is 10.
+-- Bytes in a lent room of a length: "over the lent room" is 10.
 abbrev pub in-lent : ℕ → Outcome Bytes → Outcome Bytes
 in-lent room o = do
   b ← o

@@ -85,7 +85,7 @@ module _ (ps : List Part) (r : Record) (room : ℕ) (m : Meaning) where
 
 -- What is left, where something is refused.
 module _ (es : List Entry) (r : Record) (end : ℕ) (ls : Indexes) (ns : Lasts) where
-  -- What is filled in so much room.
+  -- What is filled in the room that is left.
   abbrev filling : ℕ → List Meaning → Outcome Bytes
   filling room ms = filled (parts es) r room (items-read (parts es) (counts-in (parts es) r) ms)
 

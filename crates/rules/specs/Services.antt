@@ -25,7 +25,7 @@ item-bytes ps r (value-count n i) = done (value-count-at ps r n i ∷ [])
 item-bytes ps r (value-item p g n bare) =
     read-value (p .field .format) g n (content (p .field .size) (value-at ps r (p .field) (p .occurrence) (p .value)))
 
--- The items one after the other in so much room. "Per item, read tests 9 then 7".
+-- The items one after the other in the room that is left. "Per item, read tests 9 then 7".
 unfoldable pub filled : List Part → Record → ℕ → List Item → Outcome Bytes
 filled ps r room [] = done []
 filled ps r room (x ∷ xs) = do

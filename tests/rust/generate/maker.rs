@@ -8,8 +8,8 @@ use crate::records::HIGHEST_INDEX;
 use crate::tables::{length_for, Entry, Form, FORMATS};
 use crate::values::capacity;
 
-/// The elements of one format as they are made; so many percent of the MU fields outside get an index, and so many
-/// percent of the indexes are N.
+/// The elements of one format as they are made. Of the MU fields outside `indexed` percent get an index, and of the
+/// indexes `with_n` percent are N.
 pub(crate) struct Maker<'a> {
     pub(crate) table: &'a [Entry],
     plan: Plan,

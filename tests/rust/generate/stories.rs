@@ -100,7 +100,7 @@ fn history_table(random: &mut Random) -> Vec<Entry> {
     }
 }
 
-/// A length to lend where so much is needed, or 0 where the call is refused in any case.
+/// A length to lend where `needed` bytes are needed, or 0 where the call is refused in any case.
 pub(crate) fn choose_length(random: &mut Random, needed: usize, short: bool) -> usize {
     match random.below(4) {
         _ if needed == 0 => random.pick(&[0, 30, 999, 4096, 4097, 33_000]),

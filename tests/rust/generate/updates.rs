@@ -12,7 +12,7 @@ use crate::values::{make_bad, make_value};
 use std::io::{self, Write};
 
 impl Story {
-    /// An update; so many percent of those that are accepted give the record of the next call.
+    /// An update; `percent` of those that are accepted give the record of the next call.
     pub(crate) fn write_update(&mut self, random: &mut Random, percent: usize, out: &mut impl Write) -> io::Result<()> {
         const PLANS: [(usize, Plan); 10] = [
             (4, Plan::Table),
@@ -36,7 +36,7 @@ impl Story {
         update.write(room, out)
     }
 
-    /// The next update of a history, which may take so many bytes of its journal; what it takes of them.
+    /// The next update of a history, which may take `most` bytes of its journal; what it takes of them.
     pub(crate) fn write_next(&mut self, random: &mut Random, most: usize, out: &mut impl Write) -> io::Result<usize> {
         const PLANS: [(usize, Plan); 9] = [
             (4, Plan::Syntax),

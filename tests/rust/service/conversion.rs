@@ -117,7 +117,7 @@ fn significant_digits(value: &[u8], form: Form) -> usize {
     (1..form.digits()).rev().find(|&right| digit(value, form.format, right) != 0).map_or(1, |right| right + 1)
 }
 
-/// The length of a decimal value with so many digits. In P the sign takes half a byte, in U it takes none.
+/// The length of a decimal value by how many digits it has. In P the sign takes half a byte, in U it takes none.
 fn decimal_length(digits: usize, format: Format) -> usize {
     if format == Format::P {
         digits / 2 + 1

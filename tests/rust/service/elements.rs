@@ -75,7 +75,7 @@ impl Element {
         usize::from(self.occurrences.0)..=usize::from(self.occurrences.1)
     }
 
-    /// How many of the values named in an occurrence don't exist, where so many do.
+    /// How many of the values named in an occurrence don't exist, where `exist` do.
     pub(super) fn absent(&self, exist: usize) -> usize {
         if self.values == ALL {
             0
@@ -97,7 +97,7 @@ const ONE: (u8, u8) = (1, 1);
 /// 1-N.
 pub(super) const ALL: (u8, u8) = (1, LAST);
 
-/// Indexes by their numbers where so many are stored. Where none is, N is 1, and 1-N names nothing.
+/// Indexes by their numbers where `count` are stored. Where none is, N is 1, and 1-N names nothing.
 pub(super) fn settle(indexes: (u8, u8), count: u8) -> (u8, u8) {
     match indexes {
         (LAST, _) => (max(count, 1), max(count, 1)),

@@ -110,7 +110,7 @@ impl<'a> Record<'a> {
         usize::from(self.bytes[at])
     }
 
-    /// The place after so many values.
+    /// The place after `count` values.
     pub(super) fn skip(&self, form: Form, count: usize, at: usize) -> usize {
         if form.is_variable() {
             (0..count).fold(at, |at, _| at + usize::from(self.bytes[at]))

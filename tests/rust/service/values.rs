@@ -127,7 +127,7 @@ pub(super) fn is_negative(value: &[u8], format: Format) -> bool {
     is_minus(sign) && (digit != 0 || value[..value.len() - 1].iter().any(|&byte| byte != zero))
 }
 
-/// The digit of a decimal value that has so many digits to its right.
+/// The digit of a decimal value that has `right` digits to its right.
 pub(super) fn digit(value: &[u8], format: Format, right: usize) -> u8 {
     let (back, high) = if format == Format::P { ((right + 1) / 2, right % 2 == 0) } else { (right, false) };
     match value.len().checked_sub(back + 1) {
