@@ -42,7 +42,8 @@ use Rattle.reading.proofs.Items.{filled-together}
 use Rattle.filling.proofs.Together.{together-copies}
 use Rattle.reading.proofs.SpanItems.{stored-items, row-once, each-field}
 use Rattle.tables.proofs.EntryFields.{name-at}
-use Rattle.reading.proofs.Values.{converts-itself, own-allowed, own-format, own-size}
+use Rattle.uses.proofs.Effects.{converts-itself}
+use Rattle.reading.proofs.Values.{own-allowed, own-format, own-size}
 
 -- A loop over the numbers of fields: what is left of their nulls ends and writes as all of them do from the start.
 pub record Nulling (es : List Entry) (fields : List ℕ) (n end k start at : ℕ) (write : Bool) (out₀ out : Bytes) : Type 0 where
@@ -62,10 +63,12 @@ module _ (t : Bytes) (v : Valid t) {fields : List ℕ} {n end k start at : ℕ} 
       let z : slice k n fields ≡ [] = drop-of-length-le (take n fields) {i = k} (omega (arith, length-take n fields)) in
       continues-end (end - at) (subst (λ (ns : List ℕ). Continues (together (end - start) (nulls-of (map (field-at es) (take n fields)))) (together (end - at) (nulls-of (map (field-at es) ns))) start at write out₀ out) z (g .continues))
 
-  -- A turn puts the null of the next field, by the numbers that the code has of its entry.
+  -- The entry of the next field, as the code has it. A turn puts its null.
+  abbrev e : Row
+  e = decoded (getD es (getD fields k 0) blank)
+
   module _ (less : k < n) (most : n ≤ length fields) (here : (getD fields k 0 < length es) × (is-group (getD es (getD fields k 0) blank .what) ≡ false))
-      (e : Row) (q : e ≡ decoded (getD es (getD fields k 0) blank)) {out′ : Bytes} {m : Next}
-      (f : Filling (in-room (end - at) (done (join (replicate 1 (null (format-at (e .format)) (e .size)))))) at write out out′ m) where
+      {out′ : Bytes} {m : Next} (f : Filling (in-room (end - at) (done (join (replicate 1 (null (format-at (e .format)) (e .size)))))) at write out out′ m) where
     abbrev ahead : List (Outcome Bytes)
     ahead = nulls-of (map (field-at es) (slice (suc k) n fields))
 
@@ -74,7 +77,7 @@ module _ (t : Bytes) (v : Valid t) {fields : List ℕ} {n end k start at : ℕ} 
 
     opened : nulls-of (map (field-at es) (slice k n fields)) ≡ own ++ ahead
     opened = ap (λ (ns : List ℕ). nulls-of (map (field-at es) ns)) (slice-cons k n fields 0 less most)
-        ∙ rw (own-format t v (here .0) (here .1) e q, own-size t v (here .0) (here .1) e q) refl
+        ∙ rw (own-format t v (here .0) (here .1) e refl, own-size t v (here .0) (here .1) e refl) refl
 
     left : Continues (together (end - start) (nulls-of (map (field-at es) (take n fields)))) (together (end - at) (own ++ ahead)) start at write out₀ out
     left = subst (λ (os : List (Outcome Bytes)). Continues (together (end - start) (nulls-of (map (field-at es) (take n fields)))) (together (end - at) os) start at write out₀ out) opened (g .continues)

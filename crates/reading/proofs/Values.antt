@@ -1,25 +1,17 @@
 -- A field by the numbers that the code has of its entry.
-use mathlib.Core.Path.{_≡_, refl}
+use mathlib.Core.Path.{_≡_}
 use mathlib.Core.Bool.{true, false}
 use Prim.Native.Nat.{ℕ, _<_}
 use lib.ListN.{length, getD}
 use Rattle.rules.specs.Lists.{Bytes}
 use Rattle.rules.specs.Limits.{formats}
-use Rattle.rules.specs.Values.{Format, alpha, binary, fixed, packed, unpacked, conversion, allowed, converts}
+use Rattle.rules.specs.Values.{allowed}
 use Rattle.value_formats.specs.Formats.{format-at}
 use Rattle.tables.specs.Entries.{Valid, entries-of, blank, decoded, is-group}
 use Rattle.tables.specs.Groups.{field-at}
 use Rattle.tables.specs.declared.Entry.{Entry as Row}
 use Rattle.tables.proofs.Known.{field-known}
 use Rattle.uses.proofs.Fields.{format-of-field, size-at}
-
-pub converts-itself : (f : Format) → converts f f ≡ true
-unfolding converts conversion
-converts-itself alpha = refl
-converts-itself binary = refl
-converts-itself fixed = refl
-converts-itself packed = refl
-converts-itself unpacked = refl
 
 module _ (t : Bytes) (v : Valid t) {i : ℕ} (known : i < length (entries-of t)) (single : is-group (getD (entries-of t) i blank .what) ≡ false)
     (e : Row) (q : e ≡ decoded (getD (entries-of t) i blank)) where

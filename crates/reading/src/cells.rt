@@ -63,11 +63,10 @@ pub fn wanted_of(
     requires { ⌜ Valid (now t) × (i < length (entries-of (now t))) ⌝ }
     ensures { λ w. ⌜ w ≡ wanted-at (entries-of (now (t .entry))) i first last scope format size ⌝ }
 {
-    let e = tables::entry_at(t, i);
     Wanted {
-        own: e.format as usize,
-        standard: e.size as usize,
-        multiple: e.multiple,
+        own: tables::format_at(t, i),
+        standard: tables::size_at(t, i),
+        multiple: tables::multiple_at(t, i),
         first,
         last,
         scope,

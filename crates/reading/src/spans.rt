@@ -72,8 +72,9 @@ fn put_null_fields(
     let mut p = at;
     let mut k = 0;
     while k < n {
-        let e = tables::entry_at(t, fields[k] as usize);
-        let next = filling::put_nulls(1, e.format as usize, e.size as usize, out, p, end, write);
+        let i = fields[k] as usize;
+        let format = tables::format_at(t, i);
+        let next = filling::put_nulls(1, format, tables::size_at(t, i), out, p, end, write);
         match next {
             Next::Refused(number) => {
                 return Next::Refused(number);

@@ -12,7 +12,7 @@ use lib.Seq.{slice, slice-empty}
 use Rattle.rules.specs.Lists.{all}
 use Rattle.rules.specs.Table.{What, field, group, Entry, Field}
 use Rattle.rules.specs.Use.{plain}
-use Rattle.tables.specs.Entries.{group-number, format-number, size-of, is-multiple}
+use Rattle.tables.specs.Entries.{size-of, is-group, is-multiple}
 use Rattle.tables.specs.declared.Found.{Found}
 use Rattle.tables.specs.declared.Found.the-variants.{At, Nothing}
 use Rattle.records.specs.Where.{field-of}
@@ -21,28 +21,28 @@ use Rattle.records.specs.Paths.{lengths, Width}
 use Rattle.records.proofs.Entries.{never}
 use Rattle.rules.specs.Limits.{most-entries}
 use Rattle.records.specs.Counts.{greatest-byte}
-use Rattle.records.proofs.EmptyEntries.{entry-group}
 use Rattle.records.proofs.Groups.{fields-first}
 
--- One entry, by the numbers that the code has of it.
-pub width-group : (n : ℕ) (w : What) → format-number w ≡ group-number → Width (field-of n w) greatest-byte (At 0)
+-- One entry.
+pub width-group : (n : ℕ) (w : What) → is-group w ≡ true → Width (field-of n w) greatest-byte (At 0)
 unfolding field-of all lengths
-width-group n w h = rw (entry-group w h) (record { plains = refl; width = refl }, omega arith)
+width-group n (field f s mu) h = absurd (never refl h)
+width-group n (group p) h = (record { plains = refl; width = refl }, omega arith)
 
 pub width-multiple : (n : ℕ) (w : What) → is-multiple w ≡ true → all plain (field-of n w) ≡ false
 unfolding field-of all plain
 width-multiple n (field f s mu) h = rw h refl
 width-multiple n (group p) h = absurd (never refl h)
 
-pub width-none : (n : ℕ) (w : What) → (format-number w ≡ group-number → ⊥) → is-multiple w ≡ false → size-of w ≡ 0 → all plain (field-of n w) ≡ false
+pub width-none : (n : ℕ) (w : What) → is-group w ≡ false → is-multiple w ≡ false → size-of w ≡ 0 → all plain (field-of n w) ≡ false
 unfolding field-of all plain
 width-none n (field f s mu) g h z = rw (h, z) refl
-width-none n (group p) g h z = absurd (g refl)
+width-none n (group p) g h z = absurd (never g refl)
 
-pub width-plain : (n : ℕ) (w : What) → (format-number w ≡ group-number → ⊥) → is-multiple w ≡ false → 0 < size-of w → size-of w ≤ greatest-byte → Width (field-of n w) greatest-byte (At (size-of w))
+pub width-plain : (n : ℕ) (w : What) → is-group w ≡ false → is-multiple w ≡ false → 0 < size-of w → size-of w ≤ greatest-byte → Width (field-of n w) greatest-byte (At (size-of w))
 unfolding field-of all plain lengths
 width-plain n (field f s mu) g h z m = (record { plains = rw (h, le-leb 1 s z) refl; width = omega arith }, m)
-width-plain n (group p) g h z m = absurd (g refl)
+width-plain n (group p) g h z m = absurd (never g refl)
 
 -- Fields and others after them.
 and-more : (t x y z : Bool) → x ≡ (y && z) → (t && x) ≡ ((t && y) && z)

@@ -28,17 +28,17 @@ fn width_at(t: &[u8], i: usize) -> Found
     requires { ⌜ Valid (now t) × (i < length (entries-of (now t))) ⌝ }
     ensures { λ r. ⌜ Width (field-of (getD (entries-of (now (t .entry))) i blank .name) (getD (entries-of (now (t .entry))) i blank .what)) greatest-byte r ⌝ }
 {
-    let e = tables::entry_at(t, i);
-    if e.format == tables::GROUP {
+    if tables::group_at(t, i) {
         return Found::At(0);
     }
-    if e.multiple {
+    if tables::multiple_at(t, i) {
         return Found::Nothing;
     }
-    if e.size == 0 {
+    let size = tables::size_at(t, i);
+    if size == 0 {
         return Found::Nothing;
     }
-    Found::At(e.size as usize)
+    Found::At(size)
 }
 
 // The same of the fields among the entries from first to end together.

@@ -44,11 +44,10 @@ fn member_end(t: &[u8], b: &[u8], at: usize, i: usize) -> usize
     requires { ⌜ Valid (now t) × (i < length (entries-of (now t))) × (at ≤ length (now b)) × Ends (rest-of (each stored-cell (field-of (getD (entries-of (now t)) i blank .name) (getD (entries-of (now t)) i blank .what)) (drop at (now b)))) ⌝ }
     ensures { λ r. ⌜ Behind (now (b .entry)) (rest-of (each stored-cell (field-of (getD (entries-of (now (t .entry))) i blank .name) (getD (entries-of (now (t .entry))) i blank .what)) (drop at (now (b .entry))))) r ⌝ }
 {
-    let e = tables::entry_at(t, i);
-    if e.format == tables::GROUP {
+    if tables::group_at(t, i) {
         return at;
     }
-    cell_end(b, at, e.size as usize, e.multiple)
+    cell_end(b, at, tables::size_at(t, i), tables::multiple_at(t, i))
 }
 
 // The place after the cells of the fields among the entries from first to end, once each.

@@ -67,8 +67,7 @@ pub fn expand(t: &[u8], i: usize, out: &mut [u8; rules::MOST_ENTRIES]) -> usize
     requires { ⌜ Valid (now t) × (i < length (entries-of (now t))) × (length (now out) ≡ most-entries) ⌝ }
     ensures { λ r. ⌜ Fields-of (entries-of (now (t .entry))) i (now (out .entry)) (now (out .exit)) r ⌝ }
 {
-    let e = entries::entry_at(t, i);
-    let level = e.level;
+    let level = entries::level_at(t, i);
     let walked = expand_from(t, i + 1, entries::count(t), level, out, 0);
     walked.count
 }

@@ -7,7 +7,7 @@ use native.Mathlib.Omega.{arith}
 use borrow.Author.Tests.{lt-ltb, le-ltb}
 use Rattle.rules.specs.Outcome.{done, refused, by}
 use Rattle.rules.specs.Limits.{formats}
-use Rattle.rules.specs.Values.{allowed, converts}
+use Rattle.rules.specs.Values.{Format, alpha, binary, fixed, packed, unpacked, allowed, conversion, converts}
 use Rattle.rules.specs.Table.{Field, format-of}
 use Rattle.rules.specs.Use.{format-in-effect, length-in-effect, Asked, asked}
 use Rattle.value_formats.specs.Formats.{format-at, letter-number, number-of}
@@ -15,6 +15,14 @@ use Rattle.value_formats.proofs.Letters.{number-back, number-small, letter-some
 use Rattle.rules.proofs.Steps.{by-option, from-need, done-inj, not-done, T-true}
 use Rattle.rules.proofs.Bools.{and-both}
 use Rattle.uses.specs.Effect.{numbered}
+
+pub converts-itself : (f : Format) → converts f f ≡ true
+unfolding converts conversion
+converts-itself alpha = refl
+converts-itself binary = refl
+converts-itself fixed = refl
+converts-itself packed = refl
+converts-itself unpacked = refl
 
 pub numbered-known : (k : ℕ) → k < formats → numbered k ≡ some (format-at k)
 unfolding numbered

@@ -1,8 +1,12 @@
 // The format and the length in effect.
 use crate::wide;
 use format_buffer::Named;
+ghost use mathlib.Core.Path.{_≡_};
+ghost use mathlib.Core.Bool.{true};
 ghost use Prim.Native.Nat.{_<_};
 ghost use Rattle.rules.specs.Limits.{formats};
+ghost use Rattle.rules.specs.Values.{allowed};
+ghost use Rattle.value_formats.specs.Formats.{format-at};
 ghost use Rattle.uses.specs.Effect.{Format-in-effect, Length-in-effect, Asks};
 
 pub enum Effect {
@@ -31,7 +35,7 @@ fn length_in_effect(size: usize, given: Named) -> usize
 }
 
 // The length in effect must be allowed for the format in effect, and the formats convert.
-pub fn asked(format: usize, size: usize, n: Named) -> Effect
+fn overridden(format: usize, size: usize, n: Named) -> Effect
     requires { ⌜ format < formats ⌝ }
     ensures { λ r. ⌜ Asks format size n r ⌝ }
 {
@@ -45,4 +49,18 @@ pub fn asked(format: usize, size: usize, n: Named) -> Effect
         }
     }
     Effect::Broken
+}
+
+// Omitted ones are the field's standard, which a table has only where they suit each other.
+pub fn asked(format: usize, size: usize, n: Named) -> Effect
+    requires { ⌜ (format < formats) × (allowed (format-at format) size ≡ true) ⌝ }
+    ensures { λ r. ⌜ Asks format size n r ⌝ }
+{
+    if n.sized {
+        return overridden(format, size, n);
+    }
+    if n.lettered {
+        return overridden(format, size, n);
+    }
+    Effect::At(format, size)
 }

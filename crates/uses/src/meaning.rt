@@ -76,9 +76,8 @@ fn use_of_field(t: &[u8], i: usize, last: usize, n: Named) -> Meant
     requires { ⌜ Valid (now t) × (i < length (entries-of (now t))) × (is-group (getD (entries-of (now t)) i blank .what) ≡ false) × (last < index-bound) ⌝ }
     ensures { λ r. ⌜ Settles-entry (entries-of (now (t .entry))) i (field-use (entries-of (now (t .entry))) i last n) r ⌝ }
 {
-    let e = tables::entry_at(t, i);
-    let s = spread::spread(tables::inside(t, i), e.multiple, last, n);
-    let a = effect::asked(byte(e.format), byte(e.size), n);
+    let s = spread::spread(tables::inside(t, i), tables::multiple_at(t, i), last, n);
+    let a = effect::asked(tables::format_at(t, i), tables::size_at(t, i), n);
     match s {
         Spreads::Over(ranges) => match a {
             Effect::At(format, size) => Meant::As(Use::Values(one_field(i, ranges, format, size))),

@@ -5,8 +5,8 @@ use Rattle.rules.specs.Use.{spread, asked}
 use Rattle.tables.specs.Entries.{entries-of}
 use Rattle.tables.specs.Places.{inside-at}
 use Rattle.tables.specs.Groups.{field-at}
-use Rattle.tables.specs.declared.Entry.{Entry}
 use Rattle.tables.proofs.Tables.{valid-most}
+use Rattle.tables.proofs.Known.{field-known}
 use Rattle.value_formats.specs.Formats.{format-at}
 use Rattle.uses.specs.Spread.{spread-of, occurrences, bracket}
 use Rattle.uses.specs.Effect.{asked-at, known-format, length-given, letter-given}
@@ -29,39 +29,38 @@ spread-known : (c : tie.After-spread)
     spread-of (c .spread .result) ≡ spread (inside-at (entries-of (a .t .now)) (a .i)) (field-at (entries-of (a .t .now)) (a .i) .multiple) (a .last) (occurrences (a .n)) (bracket (a .n)))
 spread-known c =
     let a = start c .args in
-    rw (← c .before .inside .ensures, multiple-at (entries-of (a .t .now)) (a .i), ← ap (λ (r : Entry). r .multiple) (c .before .before .entry-at .ensures)) (c .spread .ensures)
+    rw (← c .before .before .inside .ensures, multiple-at (entries-of (a .t .now)) (a .i), ← c .before .multiple-at .ensures) (c .spread .ensures)
 
 asked-known : (c : tie.After-asked)
     → (let a = start (ranges c) .args in
     asked-at (field-at (entries-of (a .t .now)) (a .i)) (c .asked .result) ≡ asked (field-at (entries-of (a .t .now)) (a .i)) (length-given (a .n)) (letter-given (a .n)))
 asked-known c =
     let s = start (ranges c) in
-    let e = c .before .before .before .before .before .entry-at .ensures in
     let g = format-of-field (entries-of (s .args .t .now)) (s .args .i) (s .pre .2) in
     c .asked .ensures .answer (field-at (entries-of (s .args .t .now)) (s .args .i))
-    (g .0 ∙ ap format-at (sym (c .before .before .byte .ensures .0 ∙ ap (λ (r : Entry). r .format) e)))
-    (size-at (entries-of (s .args .t .now)) (s .args .i) ∙ sym (c .before .byte2 .ensures .0 ∙ ap (λ (r : Entry). r .size) e))
-
-entry-at-requires : tie.Need-entry-at-requires
-entry-at-requires c κs = search needs
+    (g .0 ∙ ap format-at (sym (c .before .before .format-at .ensures)))
+    (size-at (entries-of (s .args .t .now)) (s .args .i) ∙ sym (c .before .size-at .ensures .0))
 
 inside-requires : tie.Need-inside-requires
 inside-requires c κs = search needs
 
+multiple-at-requires : tie.Need-multiple-at-requires
+multiple-at-requires c κs = search needs
+
 spread-requires : tie.Need-spread-requires
 spread-requires c κs = search needs
 
-byte-requires : tie.Need-byte-requires
-byte-requires c κs = search needs
+format-at-requires : tie.Need-format-at-requires
+format-at-requires c κs = search needs
 
-byte-requires-2 : tie.Need-byte-requires-2
-byte-requires-2 c κs = search needs
+size-at-requires : tie.Need-size-at-requires
+size-at-requires c κs = search needs
 
 asked-requires : tie.Need-asked-requires
 asked-requires c κs =
     let s = start (c .before .before) in
-    let e = c .before .before .before .before .entry-at .ensures in
-    omega (arith, c .before .byte .ensures .0, ap (λ (r : Entry). r .format) e, format-of-field (entries-of (s .args .t .now)) (s .args .i) (s .pre .2) .1)
+    let k = field-known (s .args .t .now) (s .pre .0) (s .args .i) (s .pre .1) (s .pre .2) in
+    (rw (c .before .format-at .ensures) (k .0), rw (c .before .format-at .ensures, c .size-at .ensures .0) (k .1))
 
 enum-known-s : tie.Need-enum-known-s
 enum-known-s c = search needs
@@ -106,11 +105,11 @@ pub use-of-field-spec : {M : Type 1} → statement M
 use-of-field-spec =
     tie.close
     (tie.spec
-    entry-at-requires
     inside-requires
+    multiple-at-requires
     spread-requires
-    byte-requires
-    byte-requires-2
+    format-at-requires
+    size-at-requires
     asked-requires
     enum-known-s
     enum-known-a
