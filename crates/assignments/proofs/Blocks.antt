@@ -28,7 +28,7 @@ use Rattle.tables.specs.Entries.{blank, is-multiple}
 use Rattle.tables.specs.Groups.{field-at}
 use Rattle.tables.specs.Places.{inside-at}
 use Rattle.format_buffer.specs.Elements.{range}
-use Rattle.records.specs.Walk.{rest-of, Ends, Behind}
+use Rattle.records.specs.Walk.{rest-of, Ends, Ends-at}
 use Rattle.uses.specs.Kept.{numbers-kept, span-at, use-at, uses-kept}
 use Rattle.uses.specs.Meant.{fields-from, asked-of, use-meant, Good-span, Good-use}
 use Rattle.uses.specs.declared.Span.{Span}
@@ -153,7 +153,7 @@ module _ {es : List Entry} {f : Bytes} {kept : List ℕ} {count : ℕ} {list : L
   single-ends e = (left e, ap rest-of (passed e))
 
   pub single-block : span .first + 1 ≡ span .end → (r : ℕ)
-      → Behind stage (rest-of (times (values-before span o) (stored-value (field-at es i .format) size) (drop (start-noted list n) stage))) r → Block es ws i o span r
+      → Ends-at stage (rest-of (times (values-before span o) (stored-value (field-at es i .format) size) (drop (start-noted list n) stage))) r → Block es ws i o span r
   single-block e r h =
       let w = h (single-ends e) in
       let d : drop r stage ≡ left e = done-inj (w .answer ∙ ap rest-of (passed e)) in

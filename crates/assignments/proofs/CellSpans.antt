@@ -17,7 +17,7 @@ use Rattle.rules.specs.Update.{Assignment}
 use Rattle.rules.proofs.Steps.{by-test}
 use Rattle.tables.specs.Entries.{blank, is-group, is-multiple, size-of}
 use Rattle.tables.specs.Groups.{field-by, field-at}
-use Rattle.records.specs.Walk.{rest-of, Ends, Behind}
+use Rattle.records.specs.Walk.{rest-of, Ends, Ends-at}
 use Rattle.uses.specs.Kept.{numbers-kept, span-at, use-at}
 use Rattle.uses.specs.declared.Span.{Span}
 use Rattle.uses.proofs.Spreading.{ordered-within}
@@ -54,10 +54,10 @@ module _ {es : List Entry} {f : Bytes} {kept : List ℕ} {count : ℕ} {list : L
     starts-end = subst (λ (x : Span). Ends (rest-of (times (values-before x o) (stored-value (field-at es i .format) size) (drop (start-noted list n) stage)))) (sym e)
         (single-ends b (subst (λ (x : Span). x .first + 1 ≡ x .end) e h))
 
-    pub starts-single : (r : ℕ) → Behind stage (rest-of (times (values-before s o) (stored-value (field-at es i .format) size) (drop (start-noted list n) stage))) r
+    pub starts-single : (r : ℕ) → Ends-at stage (rest-of (times (values-before s o) (stored-value (field-at es i .format) size) (drop (start-noted list n) stage))) r
         → Block es ws i o (span-at kept (numbers-kept * n)) r
     starts-single r k = single-block b (subst (λ (x : Span). x .first + 1 ≡ x .end) e h) r
-        (subst (λ (x : Span). Behind stage (rest-of (times (values-before x o) (stored-value (field-at es i .format) size) (drop (start-noted list n) stage))) r) e k)
+        (subst (λ (x : Span). Ends-at stage (rest-of (times (values-before x o) (stored-value (field-at es i .format) size) (drop (start-noted list n) stage))) r) e k)
 
   -- A use of several: the widths are noted.
   module _ (h : s .first + 1 ≡ s .end → ⊥) where

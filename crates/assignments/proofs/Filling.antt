@@ -18,7 +18,7 @@ use Rattle.rules.proofs.Steps.{by-test, done-inj}
 use Rattle.rules.proofs.Back.{All}
 use Rattle.rules.proofs.Readers.{value-sound}
 use Rattle.tables.specs.Groups.{field-at}
-use Rattle.records.specs.Walk.{rest-of, Ends, Behind}
+use Rattle.records.specs.Walk.{rest-of, Ends, Ends-at}
 use Rattle.uses.specs.declared.Span.{Span}
 use borrow.Author.Tests.{eqb-true, eqb-false, ltb-true, ltb-false}
 use Rattle.assignments.specs.Notes.{place-at, bytes-given, Stands-in, On-stage}
@@ -104,7 +104,7 @@ module _ {stage : Bytes} {es : List Entry} {ws : List Assignment} {i o upto k p 
   pub next-ends : Ends (rest-of (times 1 (stored-value (field-at es i .format) size) (drop p stage)))
   next-ends = (there .1, value-alone (field-at es i .format) size (drop p stage) (n .value .bytes) (there .1) (there .2))
 
-  pub next-left : (q : ℕ) → Behind stage (rest-of (times 1 (stored-value (field-at es i .format) size) (drop p stage))) q → Values-left es ws i o upto (k + 1) q
+  pub next-left : (q : ℕ) → Ends-at stage (rest-of (times 1 (stored-value (field-at es i .format) size) (drop p stage))) q → Values-left es ws i o upto (k + 1) q
   unfolding there next-ends
   next-left q b =
       let w = b next-ends in
@@ -134,7 +134,7 @@ module _ (stage : Bytes) (at : ℕ) (s : Span) (size : ℕ) (by : List ℕ) wher
     fills-next {es} {ws} {i} {o} c h = value-next h (f es ws i o c .0)
 
     pub fills-on : k ≤ s .«value_upto» → s .«value_from» ≤ k → k < length by′ → (q : ℕ)
-        → ((g : Format) → Behind stage (rest-of (times 1 (stored-value g size) (drop p stage))) q) → Fills stage at s size by (set by′ k (p + 1)) q (k + 1)
+        → ((g : Format) → Ends-at stage (rest-of (times 1 (stored-value g size) (drop p stage))) q) → Fills stage at s size by (set by′ k (p + 1)) q (k + 1)
     fills-on h h′ l q b es ws i o c =
         let n = fills-next c h in
         let y = f es ws i o c .1 in (

@@ -14,7 +14,7 @@ use Rattle.rules.specs.Table.{Entry, Part, differ, names}
 use Rattle.rules.specs.Record.{stored-value}
 use Rattle.rules.specs.Update.{Assignment, to-field, bare-only, highest-value, highest-occurrence, named-twice}
 use Rattle.rules.proofs.Back.{All}
-use Rattle.tables.specs.Entries.{blank, is-group, is-multiple}
+use Rattle.tables.specs.Entries.{blank, is-group, is-multiple, what-at}
 use Rattle.tables.specs.Groups.{field-at, fields-in}
 use Rattle.uses.specs.Kept.{numbers-kept, span-at, use-at, uses-kept}
 use Rattle.uses.specs.declared.Span.{Span}
@@ -30,14 +30,14 @@ first-put list i at = cond (eqb (first-noted list i) 0) (set list (firsts-from +
 -- An occurrence is among those of entry i, where it is a field.
 unfoldable pub entry-marked : List Entry → List ℕ → ℕ → ℕ → List ℕ
 entry-marked es list i upto =
-    cond (is-group (getD es i blank .what)) list (set list (highest-from + i) (max (getD list (highest-from + i) 0) upto))
+    cond (is-group (what-at es i)) list (set list (highest-from + i) (max (getD list (highest-from + i) 0) upto))
 
 -- A span's last occurrence is among those of its fields.
 pub record Marked (es : List Entry) (s : Span) (list list′ : List ℕ) : Type 0 where
   pub same : length list′ ≡ length list
-  pub inside : (i : ℕ) → s .first ≤ i → i < s .end → is-group (getD es i blank .what) ≡ false
+  pub inside : (i : ℕ) → s .first ≤ i → i < s .end → is-group (what-at es i) ≡ false
       → getD list′ (highest-from + i) 0 ≡ max (getD list (highest-from + i) 0) (s .upto)
-  pub outside : (j : ℕ) → ((i : ℕ) → s .first ≤ i → i < s .end → is-group (getD es i blank .what) ≡ false → j ≡ highest-from + i → ⊥) → getD list′ j 0 ≡ getD list j 0
+  pub outside : (j : ℕ) → ((i : ℕ) → s .first ≤ i → i < s .end → is-group (what-at es i) ≡ false → j ≡ highest-from + i → ⊥) → getD list′ j 0 ≡ getD list j 0
 
 -- A span with the number n is put before those of its chain, and marked. A use of another kind changes nothing.
 abbrev pub linked : ℕ → Span → List ℕ → List ℕ
@@ -74,6 +74,15 @@ pub record Linked-all (es : List Entry) (f : Bytes) (kept : List ℕ) (count : �
 pub record Named-once (f : Bytes) (es : List Entry) (kept : List ℕ) (count : ℕ) : Type 0 where
   pub apart : T (differ (names es))
   pub once : named-twice (uses-kept es f kept count) ≡ false
+
+-- A list of uses becomes one that can be searched.
+abbrev pub Indexes-all : List Entry → List ℕ → ℕ → List ℕ → List ℕ → Type 0
+Indexes-all es kept count before after =
+    (f : Bytes) (stage : Bytes) (ws : List Assignment) → Listed es f kept count before stage ws → Named-once f es kept count → Indexed es f kept count after stage ws
+
+-- It can be searched for what occurrence o takes.
+abbrev pub Can-find : List Entry → List ℕ → List ℕ → Bytes → ℕ → Type 0
+Can-find es kept list stage o = (1 ≤ o) × (o ≤ highest-index) × ((f : Bytes) × (count : ℕ) × (ws : List Assignment) × Indexed es f kept count list stage ws)
 
 -- A statement on all that a list which can be searched may hold; and there is something that it holds.
 abbrev pub Of-each : List ℕ → List ℕ → (List Entry → Bytes → ℕ → Bytes → List Assignment → Type 0) → Type 0
@@ -119,10 +128,10 @@ pub record Named-by (es : List Entry) (f : Bytes) (kept : List ℕ) (count : ℕ
   pub known : n < count
   pub names : use-names (use-at kept n) i o ≡ true
   pub entry : i < length es
-  pub field : is-group (getD es i blank .what) ≡ false
+  pub field : is-group (what-at es i) ≡ false
   pub size-is : size ≡ field-at es i .size
   -- A use of several fields that names such a cell lies in a periodic group, so that its fields are of fixed length.
-  pub inside : (2 ≤ o) ⊎ (is-multiple (getD es i blank .what) ≡ true)
+  pub inside : (2 ≤ o) ⊎ (is-multiple (what-at es i) ≡ true)
 
 abbrev pub Has-block : List ℕ → List ℕ → Bytes → ℕ → ℕ → ℕ → ℕ → Type 0
 Has-block kept list stage n i o size = (es : List Entry) × (f : Bytes) × (count : ℕ) × (ws : List Assignment) × Named-by es f kept count list stage ws n i o size
@@ -188,9 +197,13 @@ pub record Tally (kept : List ℕ) (es : List Entry) (ws : List Assignment) (i o
 pub record Can-name (es : List Entry) (f : Bytes) (kept : List ℕ) (count : ℕ) (list : List ℕ) (stage : Bytes) (ws : List Assignment) (i size : ℕ) : Type 0 where
   pub indexed : Indexed es f kept count list stage ws
   pub entry : i < length es
-  pub field : is-group (getD es i blank .what) ≡ false
-  pub multiple : is-multiple (getD es i blank .what) ≡ true
+  pub field : is-group (what-at es i) ≡ false
+  pub multiple : is-multiple (what-at es i) ≡ true
   pub size-is : size ≡ field-at es i .size
+
+-- The same of some table, format and assignments.
+abbrev pub Nameable : List ℕ → List ℕ → Bytes → ℕ → ℕ → Type 0
+Nameable kept list stage i size = (es : List Entry) × (f : Bytes) × (count : ℕ) × (ws : List Assignment) × Can-name es f kept count list stage ws i size
 
 -- The uses of one chain more.
 abbrev pub Tallies : List ℕ → List ℕ → Bytes → ℕ → ℕ → ℕ → ℕ → List ℕ → List ℕ → Naming → Naming → Type 0

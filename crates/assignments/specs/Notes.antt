@@ -16,7 +16,7 @@ use Rattle.rules.specs.Use.{Place, items}
 use Rattle.rules.specs.Update.{Assignment, assigned, named-twice}
 use Rattle.rules.proofs.Ranges.{taking}
 use Rattle.rules.proofs.Digits.{Below}
-use Rattle.tables.specs.Entries.{Valid, entries-of, blank, is-group, size-of}
+use Rattle.tables.specs.Entries.{Valid, entries-of, is-group, size-of, what-at}
 use Rattle.tables.specs.Groups.{field-at}
 use Rattle.uses.specs.Kept.{numbers-kept, use-at, uses-kept, Good-uses}
 use Rattle.uses.specs.declared.Span.{Span}
@@ -106,7 +106,7 @@ Takes-at ws q (suc p) = (a : Assignment) × Stands-in ws p a × (a .place ≡ q)
 
 -- Where value 1 of each field in occurrence 1 stands.
 abbrev pub Firsts : List Entry → List ℕ → List Assignment → Type 0
-Firsts es list ws = (i : ℕ) → i < length es → is-group (getD es i blank .what) ≡ false → Takes-at ws (place-at es i 1 1) (first-noted list i)
+Firsts es list ws = (i : ℕ) → i < length es → is-group (what-at es i) ≡ false → Takes-at ws (place-at es i 1 1) (first-noted list i)
 
 -- The bytes of assignments stand on a stage, from its front on.
 pub record On-stage (stage : Bytes) (ws : List Assignment) : Type 0 where
@@ -180,7 +180,7 @@ chained list (suc most) (suc m) = m ∷ chained list most (next-noted list m)
 -- How wide the first n entries are together, at their standard lengths.
 unfoldable pub width-before : List Entry → ℕ → ℕ
 width-before es zero = 0
-width-before es (suc n) = width-before es n + size-of (getD es n blank .what)
+width-before es (suc n) = width-before es n + size-of (what-at es n)
 
 -- The chains, from use m on: each has the uses that belong to it, in their order.
 -- Of each field the highest occurrence that they name is noted, and none of a group.
@@ -188,8 +188,8 @@ pub record Chained (es : List Entry) (kept : List ℕ) (count m : ℕ) (list : L
   pub heads : (x : ℕ) → x < chains → getD list x 0 ≤ count
   pub nexts : (n : ℕ) → m ≤ n → n < count → (next-noted list n ≤ count) × (0 < next-noted list n → suc n < next-noted list n)
   pub members : (x : ℕ) → x < chains → chained list count (getD list x 0) ≡ filter (λ n. eqb (use-chain (use-at kept n)) x) (run (λ n. n) m (count - m))
-  pub highest : (i : ℕ) → i < length es → is-group (getD es i blank .what) ≡ false → highest-noted list i ≡ maximum (run (λ n. use-reach (use-at kept n) i) m (count - m))
-  pub groups : (i : ℕ) → i < length es → is-group (getD es i blank .what) ≡ true → highest-noted list i ≡ 0
+  pub highest : (i : ℕ) → i < length es → is-group (what-at es i) ≡ false → highest-noted list i ≡ maximum (run (λ n. use-reach (use-at kept n) i) m (count - m))
+  pub groups : (i : ℕ) → i < length es → is-group (what-at es i) ≡ true → highest-noted list i ≡ 0
 
 -- The list can be searched.
 pub record Indexed (es : List Entry) (f : Bytes) (kept : List ℕ) (count : ℕ) (list : List ℕ) (stage : Bytes) (ws : List Assignment) : Type 0 where

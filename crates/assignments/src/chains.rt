@@ -9,8 +9,8 @@ ghost use Rattle.rules.specs.Update.{Assignment};
 ghost use Rattle.tables.specs.Entries.{Valid, entries-of};
 ghost use Rattle.uses.specs.Kept.{numbers-kept, use-at};
 ghost use Rattle.uses.specs.declared.Span.{Span};
-ghost use Rattle.assignments.specs.Notes.{chains, uses-from, cell-chain, span-chain, Unindexed, Listed, Indexed};
-ghost use Rattle.assignments.specs.Answers.{entry-marked, Marked, linked, Links, Can-link, Widened, Linked-all, Named-once};
+ghost use Rattle.assignments.specs.Notes.{chains, uses-from, cell-chain, span-chain, Unindexed, Listed};
+ghost use Rattle.assignments.specs.Answers.{entry-marked, Marked, linked, Links, Can-link, Widened, Linked-all, Indexes-all};
 use crate::CELLS;
 use crate::GROUPS;
 use crate::HIGHEST;
@@ -125,7 +125,7 @@ fn link_all(t: &[u8], kept: &[Index], list: &mut [u16], count: usize)
 // Makes a list of `count` uses one that can be searched. The widths are needed only where a use has several fields.
 pub fn index(t: &[u8], kept: &[Index], list: &mut [u16], count: usize)
     requires { ⌜ Valid (now t) × Unindexed (now list) × ((f : Bytes) × (stage : Bytes) × (ws : List Assignment) × Listed (entries-of (now t)) f (now kept) count (now list) stage ws) ⌝ }
-    ensures { λ _. ⌜ ((f : Bytes) (stage : Bytes) (ws : List Assignment) → Listed (entries-of (now (t .entry))) f (now (kept .entry)) count (now (list .entry)) stage ws → Named-once f (entries-of (now (t .entry))) (now (kept .entry)) count → Indexed (entries-of (now (t .entry))) f (now (kept .entry)) count (now (list .exit)) stage ws) ⌝ }
+    ensures { λ _. ⌜ Indexes-all (entries-of (now (t .entry))) (now (kept .entry)) count (now (list .entry)) (now (list .exit)) ⌝ }
 {
     link_all(t, kept, list, count);
     if 0 < list[GROUPS] {

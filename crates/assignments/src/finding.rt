@@ -9,11 +9,11 @@ ghost use Rattle.rules.specs.Limits.{most-entries, highest-index};
 ghost use Rattle.rules.specs.Lists.{Bytes};
 ghost use Rattle.rules.specs.Table.{Entry};
 ghost use Rattle.rules.specs.Update.{Assignment};
-ghost use Rattle.tables.specs.Entries.{Valid, entries-of, blank, is-group, is-multiple};
+ghost use Rattle.tables.specs.Entries.{Valid, entries-of, is-group, is-multiple, what-at};
 ghost use Rattle.uses.specs.Kept.{numbers-kept, span-at, use-at};
 ghost use Rattle.uses.specs.declared.Span.{Span};
 ghost use Rattle.assignments.specs.Notes.{chains, uses-from, use-chain, names-cell, place-at, Takes-at, Indexed};
-ghost use Rattle.assignments.specs.Answers.{Of-each, Has-index, Has-entries, Found-in, chain-at, Has-block, Begins-at, Can-fill, Filled, Tallies, Names-all, Can-name, chains-for, Highest};
+ghost use Rattle.assignments.specs.Answers.{Of-each, Has-index, Has-entries, Found-in, chain-at, Has-block, Begins-at, Can-fill, Filled, Tallies, Names-all, chains-for, Highest, Can-find, Nameable};
 use crate::CELLS;
 use crate::FIRSTS;
 use crate::GROUPS;
@@ -88,7 +88,7 @@ fn chains_for(list: &[u16], i: usize, o: usize) -> usize
 
 // One above the number of the use that names entry i in occurrence o.
 fn use_of(kept: &[Index], list: &[u16], i: usize, o: usize) -> usize
-    requires { ⌜ ((es : List Entry) × (f : Bytes) × (count : ℕ) × (stage : Bytes) × (ws : List Assignment) × Indexed es f (now kept) count (now list) stage ws × (i < length es) × (is-group (getD es i blank .what) ≡ false)) × (1 ≤ o) × (o ≤ highest-index) ⌝ }
+    requires { ⌜ ((es : List Entry) × (f : Bytes) × (count : ℕ) × (stage : Bytes) × (ws : List Assignment) × Indexed es f (now kept) count (now list) stage ws × (i < length es) × (is-group (what-at es i) ≡ false)) × (1 ≤ o) × (o ≤ highest-index) ⌝ }
     ensures { λ r. ⌜ Of-each (now (kept .entry)) (now (list .entry)) (λ es f count stage ws. Found-in (now (kept .entry)) count (λ n. true) i o r) ⌝ }
 {
     let end = chains_for(list, i, o);
@@ -130,7 +130,7 @@ fn cell_start(
 
 // One above the place of what value 1 of entry i takes in occurrence o: 0 where it takes nothing.
 pub fn assigned(t: &[u8], kept: &[Index], list: &[u16], stage: &[u8], i: usize, o: usize) -> usize
-    requires { ⌜ Valid (now t) × (i < length (entries-of (now t))) × (is-group (getD (entries-of (now t)) i blank .what) ≡ false) × (is-multiple (getD (entries-of (now t)) i blank .what) ≡ false) × (1 ≤ o) × (o ≤ highest-index) × ((f : Bytes) × (count : ℕ) × (ws : List Assignment) × Indexed (entries-of (now t)) f (now kept) count (now list) (now stage) ws) ⌝ }
+    requires { ⌜ Valid (now t) × (i < length (entries-of (now t))) × (is-group (what-at (entries-of (now t)) i) ≡ false) × (is-multiple (what-at (entries-of (now t)) i) ≡ false) × Can-find (entries-of (now t)) (now kept) (now list) (now stage) o ⌝ }
     ensures { λ r. ⌜ ((f : Bytes) (count : ℕ) (ws : List Assignment) → Indexed (entries-of (now (t .entry))) f (now (kept .entry)) count (now (list .entry)) (now (stage .entry)) ws → Takes-at ws (place-at (entries-of (now (t .entry))) i o 1) r) ⌝ }
 {
     if o == 1 {
@@ -169,7 +169,7 @@ fn named_in(
     by: &mut [u16; VALUES],
     so_far: Naming,
 ) -> Naming
-    requires { ⌜ (chain < chains) × (length (now by) ≡ highest-index + 1) × ((es : List Entry) × (f : Bytes) × (count : ℕ) × (ws : List Assignment) × Can-name es f (now kept) count (now list) (now stage) ws i size) ⌝ }
+    requires { ⌜ (chain < chains) × (length (now by) ≡ highest-index + 1) × Nameable (now kept) (now list) (now stage) i size ⌝ }
     ensures { λ r. ⌜ Tallies (now (kept .entry)) (now (list .entry)) (now (stage .entry)) chain i o size (now (by .entry)) (now (by .exit)) «so_far» r ⌝ }
 {
     let mut highest = so_far.highest;
@@ -202,7 +202,7 @@ pub fn named(
     size: usize,
     by: &mut [u16; VALUES],
 ) -> Naming
-    requires { ⌜ (i < most-entries) × (1 ≤ o) × (o ≤ highest-index) × (length (now by) ≡ highest-index + 1) × ((k : ℕ) → getD (now by) k 0 ≡ 0) × ((es : List Entry) × (f : Bytes) × (count : ℕ) × (ws : List Assignment) × Can-name es f (now kept) count (now list) (now stage) ws i size) ⌝ }
+    requires { ⌜ (i < most-entries) × (1 ≤ o) × (o ≤ highest-index) × (length (now by) ≡ highest-index + 1) × ((k : ℕ) → getD (now by) k 0 ≡ 0) × Nameable (now kept) (now list) (now stage) i size ⌝ }
     ensures { λ r. ⌜ Names-all (now (kept .entry)) (now (list .entry)) (now (stage .entry)) i o size (now (by .exit)) r ⌝ }
 {
     let mut all = Naming {

@@ -51,6 +51,14 @@ pub record Fresh (n : ℕ) (list : List ℕ) : Type 0 where
 abbrev pub given : List Entry → Bytes → List ℕ → ℕ → Bytes → Outcome (List Assignment)
 given es f kept n buffer = assignments (items (uses-kept es f kept n)) buffer
 
+-- The new record by the items of the uses that are kept, whichever format has them.
+abbrev pub Makes-items : List Entry → Bytes → List ℕ → List ℕ → ℕ → Bytes → Bytes → Answer → Type 0
+Makes-items es stored places kept count buffer made n = (f : Bytes) → Apart es f kept count → Makes-new es stored places (given es f kept count buffer) made n
+
+-- A list is fresh for as many uses as can be kept.
+abbrev pub Fresh-for : List ℕ → List ℕ → Type 0
+Fresh-for kept list = (n : ℕ) → numbers-kept * n ≤ length kept → Fresh n list
+
 -- Bytes in a lent room of a length: "over the lent room" is 10.
 abbrev pub in-lent : ℕ → Outcome Bytes → Outcome Bytes
 in-lent room o = do

@@ -1,7 +1,7 @@
 // The new record of an update, made in an array of its own.
 ghost use mathlib.Core.Path.{_≡_};
 ghost use mathlib.Core.List.{List};
-ghost use Prim.Native.Nat.{ℕ, _*_, _≤_};
+ghost use Prim.Native.Nat.{_*_, _≤_};
 ghost use lib.ListN.{length, take};
 ghost use Rattle.rules.specs.Limits.{longest-items, longest-new-record};
 ghost use Rattle.rules.specs.Lists.{Bytes};
@@ -14,7 +14,7 @@ ghost use Rattle.records.specs.Places.{Has-record};
 ghost use Rattle.updating.specs.New.{Has-both, Assigns};
 ghost use Rattle.rules.specs.Update.{Assignment};
 ghost use Rattle.lyrecanyon.specs.Answers.{Settled};
-ghost use Rattle.lyrecanyon.specs.Making.{Makes, Makes-new, Apart, Fresh, given, in-lent};
+ghost use Rattle.lyrecanyon.specs.Making.{Makes, Makes-new, Apart, Fresh, in-lent, Makes-items, Fresh-for};
 use crate::Answer;
 use crate::least;
 use filling::Next;
@@ -63,7 +63,7 @@ fn make_items(
     made: &mut [u8],
 ) -> Answer
     requires { ⌜ Valid (now table) × Has-record (entries-of (now table)) (now stored) (now places) × ((f : Bytes) × Apart (entries-of (now table)) f (now kept) count) × Fresh count (now list) × (length (now made) ≡ longest-new-record) ⌝ }
-    ensures { λ n. ⌜ ((f : Bytes) → Apart (entries-of (now (table .entry))) f (now (kept .entry)) count → Makes-new (entries-of (now (table .entry))) (now (stored .entry)) (now (places .entry)) (given (entries-of (now (table .entry))) f (now (kept .entry)) count (now (buffer .entry))) (now (made .exit)) n) ⌝ }
+    ensures { λ n. ⌜ Makes-items (entries-of (now (table .entry))) (now (stored .entry)) (now (places .entry)) (now (kept .entry)) count (now (buffer .entry)) (now (made .exit)) n ⌝ }
 {
     let mut stage = [0u8; rules::LONGEST_NEW_RECORD];
     match taking::take(table, buffer, kept, count, list, &mut stage) {
@@ -90,7 +90,7 @@ fn make_limited(
     made: &mut [u8],
 ) -> Answer
     requires { ⌜ Valid (now table) × Has-record (entries-of (now table)) (now stored) (now places) × ((f : Bytes) × Apart (entries-of (now table)) f (now kept) count) × Fresh count (now list) × (length (now made) ≡ longest-new-record) ⌝ }
-    ensures { λ n. ⌜ ((f : Bytes) → Apart (entries-of (now (table .entry))) f (now (kept .entry)) count → Makes-new (entries-of (now (table .entry))) (now (stored .entry)) (now (places .entry)) (given (entries-of (now (table .entry))) f (now (kept .entry)) count (take longest-items (now (buffer .entry)))) (now (made .exit)) n) ⌝ }
+    ensures { λ n. ⌜ Makes-items (entries-of (now (table .entry))) (now (stored .entry)) (now (places .entry)) (now (kept .entry)) count (take longest-items (now (buffer .entry))) (now (made .exit)) n ⌝ }
 {
     let end = least(buffer.len(), rules::LONGEST_ITEMS);
     make_items(
@@ -116,7 +116,7 @@ fn make_decoded(
     list: &mut [u16],
     made: &mut [u8],
 ) -> Answer
-    requires { ⌜ Valid (now table) × Has-record (entries-of (now table)) (now stored) (now places) × (numbers-kept * length (now format) ≤ element-bytes * length (now kept)) × ((n : ℕ) → numbers-kept * n ≤ length (now kept) → Fresh n (now list)) × (length (now made) ≡ longest-new-record) ⌝ }
+    requires { ⌜ Valid (now table) × Has-record (entries-of (now table)) (now stored) (now places) × (numbers-kept * length (now format) ≤ element-bytes * length (now kept)) × Fresh-for (now kept) (now list) × (length (now made) ≡ longest-new-record) ⌝ }
     ensures { λ n. ⌜ Makes-new (entries-of (now (table .entry))) (now (stored .entry)) (now (places .entry)) (assignments-of (entries-of (now (table .entry))) (now (format .entry)) (now (buffer .entry))) (now (made .exit)) n ⌝ }
 {
     match uses::kept::decode(table, format, kept) {

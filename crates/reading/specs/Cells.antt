@@ -12,7 +12,7 @@ use Rattle.rules.specs.Table.{Entry}
 use Rattle.rules.specs.Record.{times, counted, stored-value}
 use Rattle.rules.specs.Use.{over}
 use Rattle.value_formats.specs.Formats.{format-at}
-use Rattle.tables.specs.Entries.{blank, is-multiple, format-number, size-of}
+use Rattle.tables.specs.Entries.{is-multiple, format-number, size-of, what-at}
 use Rattle.rules.specs.Format.{Range}
 use Rattle.rules.specs.Last.{resolved}
 use Rattle.format_buffer.specs.Elements.{range, written-scope}
@@ -43,7 +43,7 @@ pub record Wants (w : Wanted) : Type 0 where
 -- What is wanted of entry i.
 abbrev pub wanted-at : List Entry → ℕ → ℕ → ℕ → ℕ → ℕ → ℕ → Wanted
 wanted-at es i first last scope format size =
-    let what = getD es i blank .what in
+    let what = what-at es i in
     record { own = format-number what; standard = size-of what; multiple = is-multiple what; first = first; last = last; scope = scope; format = format; size = size }
 
 -- The values that are meant, where n are stored.

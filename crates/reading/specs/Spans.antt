@@ -13,8 +13,8 @@ use Rattle.rules.specs.Record.{Record, group-count-at, value-count-at}
 use Rattle.rules.specs.Use.{Item, items-over, value-items, just}
 use Rattle.rules.specs.Last.{resolved, counts-in, occurrences-stored}
 use Rattle.rules.specs.Services.{filled}
-use Rattle.tables.specs.Entries.{blank, is-group, is-multiple}
-use Rattle.tables.specs.Places.{inside-at}
+use Rattle.tables.specs.Entries.{blank, is-group, is-multiple, what-at}
+use Rattle.tables.specs.Places.{inside-at, Home}
 use Rattle.format_buffer.specs.Elements.{range, written-scope}
 use Rattle.uses.specs.Meant.{asked-of, Good-span}
 use Rattle.uses.specs.Scopes.{scope-at}
@@ -52,7 +52,7 @@ Fills-by es b places xs at end write entry exit n =
 
 -- The first n of some numbers are those of entries that are fields.
 abbrev pub Fields-numbered : List Entry → List ℕ → ℕ → Type 0
-Fields-numbered es ns n = (k : ℕ) → k < n → (getD ns k 0 < length es) × (is-group (getD es (getD ns k 0) blank .what) ≡ false)
+Fields-numbered es ns n = (k : ℕ) → k < n → (getD ns k 0 < length es) × (is-group (what-at es (getD ns k 0)) ≡ false)
 
 -- Null for each of some fields, at its own format and length.
 abbrev pub nulls-of : List Field → List (Outcome Bytes)
@@ -76,7 +76,15 @@ scoped-items es r s scope o =
 
 -- Only of one MU field at a format and a length do values reach to the last.
 abbrev pub Scoped-values : List Entry → Span → ℕ → Type 0
-Scoped-values es s scope = (scope ≡ written-scope → ⊥) → (s .standard ≡ false) × (is-multiple (getD es (s .first) blank .what) ≡ true)
+Scoped-values es s scope = (scope ≡ written-scope → ⊥) → (s .standard ≡ false) × (is-multiple (what-at es (s .first)) ≡ true)
+
+-- n occurrences are stored of the periodic group in which entry i lies.
+abbrev pub Stored-count : List Entry → Bytes → List ℕ → ℕ → ℕ → Type 0
+Stored-count es b places i n = (g : ℕ) → Home es i g → (r : Record) → Is-record es b places r → n ≡ group-count-at (parts es) r (getD es g blank .name)
+
+-- Only in a periodic group can the occurrences of entry i reach to the last.
+abbrev pub Reaches-inside : List Entry → ℕ → ℕ → Type 0
+Reaches-inside es i scope = (scope ≡ written-scope → ⊥) → inside-at es i ≡ true
 
 -- The occurrence of entry i that is meant, o or the last.
 pub record Occurrence-meant (es : List Entry) (b : Bytes) (places : List ℕ) (i o scope k : ℕ) : Type 0 where

@@ -1,17 +1,14 @@
 // The occurrences that are meant, by how far they reach and how many are stored.
 ghost use mathlib.Core.Path.{_≡_};
-ghost use mathlib.Core.Bool.{true, false};
-ghost use Prim.Native.Nat.{ℕ, _≤_, _<_};
-ghost use lib.ListN.{length, getD};
+ghost use mathlib.Core.Bool.{true};
+ghost use Prim.Native.Nat.{_≤_, _<_};
+ghost use lib.ListN.{length};
 ghost use Rattle.rules.specs.Limits.{highest-index};
-ghost use Rattle.rules.specs.Table.{parts};
-ghost use Rattle.rules.specs.Record.{Record, group-count-at};
-ghost use Rattle.tables.specs.Entries.{Valid, entries-of, blank, is-multiple};
-ghost use Rattle.tables.specs.Places.{inside-at, Home};
-ghost use Rattle.format_buffer.specs.Elements.{written-scope, last-scope};
+ghost use Rattle.tables.specs.Entries.{Valid, entries-of, is-multiple, what-at};
+ghost use Rattle.format_buffer.specs.Elements.{last-scope};
 ghost use Rattle.uses.specs.Meant.{Good-span};
-ghost use Rattle.records.specs.Places.{Is-record, Has-record};
-ghost use Rattle.reading.specs.Spans.{Meant-span, Occurrence-meant};
+ghost use Rattle.records.specs.Places.{Has-record, One-outside};
+ghost use Rattle.reading.specs.Spans.{Meant-span, Occurrence-meant, Stored-count, Reaches-inside};
 use format_buffer::AS_WRITTEN;
 use tables::Found;
 use uses::Span;
@@ -21,7 +18,7 @@ use uses::scopes::resolved_upto;
 // How many occurrences are stored of the periodic group in which entry i lies.
 fn occurrences_stored(t: &[u8], b: &[u8], places: &[u16; records::DIRECTORY], i: usize) -> usize
     requires { ⌜ Valid (now t) × (i < length (entries-of (now t))) × Has-record (entries-of (now t)) (now b) (now places) ⌝ }
-    ensures { λ n. ⌜ (n ≤ highest-index) × ((g : ℕ) → Home (entries-of (now (t .entry))) i g → (r : Record) → Is-record (entries-of (now (t .entry))) (now (b .entry)) (now (places .entry)) r → n ≡ group-count-at (parts (entries-of (now (t .entry)))) r (getD (entries-of (now (t .entry))) g blank .name)) ⌝ }
+    ensures { λ n. ⌜ (n ≤ highest-index) × Stored-count (entries-of (now (t .entry))) (now (b .entry)) (now (places .entry)) i n ⌝ }
 {
     let home = tables::periodic_group(t, i);
     match home {
@@ -39,7 +36,7 @@ pub fn occurrence_meant(
     o: usize,
     scope: u8,
 ) -> usize
-    requires { ⌜ Valid (now t) × (i < length (entries-of (now t))) × (is-multiple (getD (entries-of (now t)) i blank .what) ≡ true) × (1 ≤ o) × (inside-at (entries-of (now t)) i ≡ false → o ≡ 1) × ((scope ≡ written-scope → ⊥) → inside-at (entries-of (now t)) i ≡ true) × (scope ≤ last-scope) × Has-record (entries-of (now t)) (now b) (now places) ⌝ }
+    requires { ⌜ Valid (now t) × (i < length (entries-of (now t))) × (is-multiple (what-at (entries-of (now t)) i) ≡ true) × (1 ≤ o) × One-outside (entries-of (now t)) i o × Reaches-inside (entries-of (now t)) i scope × (scope ≤ last-scope) × Has-record (entries-of (now t)) (now b) (now places) ⌝ }
     ensures { λ k. ⌜ Occurrence-meant (entries-of (now (t .entry))) (now (b .entry)) (now (places .entry)) i o scope k ⌝ }
 {
     if scope == AS_WRITTEN {
@@ -56,7 +53,7 @@ pub fn occurrences_meant(
     s: Span,
     scope: u8,
 ) -> Span
-    requires { ⌜ Valid (now t) × Good-span (entries-of (now t)) s × ((scope ≡ written-scope → ⊥) → inside-at (entries-of (now t)) (s .first) ≡ true) × Has-record (entries-of (now t)) (now b) (now places) ⌝ }
+    requires { ⌜ Valid (now t) × Good-span (entries-of (now t)) s × Reaches-inside (entries-of (now t)) (s .first) scope × Has-record (entries-of (now t)) (now b) (now places) ⌝ }
     ensures { λ x. ⌜ Meant-span (entries-of (now (t .entry))) (now (b .entry)) (now (places .entry)) s scope x ⌝ }
 {
     if scope == AS_WRITTEN {

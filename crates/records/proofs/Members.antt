@@ -13,7 +13,7 @@ use Rattle.tables.specs.Entries.{Valid, entries-of, blank, is-group}
 use Rattle.tables.specs.Groups.{fields-in}
 use Rattle.tables.proofs.Tables.{valid-names}
 use Rattle.tables.proofs.Known.{periodic-level}
-use Rattle.records.specs.Walk.{rest-of, Ends, Behind}
+use Rattle.records.specs.Walk.{rest-of, Ends, Ends-at}
 use Rattle.records.specs.Places.{Entered, Member-entered, Cell-of}
 use Rattle.records.specs.declared.places.Cell.{Cell}
 use Rattle.records.specs.declared.places.Cell.the-variants.{At}
@@ -51,7 +51,7 @@ module _ (t : Bytes) (valid : Valid t) {b : Bytes} {places : List ℕ} {g i o : 
       let w = members-end (m .held) (valid-names t valid) g (omega arith) (m .periodic) (periodic-level t valid g (omega arith) (m .periodic)) o (m .some) (e .1 .many) (e .0) (e .1 .row) (i + 1) (omega arith) (omega arith) in
       (w .0, sym up-to-next ∙ w .1)
 
-  pub member-next : (n : ℕ) → Behind b (rest-of (each stored-cell (fields-in (slice i (i + 1) (entries-of t))) (drop q b))) n → Entered (entries-of t) b places g (i + 1) o r (At n)
+  pub member-next : (n : ℕ) → Ends-at b (rest-of (each stored-cell (fields-in (slice i (i + 1) (entries-of t))) (drop q b))) n → Entered (entries-of t) b places g (i + 1) o r (At n)
   member-next n h =
       let e = m .entered in
       (e .0, record { many = e .1 .many; row = e .1 .row; before = walked-as up-to-next (h member-ends) })

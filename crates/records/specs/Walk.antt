@@ -11,7 +11,7 @@ use Rattle.rules.specs.Limits.{most-entries, longest-record, record-head-size, 
 use Rattle.rules.specs.Lists.{Bytes, same}
 use Rattle.rules.specs.Table.{What, Entry, is-inside, part-of, parts}
 use Rattle.rules.specs.Record.{Occurrence, Reader, record-head, times, each, stored-cell, stored-part, stored}
-use Rattle.tables.specs.Entries.{blank, is-periodic}
+use Rattle.tables.specs.Entries.{is-periodic, what-at, blank}
 use Rattle.tables.specs.Groups.{group-end, fields-in}
 use Rattle.records.specs.Counts.{count-at}
 use Rattle.records.specs.declared.Reach.{Reach}
@@ -40,13 +40,17 @@ pub record Walked (b : Bytes) (o : Outcome Bytes) (r : Reach) : Type 0 where
 abbrev pub Ends : Outcome Bytes → Type 0
 Ends o = (rest : Bytes) × (o ≡ done rest)
 
-abbrev pub Behind : Bytes → Outcome Bytes → ℕ → Type 0
-Behind b o r = Ends o → Walked b o (At r)
+abbrev pub Ends-at : Bytes → Outcome Bytes → ℕ → Type 0
+Ends-at b o r = Ends o → Walked b o (At r)
 
 -- The bytes that are left, none where they are refused.
 abbrev pub bytes-left : Outcome Bytes → Bytes
 bytes-left (done bs) = bs
 bytes-left (refused n) = []
+
+-- The members among the entries from first to end, once each.
+abbrev pub members-among : List Entry → ℕ → ℕ → Reader Occurrence
+members-among es first end = each stored-cell (fields-in (slice first end es))
 
 -- What stands after the part that an entry begins, if it begins one.
 unfoldable pub after-entry : Bool → Entry → List Entry → Bytes → Outcome Bytes
@@ -82,7 +86,7 @@ greatest-kept = 65535
 
 -- An occurrence of the periodic group that entry g is; and how many of them an entry has, by the count at its place.
 unfoldable pub occurrence : List Entry → ℕ → Reader Occurrence
-occurrence es g = each stored-cell (fields-in (slice (g + 1) (group-end es g) es))
+occurrence es g = members-among es (g + 1) (group-end es g)
 
 unfoldable pub occurrences-counted : What → ℕ → ℕ
 occurrences-counted w n = cond (is-periodic w) n 0
@@ -97,13 +101,19 @@ pub record Kept {X : Type 0} (one : Reader X) (b : Bytes) (at n kept : ℕ) (bef
 abbrev pub Keeps : {X : Type 0} → Reader X → Bytes → ℕ → ℕ → ℕ → List ℕ → List ℕ → Reach → Type 0
 Keeps one b at n kept before after r = (e : ℕ) → r ≡ At e → Kept one b at n kept before after
 
+-- A walk over the part that entry i begins, if it begins one, from a place on: where it stands then, and what it keeps of the occurrences.
+abbrev pub Walks-entry : List Entry → Bytes → Bool → ℕ → ℕ → ℕ → List ℕ → List ℕ → Reach → Type 0
+Walks-entry es b inside i at kept before after r =
+    Walked b (after-entry inside (getD es i blank) (drop (suc i) es) (drop at b)) r
+    × Keeps (occurrence es i) b (at + count-size) (occurrences-counted (what-at es i) (count-at b at)) kept before after r
+
 -- Entry j's part stands from its place on; and each of its occurrences from where it is kept on.
 abbrev pub Starts : List Entry → Bytes → List ℕ → ℕ → Type 0
 Starts es b places j = (getD places j 0 ≤ length b) × (drop (getD places j 0) b ≡ start-of false es (drop record-head-size b) j)
 
 abbrev pub Occurrences-kept : List Entry → Bytes → List ℕ → ℕ → Type 0
 Occurrences-kept es b places g =
-    (k : ℕ) → k < occurrences-counted (getD es g blank .what) (count-at b (getD places g 0)) → getD places (firsts + g) 0 + k < directory
+    (k : ℕ) → k < occurrences-counted (what-at es g) (count-at b (getD places g 0)) → getD places (firsts + g) 0 + k < directory
     → Walked b (rest-of (times k (occurrence es g) (drop (getD places g 0 + count-size) b))) (At (getD places (getD places (firsts + g) 0 + k) 0))
 
 -- What is found of a slice: whether it is a record, and then its directory.

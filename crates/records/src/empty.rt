@@ -3,11 +3,11 @@ ghost use mathlib.Core.Path.{_≡_};
 ghost use mathlib.Core.Bool.{false};
 ghost use mathlib.Core.List.{_++_};
 ghost use Prim.Native.Nat.{_+_, _≤_, _<_};
-ghost use lib.ListN.{length, getD};
+ghost use lib.ListN.{length};
 ghost use Rattle.rules.specs.Limits.{longest-alpha, record-head-size};
 ghost use Rattle.rules.specs.Record.{record-head};
 ghost use Rattle.buffer.specs.Splice.{splice};
-ghost use Rattle.tables.specs.Entries.{Valid, entries-of, blank};
+ghost use Rattle.tables.specs.Entries.{Valid, entries-of, what-at};
 ghost use Rattle.records.specs.Empty.{empty-entry, empty-from, null-entry};
 use crate::counts;
 use crate::heads;
@@ -17,7 +17,7 @@ use tables::Entry;
 // How many bytes entry i adds to the empty record.
 fn empty_size(t: &[u8], i: usize, inside: bool) -> usize
     requires { ⌜ Valid (now t) × (i < length (entries-of (now t))) ⌝ }
-    ensures { λ r. ⌜ (r ≡ length (empty-entry inside (getD (entries-of (now (t .entry))) i blank .what))) × (r ≤ longest-alpha) ⌝ }
+    ensures { λ r. ⌜ (r ≡ length (empty-entry inside (what-at (entries-of (now (t .entry))) i))) × (r ≤ longest-alpha) ⌝ }
 {
     let e = tables::entry_at(t, i);
     if e.format == tables::GROUP {
@@ -67,8 +67,8 @@ fn adds_null(e: Entry, inside: bool) -> bool
 
 // Writes what entry i adds to the empty record; the place after it.
 fn write_entry(t: &[u8], i: usize, inside: bool, out: &mut [u8], at: usize) -> usize
-    requires { ⌜ Valid (now t) × (i < length (entries-of (now t))) × (at + length (empty-entry inside (getD (entries-of (now t)) i blank .what)) ≤ length (now out)) ⌝ }
-    ensures { λ r. ⌜ (r ≡ at + length (empty-entry inside (getD (entries-of (now (t .entry))) i blank .what))) × (now (out .exit) ≡ splice at (empty-entry inside (getD (entries-of (now (t .entry))) i blank .what)) (now (out .entry))) ⌝ }
+    requires { ⌜ Valid (now t) × (i < length (entries-of (now t))) × (at + length (empty-entry inside (what-at (entries-of (now t)) i)) ≤ length (now out)) ⌝ }
+    ensures { λ r. ⌜ (r ≡ at + length (empty-entry inside (what-at (entries-of (now (t .entry))) i))) × (now (out .exit) ≡ splice at (empty-entry inside (what-at (entries-of (now (t .entry))) i)) (now (out .entry))) ⌝ }
 {
     let n = empty_size(t, i, inside);
     let e = tables::entry_at(t, i);

@@ -4,7 +4,7 @@ ghost use mathlib.Core.Bool.{false};
 ghost use Prim.Native.Nat.{_≤_, _<_, _*_};
 ghost use lib.ListN.{length, getD};
 ghost use lib.Seq.{slice};
-ghost use Rattle.tables.specs.Entries.{Valid, entries-of, blank, is-periodic};
+ghost use Rattle.tables.specs.Entries.{Valid, entries-of, blank, is-periodic, what-at};
 ghost use Rattle.tables.specs.Places.{Home};
 ghost use Rattle.records.specs.Where.{field-of};
 ghost use Rattle.tables.specs.Groups.{fields-in};
@@ -26,7 +26,7 @@ pub struct Path {
 // The bytes of entry i's cell, where they are always as many; a group by itself has none.
 fn width_at(t: &[u8], i: usize) -> Found
     requires { ⌜ Valid (now t) × (i < length (entries-of (now t))) ⌝ }
-    ensures { λ r. ⌜ Width (field-of (getD (entries-of (now (t .entry))) i blank .name) (getD (entries-of (now (t .entry))) i blank .what)) greatest-byte r ⌝ }
+    ensures { λ r. ⌜ Width (field-of (getD (entries-of (now (t .entry))) i blank .name) (what-at (entries-of (now (t .entry))) i)) greatest-byte r ⌝ }
 {
     if tables::group_at(t, i) {
         return Found::At(0);
@@ -89,7 +89,7 @@ fn path_in(t: &[u8], g: usize, i: usize) -> Path
 
 // The way to entry i, which is no periodic group.
 pub fn path_to(t: &[u8], i: usize) -> Path
-    requires { ⌜ Valid (now t) × (i < length (entries-of (now t))) × (is-periodic (getD (entries-of (now t)) i blank .what) ≡ false) ⌝ }
+    requires { ⌜ Valid (now t) × (i < length (entries-of (now t))) × (is-periodic (what-at (entries-of (now t)) i) ≡ false) ⌝ }
     ensures { λ p. ⌜ (p .entry ≡ i) × Leads (entries-of (now (t .entry))) p ⌝ }
 {
     let home = tables::periodic_group(t, i);

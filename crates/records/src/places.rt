@@ -4,17 +4,15 @@ ghost use mathlib.Core.Bool.{true, false};
 ghost use mathlib.Core.List.{List};
 ghost use Prim.Native.Nat.{ℕ, _+_, _-_, _≤_, _<_};
 ghost use lib.ListN.{length, drop, getD};
-ghost use lib.Seq.{slice};
 ghost use Rattle.rules.specs.Limits.{record-head-size, count-size};
 ghost use Rattle.rules.specs.Table.{group, parts};
-ghost use Rattle.rules.specs.Record.{Record, times, each, stored-cell, group-count-at, value-count-at};
-ghost use Rattle.tables.specs.Entries.{Valid, entries-of, blank, is-group, is-multiple};
+ghost use Rattle.rules.specs.Record.{Record, times, group-count-at, value-count-at};
+ghost use Rattle.tables.specs.Entries.{Valid, entries-of, blank, is-group, is-multiple, what-at};
 ghost use Rattle.tables.specs.Places.{inside-at};
-ghost use Rattle.tables.specs.Groups.{group-end, fields-in};
-ghost use Rattle.records.specs.Places.{Is-record, Has-record, Entered, Member-entered, Cell-of, Outside, Piece-of, Occurrences-of};
+ghost use Rattle.records.specs.Places.{Is-record, Has-record, Entered, Member-entered, Cell-of, Outside, Piece-of, Occurrences-of, Leads-inside, Has-occurrences, One-outside};
 ghost use Rattle.records.specs.Counts.{count-at, greatest-byte};
-ghost use Rattle.records.specs.Walk.{directory, rest-of, Walked, Ends, start-of, occurrence, greatest-kept};
-ghost use Rattle.records.specs.Paths.{Wide, Leads};
+ghost use Rattle.records.specs.Walk.{directory, rest-of, Walked, Ends, start-of, occurrence, greatest-kept, members-among};
+ghost use Rattle.records.specs.Paths.{Leads};
 ghost use Rattle.records.specs.declared.Reach.the-variants.{At};
 use crate::DIRECTORY;
 use crate::FIRSTS;
@@ -52,7 +50,7 @@ fn place_of(places: &[u16; DIRECTORY], i: usize) -> usize
 
 // The count of the periodic group that entry g is.
 pub fn group_count(t: &[u8], b: &[u8], places: &[u16; DIRECTORY], g: usize) -> usize
-    requires { ⌜ Valid (now t) × (g < length (entries-of (now t))) × (getD (entries-of (now t)) g blank .what ≡ group true) × Has-record (entries-of (now t)) (now b) (now places) ⌝ }
+    requires { ⌜ Valid (now t) × (g < length (entries-of (now t))) × (what-at (entries-of (now t)) g ≡ group true) × Has-record (entries-of (now t)) (now b) (now places) ⌝ }
     ensures { λ n. ⌜ (n ≤ greatest-byte) × ((r : Record) → Is-record (entries-of (now (t .entry))) (now (b .entry)) (now (places .entry)) r → n ≡ group-count-at (parts (entries-of (now (t .entry)))) r (getD (entries-of (now (t .entry))) g blank .name)) ⌝ }
 {
     counts::count_at(b, place_of(places, g))
@@ -60,7 +58,7 @@ pub fn group_count(t: &[u8], b: &[u8], places: &[u16; DIRECTORY], g: usize) -> u
 
 // The place of occurrence o of the periodic group that entry g is: as it is kept, or after those before it.
 fn occurrence_at(t: &[u8], b: &[u8], places: &[u16; DIRECTORY], g: usize, o: usize) -> usize
-    requires { ⌜ Valid (now t) × (g < length (entries-of (now t))) × (getD (entries-of (now t)) g blank .what ≡ group true) × (1 ≤ o) × (o ≤ count-at (now b) (getD (now places) g 0)) × Has-record (entries-of (now t)) (now b) (now places) ⌝ }
+    requires { ⌜ Valid (now t) × (g < length (entries-of (now t))) × (what-at (entries-of (now t)) g ≡ group true) × (1 ≤ o) × (o ≤ count-at (now b) (getD (now places) g 0)) × Has-record (entries-of (now t)) (now b) (now places) ⌝ }
     ensures { λ r. ⌜ Walked (now (b .entry)) (rest-of (times (o - 1) (occurrence (entries-of (now (t .entry))) g) (drop (getD (now (places .entry)) g 0 + count-size) (now (b .entry))))) (At r) ⌝ }
 {
     let number = place_of(places, FIRSTS + g) + (o - 1);
@@ -74,8 +72,8 @@ fn occurrence_at(t: &[u8], b: &[u8], places: &[u16; DIRECTORY], g: usize, o: usi
 
 // The place of an entry in the occurrence that stands at a place: after the fields before it there.
 fn place_in(t: &[u8], b: &[u8], path: Path, row: usize) -> usize
-    requires { ⌜ Valid (now t) × (path .group < path .entry) × (path .entry ≤ length (entries-of (now t))) × Leads (entries-of (now t)) path × (row ≤ length (now b)) × Ends (rest-of (each stored-cell (fields-in (slice (path .group + 1) (path .entry) (entries-of (now t)))) (drop row (now b)))) ⌝ }
-    ensures { λ r. ⌜ Walked (now (b .entry)) (rest-of (each stored-cell (fields-in (slice (path .group + 1) (path .entry) (entries-of (now (t .entry))))) (drop row (now (b .entry))))) (At r) ⌝ }
+    requires { ⌜ Valid (now t) × (path .group < path .entry) × (path .entry ≤ length (entries-of (now t))) × Leads (entries-of (now t)) path × (row ≤ length (now b)) × Ends (rest-of (members-among (entries-of (now t)) (path .group + 1) (path .entry) (drop row (now b)))) ⌝ }
+    ensures { λ r. ⌜ Walked (now (b .entry)) (rest-of (members-among (entries-of (now (t .entry))) (path .group + 1) (path .entry) (drop row (now (b .entry))))) (At r) ⌝ }
 {
     if path.fixed {
         return row + path.offset;
@@ -98,7 +96,7 @@ fn entry_in(t: &[u8], b: &[u8], places: &[u16; DIRECTORY], path: Path, o: usize)
 
 // Where occurrence o of the periodic group that entry g is begins, which is where the cell of its first member would stand.
 pub fn first_cell(t: &[u8], b: &[u8], places: &[u16; DIRECTORY], g: usize, o: usize) -> Cell
-    requires { ⌜ Valid (now t) × (g < length (entries-of (now t))) × (getD (entries-of (now t)) g blank .what ≡ group true) × (1 ≤ o) × Has-record (entries-of (now t)) (now b) (now places) ⌝ }
+    requires { ⌜ Valid (now t) × (g < length (entries-of (now t))) × (what-at (entries-of (now t)) g ≡ group true) × (1 ≤ o) × Has-record (entries-of (now t)) (now b) (now places) ⌝ }
     ensures { λ c. ⌜ ((r : Record) → Is-record (entries-of (now (t .entry))) (now (b .entry)) (now (places .entry)) r → Entered (entries-of (now (t .entry))) (now (b .entry)) (now (places .entry)) g (g + 1) o r c) ⌝ }
 {
     if group_count(t, b, places, g) < o {
@@ -120,7 +118,7 @@ pub fn next_cell(t: &[u8], b: &[u8], i: usize, cell: Cell) -> Cell
 
 // The cell of entry i, a field outside periodic groups.
 pub fn outside_cell(t: &[u8], b: &[u8], places: &[u16; DIRECTORY], i: usize) -> Cell
-    requires { ⌜ Valid (now t) × (i < length (entries-of (now t))) × (is-group (getD (entries-of (now t)) i blank .what) ≡ false) × (inside-at (entries-of (now t)) i ≡ false) ⌝ }
+    requires { ⌜ Valid (now t) × (i < length (entries-of (now t))) × (is-group (what-at (entries-of (now t)) i) ≡ false) × (inside-at (entries-of (now t)) i ≡ false) ⌝ }
     ensures { λ c. ⌜ ((r : Record) → Is-record (entries-of (now (t .entry))) (now (b .entry)) (now (places .entry)) r → Cell-of (entries-of (now (t .entry))) (now (b .entry)) i 1 r c) ⌝ }
 {
     Cell::At(place_of(places, i))
@@ -128,7 +126,7 @@ pub fn outside_cell(t: &[u8], b: &[u8], places: &[u16; DIRECTORY], i: usize) -> 
 
 // The cell of a field in occurrence o, by the way to it; outside periodic groups there is occurrence 1.
 pub fn cell_by(t: &[u8], b: &[u8], places: &[u16; DIRECTORY], path: Path, o: usize) -> Cell
-    requires { ⌜ Valid (now t) × (path .entry < length (entries-of (now t))) × (is-group (getD (entries-of (now t)) (path .entry) blank .what) ≡ false) × (1 ≤ o) × (inside-at (entries-of (now t)) (path .entry) ≡ false → o ≡ 1) × Leads (entries-of (now t)) path × Has-record (entries-of (now t)) (now b) (now places) ⌝ }
+    requires { ⌜ Valid (now t) × (path .entry < length (entries-of (now t))) × (is-group (what-at (entries-of (now t)) (path .entry)) ≡ false) × (1 ≤ o) × One-outside (entries-of (now t)) (path .entry) o × Leads (entries-of (now t)) path × Has-record (entries-of (now t)) (now b) (now places) ⌝ }
     ensures { λ c. ⌜ ((r : Record) → Is-record (entries-of (now (t .entry))) (now (b .entry)) (now (places .entry)) r → Cell-of (entries-of (now (t .entry))) (now (b .entry)) (path .entry) o r c) ⌝ }
 {
     if path.inside {
@@ -139,7 +137,7 @@ pub fn cell_by(t: &[u8], b: &[u8], places: &[u16; DIRECTORY], path: Path, o: usi
 
 // The cell of entry i, a field, in occurrence o.
 pub fn cell_at(t: &[u8], b: &[u8], places: &[u16; DIRECTORY], i: usize, o: usize) -> Cell
-    requires { ⌜ Valid (now t) × (i < length (entries-of (now t))) × (is-group (getD (entries-of (now t)) i blank .what) ≡ false) × (1 ≤ o) × (inside-at (entries-of (now t)) i ≡ false → o ≡ 1) × Has-record (entries-of (now t)) (now b) (now places) ⌝ }
+    requires { ⌜ Valid (now t) × (i < length (entries-of (now t))) × (is-group (what-at (entries-of (now t)) i) ≡ false) × (1 ≤ o) × One-outside (entries-of (now t)) i o × Has-record (entries-of (now t)) (now b) (now places) ⌝ }
     ensures { λ c. ⌜ ((r : Record) → Is-record (entries-of (now (t .entry))) (now (b .entry)) (now (places .entry)) r → Cell-of (entries-of (now (t .entry))) (now (b .entry)) i o r c) ⌝ }
 {
     cell_by(t, b, places, paths::path_to(t, i), o)
@@ -147,7 +145,7 @@ pub fn cell_at(t: &[u8], b: &[u8], places: &[u16; DIRECTORY], i: usize, o: usize
 
 // The count of entry i, an MU field, in occurrence o: 0 where there is no such occurrence.
 pub fn value_count(t: &[u8], b: &[u8], places: &[u16; DIRECTORY], i: usize, o: usize) -> usize
-    requires { ⌜ Valid (now t) × (i < length (entries-of (now t))) × (is-multiple (getD (entries-of (now t)) i blank .what) ≡ true) × (1 ≤ o) × (inside-at (entries-of (now t)) i ≡ false → o ≡ 1) × Has-record (entries-of (now t)) (now b) (now places) ⌝ }
+    requires { ⌜ Valid (now t) × (i < length (entries-of (now t))) × (is-multiple (what-at (entries-of (now t)) i) ≡ true) × (1 ≤ o) × One-outside (entries-of (now t)) i o × Has-record (entries-of (now t)) (now b) (now places) ⌝ }
     ensures { λ n. ⌜ (n ≤ greatest-byte) × ((r : Record) → Is-record (entries-of (now (t .entry))) (now (b .entry)) (now (places .entry)) r → n ≡ value-count-at (parts (entries-of (now (t .entry)))) r (getD (entries-of (now (t .entry))) i blank .name) o) ⌝ }
 {
     let cell = cell_at(t, b, places, i, o);
@@ -194,7 +192,7 @@ pub fn piece_inside(
     width: usize,
     o: usize,
 ) -> Extent
-    requires { ⌜ Valid (now t) × (path .group < path .entry) × (path .entry < end) × (end ≤ length (entries-of (now t))) × (end ≤ group-end (entries-of (now t)) (path .group)) × (1 ≤ o) × Leads (entries-of (now t)) path × (path .inside ≡ true) × Wide (fields-in (slice (path .entry) end (entries-of (now t)))) width × Has-record (entries-of (now t)) (now b) (now places) ⌝ }
+    requires { ⌜ Valid (now t) × (path .group < path .entry) × Leads-inside (entries-of (now t)) (now b) (now places) path end width o ⌝ }
     ensures { λ c. ⌜ ((r : Record) → Is-record (entries-of (now (t .entry))) (now (b .entry)) (now (places .entry)) r → Piece-of (entries-of (now (t .entry))) (now (b .entry)) (path .entry) end o r c) ⌝ }
 {
     let first = entry_in(t, b, places, path, o);
@@ -215,7 +213,7 @@ pub fn occurrences_at(
     o: usize,
     n: usize,
 ) -> usize
-    requires { ⌜ Valid (now t) × (g < length (entries-of (now t))) × (getD (entries-of (now t)) g blank .what ≡ group true) × (1 ≤ o) × (1 ≤ n) × ((r : Record) → Is-record (entries-of (now t)) (now b) (now places) r → o + n ≤ group-count-at (parts (entries-of (now t))) r (getD (entries-of (now t)) g blank .name) + 1) × Wide (fields-in (slice (g + 1) (group-end (entries-of (now t)) g) (entries-of (now t)))) width × Has-record (entries-of (now t)) (now b) (now places) ⌝ }
+    requires { ⌜ Valid (now t) × (g < length (entries-of (now t))) × (what-at (entries-of (now t)) g ≡ group true) × Has-occurrences (entries-of (now t)) (now b) (now places) g width o n ⌝ }
     ensures { λ p. ⌜ ((r : Record) → Is-record (entries-of (now (t .entry))) (now (b .entry)) (now (places .entry)) r → Occurrences-of (entries-of (now (t .entry))) (now (b .entry)) g o n width r p) ⌝ }
 {
     occurrence_at(t, b, places, g, o)

@@ -1,18 +1,17 @@
 // Whether a slice is a stored record (refusal 2), and where each entry's bytes begin.
 ghost use mathlib.Core.Path.{_≡_};
 ghost use mathlib.Core.Bool.{true};
-ghost use Prim.Native.Nat.{suc, _+_, _≤_, _<_};
+ghost use Prim.Native.Nat.{_+_, _≤_, _<_};
 ghost use lib.ListN.{length, drop, getD, set};
 ghost use lib.Seq.{slice};
-ghost use Rattle.rules.specs.Limits.{longest-record, formats, count-size};
+ghost use Rattle.rules.specs.Limits.{longest-record, formats};
 ghost use Rattle.rules.specs.Lists.{cut};
 ghost use Rattle.rules.specs.Values.{allowed};
 ghost use Rattle.rules.specs.Record.{times, each, counted, stored-value, stored-cell};
-ghost use Rattle.tables.specs.Entries.{Valid, entries-of, blank, format-at};
+ghost use Rattle.tables.specs.Entries.{Valid, entries-of, blank, format-at, what-at};
 ghost use Rattle.records.specs.Where.{field-of};
-ghost use Rattle.tables.specs.Groups.{fields-in};
 ghost use Rattle.records.specs.Counts.{count-at, greatest-byte};
-ghost use Rattle.records.specs.Walk.{directory, rest-of, Walked, after-entry, occurrence, occurrences-counted, Keeps, Checked, greatest-kept};
+ghost use Rattle.records.specs.Walk.{directory, rest-of, Walked, occurrences-counted, Keeps, Checked, greatest-kept, members-among, Walks-entry};
 use crate::DIRECTORY;
 use crate::FIRSTS;
 use crate::KEPT;
@@ -96,7 +95,7 @@ fn cell_end(b: &[u8], at: usize, format: usize, size: usize, multiple: bool) -> 
 // The place after the cell of entry i, where it is a field; a group by itself has no bytes.
 fn member_end(t: &[u8], b: &[u8], at: usize, i: usize) -> Reach
     requires { ⌜ Valid (now t) × (i < length (entries-of (now t))) × (at ≤ length (now b)) ⌝ }
-    ensures { λ r. ⌜ Walked (now (b .entry)) (rest-of (each stored-cell (field-of (getD (entries-of (now (t .entry))) i blank .name) (getD (entries-of (now (t .entry))) i blank .what)) (drop at (now (b .entry))))) r ⌝ }
+    ensures { λ r. ⌜ Walked (now (b .entry)) (rest-of (each stored-cell (field-of (getD (entries-of (now (t .entry))) i blank .name) (what-at (entries-of (now (t .entry))) i)) (drop at (now (b .entry))))) r ⌝ }
 {
     let e = tables::entry_at(t, i);
     if e.format == tables::GROUP {
@@ -108,7 +107,7 @@ fn member_end(t: &[u8], b: &[u8], at: usize, i: usize) -> Reach
 // The place after the cells of the fields among the entries from first to end, once each.
 fn members_end(t: &[u8], b: &[u8], at: usize, first: usize, end: usize) -> Reach
     requires { ⌜ Valid (now t) × (first ≤ end) × (end ≤ length (entries-of (now t))) × (at ≤ length (now b)) ⌝ }
-    ensures { λ r. ⌜ Walked (now (b .entry)) (rest-of (each stored-cell (fields-in (slice first end (entries-of (now (t .entry))))) (drop at (now (b .entry))))) r ⌝ }
+    ensures { λ r. ⌜ Walked (now (b .entry)) (rest-of (members-among (entries-of (now (t .entry))) first end (drop at (now (b .entry))))) r ⌝ }
 {
     let mut p = at;
     let mut i = first;
@@ -149,7 +148,7 @@ fn occurrences_end(
     kept: usize,
 ) -> Reach
     requires { ⌜ Valid (now t) × (first ≤ end) × (end ≤ length (entries-of (now t))) × (at ≤ length (now b)) × (length (now b) ≤ longest-record) × (length (now places) ≡ directory) × (kept + n ≤ greatest-kept) ⌝ }
-    ensures { λ r. ⌜ Walked (now (b .entry)) (rest-of (times n (each stored-cell (fields-in (slice first end (entries-of (now (t .entry)))))) (drop at (now (b .entry))))) r × Keeps (each stored-cell (fields-in (slice first end (entries-of (now (t .entry)))))) (now (b .entry)) at n kept (now (places .entry)) (now (places .exit)) r ⌝ }
+    ensures { λ r. ⌜ Walked (now (b .entry)) (rest-of (times n (members-among (entries-of (now (t .entry))) first end) (drop at (now (b .entry))))) r × Keeps (members-among (entries-of (now (t .entry))) first end) (now (b .entry)) at n kept (now (places .entry)) (now (places .exit)) r ⌝ }
 {
     let mut p = at;
     let mut i = 0;
@@ -180,7 +179,7 @@ fn entry_end(
     kept: usize,
 ) -> Reach
     requires { ⌜ Valid (now t) × (i < length (entries-of (now t))) × (at ≤ length (now b)) × (length (now b) ≤ longest-record) × (length (now places) ≡ directory) × (kept + greatest-byte ≤ greatest-kept) ⌝ }
-    ensures { λ r. ⌜ Walked (now (b .entry)) (after-entry inside (getD (entries-of (now (t .entry))) i blank) (drop (suc i) (entries-of (now (t .entry)))) (drop at (now (b .entry)))) r × Keeps (occurrence (entries-of (now (t .entry))) i) (now (b .entry)) (at + count-size) (occurrences-counted (getD (entries-of (now (t .entry))) i blank .what) (count-at (now (b .entry)) at)) kept (now (places .entry)) (now (places .exit)) r ⌝ }
+    ensures { λ r. ⌜ Walks-entry (entries-of (now (t .entry))) (now (b .entry)) inside i at kept (now (places .entry)) (now (places .exit)) r ⌝ }
 {
     if tables::periodic_at(t, i) {
         if counts::has_count(b, at) {
@@ -200,7 +199,7 @@ fn entry_end(
 // The number after those of entry i's occurrences.
 fn kept_after(t: &[u8], b: &[u8], at: usize, i: usize, kept: usize) -> usize
     requires { ⌜ Valid (now t) × (i < length (entries-of (now t))) × (kept + greatest-byte ≤ greatest-kept) ⌝ }
-    ensures { λ r. ⌜ (r ≡ kept + occurrences-counted (getD (entries-of (now (t .entry))) i blank .what) (count-at (now (b .entry)) at)) × (r ≤ kept + greatest-byte) ⌝ }
+    ensures { λ r. ⌜ (r ≡ kept + occurrences-counted (what-at (entries-of (now (t .entry))) i) (count-at (now (b .entry)) at)) × (r ≤ kept + greatest-byte) ⌝ }
 {
     if b.len() <= at {
         return kept;

@@ -30,6 +30,10 @@ entries-of t = listed (table t)
 unfoldable pub blank : Entry
 blank = record { name = 0; level = 0; what = group false }
 
+-- What entry i is.
+abbrev pub what-at : List Entry → ℕ → What
+what-at es i = getD es i blank .what
+
 -- The number that stands in the place of a group's format.
 abbrev pub group-number : ℕ
 group-number = formats

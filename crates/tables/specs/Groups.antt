@@ -10,7 +10,7 @@ use Rattle.rules.specs.Table.{What, field, group, Field, Entry, fields-below}
 use Rattle.rules.specs.Outcome.{done, is-done}
 use Rattle.rules.specs.Use.{fields-to}
 use Rattle.buffer.specs.Splice.{splice}
-use Rattle.tables.specs.Entries.{blank, group-number}
+use Rattle.tables.specs.Entries.{blank, group-number, what-at}
 use Rattle.tables.specs.declared.Entry.{Entry as Decoded}
 use Rattle.tables.specs.declared.groups.Expansion.{Expansion}
 
@@ -29,7 +29,7 @@ field-by n (field f s m) = record { name = n; format = f; size = s; multiple = m
 field-by n (group p) = record { name = n; format = alpha; size = 0; multiple = false }
 
 unfoldable pub field-at : List Entry → ℕ → Field
-field-at es i = field-by (getD es i blank .name) (getD es i blank .what)
+field-at es i = field-by (getD es i blank .name) (what-at es i)
 
 -- The first of some entries before the rest of them, where it is a field.
 abbrev pub with-number : What → ℕ → List ℕ → List ℕ

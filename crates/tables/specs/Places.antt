@@ -10,7 +10,7 @@ use Rattle.rules.specs.declared.Refusal.the-variants.{UnknownName}
 use Rattle.rules.specs.Table.{group, Entry, is-inside}
 use Rattle.rules.specs.Use.{find}
 use Rattle.rules.specs.Use as Use
-use Rattle.tables.specs.Entries.{blank}
+use Rattle.tables.specs.Entries.{blank, what-at}
 use Rattle.tables.specs.Groups.{run-below}
 use Rattle.tables.specs.declared.Found.{Found}
 use Rattle.tables.specs.declared.Found.the-variants.{At, Nothing}
@@ -37,7 +37,7 @@ Finds n es Nothing = find n es ≡ refused (refusal UnknownName)
 pub record Home (es : List Entry) (i j : ℕ) : Type 0 where
   pub upto : j ≤ i
   pub level : getD es j blank .level ≡ 1
-  pub periodic : getD es j blank .what ≡ group true
+  pub periodic : what-at es j ≡ group true
   pub within : i ≤ j + run-below 1 (drop (suc j) es)
   pub inside : inside-at es i ≡ true
 

@@ -6,7 +6,7 @@ ghost use lib.ListN.{length, getD};
 ghost use lib.Dec.{eqb};
 ghost use Rattle.rules.specs.Limits.{entry-size};
 ghost use Rattle.rules.specs.Table.{name-of};
-ghost use Rattle.tables.specs.Entries.{is-group, is-multiple, is-periodic, size-of, format-number, entry-of-bytes, group-letter, Has-entry, bytes-at, Valid, entries-of, decoded, blank};
+ghost use Rattle.tables.specs.Entries.{is-group, is-multiple, is-periodic, size-of, format-number, entry-of-bytes, group-letter, Has-entry, bytes-at, Valid, entries-of, decoded, blank, what-at};
 
 // The places of its bytes in an entry.
 pub const NAME_FIRST: usize = 0;
@@ -122,7 +122,7 @@ pub fn level_at(t: &[u8], i: usize) -> u8
 // The number of the format of entry i: GROUP where it is a group.
 pub fn format_at(t: &[u8], i: usize) -> usize
     requires { ⌜ Valid (now t) × (i < length (entries-of (now t))) ⌝ }
-    ensures { λ r. ⌜ r ≡ format-number (getD (entries-of (now (t .entry))) i blank .what) ⌝ }
+    ensures { λ r. ⌜ r ≡ format-number (what-at (entries-of (now (t .entry))) i) ⌝ }
 {
     value_formats::format_number(entry_byte(t, i, FORMAT))
 }
@@ -130,7 +130,7 @@ pub fn format_at(t: &[u8], i: usize) -> usize
 // The standard length of entry i: 0 where it is a group.
 pub fn size_at(t: &[u8], i: usize) -> usize
     requires { ⌜ Valid (now t) × (i < length (entries-of (now t))) ⌝ }
-    ensures { λ r. ⌜ (r ≡ size-of (getD (entries-of (now (t .entry))) i blank .what)) × (r < 256) ⌝ }
+    ensures { λ r. ⌜ (r ≡ size-of (what-at (entries-of (now (t .entry))) i)) × (r < 256) ⌝ }
 {
     wide(entry_byte(t, i, SIZE))
 }
@@ -138,7 +138,7 @@ pub fn size_at(t: &[u8], i: usize) -> usize
 // Whether entry i is a group.
 pub fn group_at(t: &[u8], i: usize) -> bool
     requires { ⌜ Valid (now t) × (i < length (entries-of (now t))) ⌝ }
-    ensures { λ r. ⌜ r ≡ is-group (getD (entries-of (now (t .entry))) i blank .what) ⌝ }
+    ensures { λ r. ⌜ r ≡ is-group (what-at (entries-of (now (t .entry))) i) ⌝ }
 {
     group_in(t, i)
 }
@@ -146,7 +146,7 @@ pub fn group_at(t: &[u8], i: usize) -> bool
 // Whether entry i is an MU field.
 pub fn multiple_at(t: &[u8], i: usize) -> bool
     requires { ⌜ Valid (now t) × (i < length (entries-of (now t))) ⌝ }
-    ensures { λ r. ⌜ r ≡ is-multiple (getD (entries-of (now (t .entry))) i blank .what) ⌝ }
+    ensures { λ r. ⌜ r ≡ is-multiple (what-at (entries-of (now (t .entry))) i) ⌝ }
 {
     entry_byte(t, i, OPTION) == MULTIPLE
 }
@@ -154,7 +154,7 @@ pub fn multiple_at(t: &[u8], i: usize) -> bool
 // Whether entry i is a periodic group.
 pub fn periodic_at(t: &[u8], i: usize) -> bool
     requires { ⌜ Valid (now t) × (i < length (entries-of (now t))) ⌝ }
-    ensures { λ r. ⌜ r ≡ is-periodic (getD (entries-of (now (t .entry))) i blank .what) ⌝ }
+    ensures { λ r. ⌜ r ≡ is-periodic (what-at (entries-of (now (t .entry))) i) ⌝ }
 {
     entry_byte(t, i, OPTION) == PERIODIC
 }

@@ -2,7 +2,7 @@
 use mathlib.Core.Path.{_≡_}
 use mathlib.Core.Bool.{Bool, true, false, cond, _&&_}
 use mathlib.Core.List.{List, [], _∷_, _++_, map}
-use Prim.Native.Nat.{ℕ, _+_, _≤_, _<_}
+use Prim.Native.Nat.{ℕ, _+_, _≤_, _<_, _-_}
 use lib.Dec.{eqb}
 use lib.ListN.{length, take, drop, getD}
 use Rattle.rules.specs.Outcome.{Outcome, done, refused}
@@ -16,12 +16,12 @@ use Rattle.rules.specs.Use.{Item, Asked, as-stored, just, value-items, items}
 use Rattle.rules.specs.Update.{Assignment, assignments}
 use Rattle.rules.proofs.Ranges.{from-to, taking}
 use Rattle.value_formats.specs.Formats.{format-at}
-use Rattle.tables.specs.Entries.{blank, is-group}
+use Rattle.tables.specs.Entries.{is-group, what-at}
 use Rattle.tables.specs.Groups.{field-at}
-use Rattle.uses.specs.Meant.{fields-from}
+use Rattle.uses.specs.Meant.{fields-from, asked-of}
 use Rattle.uses.specs.declared.Span.{Span}
 use Rattle.uses.specs.Kept.{uses-kept}
-use Rattle.assignments.specs.Notes.{uses-from, place-at, bytes-given, Firsts, Listed, Unindexed}
+use Rattle.assignments.specs.Notes.{uses-from, place-at, bytes-given, Firsts, Listed, Unindexed, note-bound, note-place}
 use Rattle.assignments.specs.Answers.{first-put}
 use Rattle.taking.specs.declared.value.Given.{Given}
 use Rattle.taking.specs.declared.Taking.{Taking}
@@ -77,7 +77,7 @@ asked-given es g = record { field = field-at es (g .entry); format = format-at (
 
 pub record Gives (es : List Entry) (g : Given) : Type 0 where
   pub entry : g .entry < length es
-  pub field : is-group (getD es (g .entry) blank .what) ≡ false
+  pub field : is-group (what-at es (g .entry)) ≡ false
   pub own : field-at es (g .entry) .format ≡ format-at (g .own)
   pub own-known : g .own < formats
   pub standard : field-at es (g .entry) .size ≡ g .standard
@@ -124,3 +124,26 @@ Gave es f buffer kept count list stage (At s) =
     (ws : List Assignment) × (assignments (items (uses-kept es f kept count)) buffer ≡ done ws) × (s .full ≡ true → longest-new-record < length (bytes-given ws))
     × (s .full ≡ false → Listed es f kept count list stage ws) × Unindexed list
 Gave es f buffer kept count list stage (Refused x) = assignments (items (uses-kept es f kept count)) buffer ≡ refused (refusal x)
+
+-- The items of a span in occurrence o, and in all its occurrences; the items of a field that is given, from value first to value last.
+abbrev pub occurrence-taken : List Entry → Span → ℕ → List Item
+occurrence-taken es u o = value-items (asked-of es u) (just o) (from-to (u .«value_from») (u .«value_upto»)) (u .bare)
+
+abbrev pub span-taken : List Entry → Span → List Item
+span-taken es u = value-items (asked-of es u) (from-to (u .from) (u .upto)) (from-to (u .«value_from») (u .«value_upto»)) (u .bare)
+
+abbrev pub values-taken : Given → ℕ → ℕ → ℕ → List Entry → List Item
+values-taken g o first last es = value-items (asked-given es g ∷ []) (just o) (from-to first last) (g .bare)
+
+-- Items of a field that is given are taken, or its value k in occurrence o is staged, by whichever table has such a field.
+abbrev pub Takes-given : Bytes → Given → (List Entry → List Item) → Taking → List ℕ → List ℕ → Bytes → Bytes → Taken → Type 0
+Takes-given buffer g items s list list′ stage stage′ r =
+    (es : List Entry) → Gives es g → Room-enough list stage → Takes es buffer (items es) s list list′ stage stage′ r
+
+abbrev pub Stages-given : Bytes → Given → ℕ → ℕ → ℕ → ℕ → Taking → List ℕ → List ℕ → Bytes → Bytes → Taken → Type 0
+Stages-given buffer g o k from next s list list′ stage stage′ r =
+    (es : List Entry) → Gives es g → Room-enough list stage → Stages es buffer g o k (take (next - from) (drop from buffer)) next s list list′ stage stage′ r
+
+-- The uses fit the list, which is empty, and the stage is as long as a new record.
+abbrev pub Can-take : ℕ → List ℕ → Bytes → Type 0
+Can-take count list stage = (count < note-bound) × (note-place count ≤ length list) × (length stage ≡ longest-new-record) × ((j : ℕ) → getD list j 0 ≡ 0)

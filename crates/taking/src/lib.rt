@@ -1,16 +1,13 @@
 // What the record buffer gives to the occurrences that a format names (7, 8, 9): each value to a stage, in normal form at its field's own
 // format and length. Where the values of each use begin is noted.
-ghost use mathlib.Core.Path.{_≡_};
-ghost use Prim.Native.Nat.{ℕ, _*_, _≤_, _<_};
-ghost use lib.ListN.{length, getD};
-ghost use Rattle.rules.specs.Limits.{longest-new-record};
+ghost use Prim.Native.Nat.{_*_, _≤_, _<_};
+ghost use lib.ListN.{length};
 ghost use Rattle.rules.specs.Lists.{Bytes};
 ghost use Rattle.rules.specs.Use.{items-of};
 ghost use Rattle.tables.specs.Entries.{Valid, entries-of};
 ghost use Rattle.uses.specs.Kept.{numbers-kept, Good-uses};
 ghost use Rattle.uses.specs.Meant.{Good-use, use-meant};
-ghost use Rattle.assignments.specs.Notes.{note-bound, note-place};
-ghost use Rattle.taking.specs.Taking.{Takes, Ready, Gave, Passed};
+ghost use Rattle.taking.specs.Taking.{Takes, Ready, Gave, Passed, Can-take};
 
 mod spans;
 mod value;
@@ -70,7 +67,7 @@ pub fn take(
     list: &mut [u16],
     stage: &mut [u8],
 ) -> Taken
-    requires { ⌜ Valid (now t) × (numbers-kept * count ≤ length (now kept)) × ((f : Bytes) × Good-uses (entries-of (now t)) f (now kept) count) × (count < note-bound) × (note-place count ≤ length (now list)) × (length (now stage) ≡ longest-new-record) × ((j : ℕ) → getD (now list) j 0 ≡ 0) ⌝ }
+    requires { ⌜ Valid (now t) × (numbers-kept * count ≤ length (now kept)) × ((f : Bytes) × Good-uses (entries-of (now t)) f (now kept) count) × Can-take count (now list) (now stage) ⌝ }
     ensures { λ r. ⌜ ((f : Bytes) → Good-uses (entries-of (now (t .entry))) f (now (kept .entry)) count → Gave (entries-of (now (t .entry))) f (now (buffer .entry)) (now (kept .entry)) count (now (list .exit)) (now (stage .exit)) r) ⌝ }
 {
     let mut state = Taking {

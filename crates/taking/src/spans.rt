@@ -1,17 +1,14 @@
 // The values of a span, one after the other: its occurrences, in each its fields, and of each field its values.
 ghost use mathlib.Core.Path.{_≡_};
 ghost use mathlib.Core.Bool.{false};
-ghost use mathlib.Core.List.{List, _∷_, []};
+ghost use mathlib.Core.List.{List};
 ghost use Prim.Native.Nat.{_+_, _≤_, _<_};
-ghost use lib.ListN.{getD};
 ghost use Rattle.rules.specs.Limits.{highest-index};
 ghost use Rattle.rules.specs.Table.{Entry};
-ghost use Rattle.rules.specs.Use.{value-items, just};
-ghost use Rattle.rules.proofs.Ranges.{from-to};
-ghost use Rattle.tables.specs.Entries.{Valid, entries-of, blank, is-group};
+ghost use Rattle.tables.specs.Entries.{Valid, entries-of, is-group, what-at};
 ghost use Rattle.tables.specs.Groups.{field-at};
-ghost use Rattle.uses.specs.Meant.{Good-span, asked-of};
-ghost use Rattle.taking.specs.Taking.{Room-enough, Takes, Ready, asked-given, Gives, asked-as, items-between};
+ghost use Rattle.uses.specs.Meant.{Good-span};
+ghost use Rattle.taking.specs.Taking.{Takes, Ready, asked-given, Gives, asked-as, items-between, Takes-given, values-taken, occurrence-taken, span-taken};
 use crate::Taken;
 use crate::Taking;
 use crate::value;
@@ -30,7 +27,7 @@ fn take_values(
     s: Taking,
 ) -> Taken
     requires { ⌜ (1 ≤ o) × (o ≤ highest-index) × (1 ≤ first) × (last ≤ highest-index) × ((es : List Entry) × Gives es g × Ready es (now buffer) (now list) (now stage) s) ⌝ }
-    ensures { λ r. ⌜ ((es : List Entry) → Gives es g → Room-enough (now (list .entry)) (now (stage .entry)) → Takes es (now (buffer .entry)) (value-items (asked-given es g ∷ []) (just o) (from-to first last) (g .bare)) s (now (list .entry)) (now (list .exit)) (now (stage .entry)) (now (stage .exit)) r) ⌝ }
+    ensures { λ r. ⌜ Takes-given (now (buffer .entry)) g (values-taken g o first last) s (now (list .entry)) (now (list .exit)) (now (stage .entry)) (now (stage .exit)) r ⌝ }
 {
     let mut state = s;
     let mut k = first;
@@ -50,7 +47,7 @@ fn take_values(
 
 // The field of entry i, as a span asks for it.
 fn given_at(t: &[u8], i: usize, s: Span) -> Given
-    requires { ⌜ Valid (now t) × Good-span (entries-of (now t)) s × (s .first ≤ i) × (i < s .end) × (is-group (getD (entries-of (now t)) i blank .what) ≡ false) ⌝ }
+    requires { ⌜ Valid (now t) × Good-span (entries-of (now t)) s × (s .first ≤ i) × (i < s .end) × (is-group (what-at (entries-of (now t)) i) ≡ false) ⌝ }
     ensures { λ g. ⌜ (g .entry ≡ i) × (g .bare ≡ s .bare) × Gives (entries-of (now (t .entry))) g × (asked-given (entries-of (now (t .entry))) g ≡ asked-as (s .standard) s (field-at (entries-of (now (t .entry))) i)) ⌝ }
 {
     let own = tables::format_at(t, i);
@@ -115,7 +112,7 @@ fn take_fields(
     s: Taking,
 ) -> Taken
     requires { ⌜ Valid (now t) × Good-span (entries-of (now t)) u × (1 ≤ o) × (o ≤ highest-index) × Ready (entries-of (now t)) (now buffer) (now list) (now stage) s ⌝ }
-    ensures { λ r. ⌜ Takes (entries-of (now (t .entry))) (now (buffer .entry)) (value-items (asked-of (entries-of (now (t .entry))) u) (just o) (from-to (u .«value_from») (u .«value_upto»)) (u .bare)) s (now (list .entry)) (now (list .exit)) (now (stage .entry)) (now (stage .exit)) r ⌝ }
+    ensures { λ r. ⌜ Takes (entries-of (now (t .entry))) (now (buffer .entry)) (occurrence-taken (entries-of (now (t .entry))) u o) s (now (list .entry)) (now (list .exit)) (now (stage .entry)) (now (stage .exit)) r ⌝ }
 {
     let mut state = s;
     let mut i = u.first;
@@ -143,7 +140,7 @@ pub fn take_occurrences(
     s: Taking,
 ) -> Taken
     requires { ⌜ Valid (now t) × Good-span (entries-of (now t)) u × Ready (entries-of (now t)) (now buffer) (now list) (now stage) s ⌝ }
-    ensures { λ r. ⌜ Takes (entries-of (now (t .entry))) (now (buffer .entry)) (value-items (asked-of (entries-of (now (t .entry))) u) (from-to (u .from) (u .upto)) (from-to (u .«value_from») (u .«value_upto»)) (u .bare)) s (now (list .entry)) (now (list .exit)) (now (stage .entry)) (now (stage .exit)) r ⌝ }
+    ensures { λ r. ⌜ Takes (entries-of (now (t .entry))) (now (buffer .entry)) (span-taken (entries-of (now (t .entry))) u) s (now (list .entry)) (now (list .exit)) (now (stage .entry)) (now (stage .exit)) r ⌝ }
 {
     let mut state = s;
     let mut o = u.from;

@@ -14,7 +14,7 @@ ghost use Rattle.value_formats.specs.Formats.{format-at};
 ghost use Rattle.values.specs.Places.{Located};
 ghost use Rattle.values.specs.declared.FirstValue.the-variants.{Value};
 ghost use Rattle.filling.specs.Filling.{Filling, in-room};
-ghost use Rattle.taking.specs.Taking.{Room-enough, Takes, Ready, asked-given, given-bytes, Gives, Stages, tested-to, noted};
+ghost use Rattle.taking.specs.Taking.{Ready, asked-given, given-bytes, Gives, tested-to, noted, Takes-given, Stages-given};
 ghost use Rattle.assignments.specs.Notes.{note-bound, uses-from};
 ghost use Rattle.taking.specs.declared.Taken.the-variants.{At};
 use crate::Taken;
@@ -117,7 +117,7 @@ fn stage_value(
     s: Taking,
 ) -> Taken
     requires { ⌜ Located (now buffer) (s .at) (first-value (g .size) (drop (s .at) (now buffer))) (Value from next) × (1 ≤ o) × (o ≤ highest-index) × (1 ≤ k) × (k ≤ highest-index) × ((es : List Entry) × Gives es g × Ready es (now buffer) (now list) (now stage) s) ⌝ }
-    ensures { λ r. ⌜ ((es : List Entry) → Gives es g → Room-enough (now (list .entry)) (now (stage .entry)) → Stages es (now (buffer .entry)) g o k (take (next - from) (drop from (now (buffer .entry)))) next s (now (list .entry)) (now (list .exit)) (now (stage .entry)) (now (stage .exit)) r) ⌝ }
+    ensures { λ r. ⌜ Stages-given (now (buffer .entry)) g o k from next s (now (list .entry)) (now (list .exit)) (now (stage .entry)) (now (stage .exit)) r ⌝ }
 {
     let to = if s.full { 0 } else { s.staged };
     let put = put_given(buffer, s.at, from, next, g, stage, to, !s.full);
@@ -151,7 +151,7 @@ pub fn take_value(
     s: Taking,
 ) -> Taken
     requires { ⌜ (1 ≤ o) × (o ≤ highest-index) × (1 ≤ k) × (k ≤ highest-index) × ((es : List Entry) × Gives es g × Ready es (now buffer) (now list) (now stage) s) ⌝ }
-    ensures { λ r. ⌜ ((es : List Entry) → Gives es g → Room-enough (now (list .entry)) (now (stage .entry)) → Takes es (now (buffer .entry)) (item-at (g .bare) (asked-given es g) o k ∷ []) s (now (list .entry)) (now (list .exit)) (now (stage .entry)) (now (stage .exit)) r) ⌝ }
+    ensures { λ r. ⌜ Takes-given (now (buffer .entry)) g (λ es. item-at (g .bare) (asked-given es g) o k ∷ []) s (now (list .entry)) (now (list .exit)) (now (stage .entry)) (now (stage .exit)) r ⌝ }
 {
     match values::first_value(buffer, s.at, g.size) {
         FirstValue::Refused(x) => Taken::Refused(x),

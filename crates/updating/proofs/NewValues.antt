@@ -14,7 +14,7 @@ use Rattle.rules.specs.Lists.{Bytes, join, run}
 use Rattle.rules.specs.Values.{Format, null}
 use Rattle.rules.specs.Record.{times, stored-value}
 use Rattle.rules.specs.declared.Refusal.{Refusal}
-use Rattle.records.specs.Walk.{rest-of, Behind}
+use Rattle.records.specs.Walk.{rest-of, Ends-at}
 use Rattle.records.specs.declared.places.Cell.the-variants as cell
 use Rattle.records.proofs.Cells.{times-first}
 use Rattle.filling.specs.Filling.{in-room, Filling, Continues}
@@ -85,7 +85,7 @@ module _ (given : ℕ → Option Bytes) (f : Format) (size : ℕ) (vs : List Byt
     missing-next h = List·getD-eq-default vs (null f size) (omega (arith, g .next, x .many))
 
     -- The old values after it.
-    pub were-after : k ≤ run .count → (q′ : ℕ) → Behind b (rest-of (times 1 (stored-value f size) (drop q b))) q′ → Were b f size q′ (run .count - suc (g .put)) (drop (suc (g .put)) vs)
+    pub were-after : k ≤ run .count → (q′ : ℕ) → Ends-at b (rest-of (times 1 (stored-value f size) (drop q b))) q′ → Were b f size q′ (run .count - suc (g .put)) (drop (suc (g .put)) vs)
     were-after h q′ e = next-there h λ mid p t.
         let w : Was b f size (old-at (g .put)) (cell.At q) = (g .were .0, mid, p) in
         (was-within b f size (old-at (g .put)) q w q′ e, g .were .1, rw (← was-rest b f size (old-at (g .put)) q w q′ e) t)

@@ -16,7 +16,7 @@ use Rattle.rules.specs.Values.{Format}
 use Rattle.rules.specs.Record.{times, stored-value}
 use Rattle.rules.proofs.Steps.{done-inj}
 use Rattle.rules.proofs.Readers.{value-sound}
-use Rattle.records.specs.Walk.{rest-of, Ends, Behind}
+use Rattle.records.specs.Walk.{rest-of, Ends, Ends-at}
 use Rattle.records.specs.declared.places.Cell.the-variants.{At, Nothing}
 use Rattle.records.proofs.Cells.{counted-many, byte-there}
 use Rattle.filling.specs.Filling.{in-room, Filling}
@@ -51,7 +51,7 @@ module _ (b : Bytes) (f : Format) (n : ℕ) (v : Bytes) (q : ℕ) (w : Was b f n
   was-ends = (w .1, alone)
 
   -- It is the bytes up to where it ends.
-  module _ (upto : ℕ) (e : Behind b (rest-of (times 1 (stored-value f n) (drop q b))) upto) where
+  module _ (upto : ℕ) (e : Ends-at b (rest-of (times 1 (stored-value f n) (drop q b))) upto) where
     pub was-within : upto ≤ length b
     was-within = e was-ends .place
 

@@ -1,11 +1,13 @@
 -- A record laid out by a plan, as bytes: entry by entry, occurrence by occurrence, member by member and value by value, as loops write it.
 use mathlib.Core.Bool.{Bool, true, false}
 use mathlib.Core.List.{List, [], _∷_, _++_}
-use Prim.Native.Nat.{ℕ, zero, suc}
+use Prim.Native.Nat.{ℕ, zero, suc, _+_}
 use lib.Dec.{ltb}
+use lib.ListN.{drop, getD}
 use Rattle.rules.specs.Lists.{Bytes}
-use Rattle.rules.specs.Table.{Field, What, field, group, Entry, Part, is-inside, fields-below}
-use Rattle.rules.specs.Record.{Plan, count-bytes}
+use Rattle.rules.specs.Table.{Field, What, field, group, Entry, Part, is-inside, fields-below, parts}
+use Rattle.rules.specs.Record.{Plan, count-bytes, Record, group-count-at, record-head}
+use Rattle.tables.specs.Entries.{blank, what-at}
 use Rattle.tables.specs.Groups.{field-by}
 
 -- The part of a periodic group, from the entries after it.
@@ -51,3 +53,13 @@ entry-laid w old false name (field f s mu) es = cell-laid w 1 (field-by name (fi
 unfoldable pub laid-from : Plan → (ℕ → ℕ) → Bool → List Entry → Bytes
 laid-from w old before [] = []
 laid-from w old before (e ∷ es) = entry-laid w old (is-inside before e) (e .name) (e .what) es ++ laid-from w old (is-inside before e) es
+
+-- What entry i adds to the new record, by a plan beside the old record; what the periodic group that entry g is does; and the whole.
+abbrev pub entry-added : List Entry → Bool → ℕ → Plan → Record → Bytes
+entry-added es inside i w r = entry-laid w (group-count-at (parts es) r) inside (getD es i blank .name) (what-at es i) (drop (i + 1) es)
+
+abbrev pub group-added : List Entry → ℕ → Plan → Record → Bytes
+group-added es g w r = entry-laid w (group-count-at (parts es) r) true (getD es g blank .name) (group true) (drop (g + 1) es)
+
+abbrev pub record-added : List Entry → Plan → Record → Bytes
+record-added es w r = record-head ++ laid-from w (group-count-at (parts es) r) false es

@@ -17,7 +17,7 @@ use Rattle.records.specs.Places.{Is-record, Cell-of}
 use Rattle.records.specs.declared.places.Cell.{Cell}
 use Rattle.records.specs.declared.places.Cell.the-variants.{At, Nothing}
 use Rattle.assignments.specs.Notes.{Indexed}
-use Rattle.filling.specs.Filling.{in-room, Filling}
+use Rattle.filling.specs.Filling.{in-room, Filling, Roomy}
 use Rattle.filling.specs.declared.Next.{Next}
 use Rattle.updating.specs.declared.cells.Run.{Run}
 
@@ -49,6 +49,10 @@ abbrev pub Puts-cell : List Entry → Bytes → List ℕ → List ℕ → Bytes 
 Puts-cell es b kept list stage i o cell new at end entry exit n =
     (r : Record) (ws : List Assignment) → Cell-of es b i o r cell → Assigns es kept list stage ws
     → Filling (in-room (end - at) (done (new (update-plan (parts es) r ws)))) at true entry exit n
+
+-- A cell of occurrence o can be put into room.
+abbrev pub Can-put-cell : List Entry → Bytes → List ℕ → List ℕ → Bytes → ℕ → ℕ → Cell → ℕ → ℕ → Bytes → Type 0
+Can-put-cell es b kept list stage i o cell at end out = (1 ≤ o) × (o ≤ highest-index) × Has-cell es b kept list stage i o cell × Roomy at end out
 
 -- A value as it was: it stands at a place, or there is none and it is null.
 abbrev pub Was : Bytes → Format → ℕ → Bytes → Cell → Type 0
@@ -87,3 +91,15 @@ Notes-by stage f size given by = (k : ℕ) → k ≤ highest-index → Stands st
 -- Values k to k + n - 1 of a field: what they take, and else the old ones, or null.
 unfoldable pub new-values : (ℕ → Option Bytes) → Format → ℕ → List Bytes → ℕ → ℕ → Bytes
 new-values given f size vs k n = join (run (λ i. taken (given i) (getD vs (pred i) (null f size))) k n)
+
+-- Where what the values of a field take stands is known, and so are its old values; and values 1 to n were put into room.
+abbrev pub Has-notes : Bytes → Format → ℕ → List ℕ → Type 0
+Has-notes stage f size by = (given : ℕ → Option Bytes) × Notes-by stage f size given by
+
+abbrev pub Has-old : Bytes → Format → ℕ → Run → Type 0
+Has-old b f size old = (vs : List Bytes) × Old b f size vs old
+
+abbrev pub Puts-values : Bytes → Bytes → List ℕ → Run → Format → ℕ → ℕ → ℕ → ℕ → Bytes → Bytes → Next → Type 0
+Puts-values b stage by old f size n at end entry exit r =
+    (given : ℕ → Option Bytes) (vs : List Bytes) → Notes-by stage f size given by → Old b f size vs old
+    → Filling (in-room (end - at) (done (new-values given f size vs 1 n))) at true entry exit r

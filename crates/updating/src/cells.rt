@@ -4,18 +4,18 @@ ghost use mathlib.Core.Bool.{true, false};
 ghost use mathlib.Core.List.{List};
 ghost use mathlib.Core.Option.{Option};
 ghost use Prim.Native.Nat.{ℕ, _-_, _≤_, _<_, max};
-ghost use lib.ListN.{length, getD};
+ghost use lib.ListN.{length};
 ghost use Rattle.rules.specs.Outcome.{done};
 ghost use Rattle.rules.specs.Limits.{formats, highest-index, greatest-count};
 ghost use Rattle.rules.specs.Lists.{Bytes};
 ghost use Rattle.rules.specs.Values.{Format, allowed};
 ghost use Rattle.rules.specs.Record.{count-bytes};
 ghost use Rattle.value_formats.specs.Formats.{format-at};
-ghost use Rattle.tables.specs.Entries.{Valid, entries-of, blank, is-group, is-multiple};
+ghost use Rattle.tables.specs.Entries.{Valid, entries-of, is-group, is-multiple, what-at};
 ghost use Rattle.tables.specs.Groups.{field-at};
 ghost use Rattle.filling.specs.Filling.{Roomy, Filling, in-room};
 ghost use Rattle.updating.specs.Laid.{cell-laid};
-ghost use Rattle.updating.specs.New.{Has-cell, Puts-cell, Was, Stands, taken, Had, Old, Notes-by, new-values};
+ghost use Rattle.updating.specs.New.{Puts-cell, Was, Stands, taken, Had, Old, Can-put-cell, Has-notes, Has-old, Puts-values};
 use filling::Next;
 use records::places::Cell;
 use rules::Refusal;
@@ -106,8 +106,8 @@ fn put_values(
     at: usize,
     end: usize,
 ) -> Next
-    requires { ⌜ (format < formats) × (allowed (format-at format) size ≡ true) × (n ≤ highest-index) × ((given : ℕ → Option Bytes) × Notes-by (now stage) (format-at format) size given (now by)) × ((vs : List Bytes) × Old (now b) (format-at format) size vs old) × Roomy at end (now out) ⌝ }
-    ensures { λ r. ⌜ ((given : ℕ → Option Bytes) (vs : List Bytes) → Notes-by (now (stage .entry)) (format-at format) size given (now (by .entry)) → Old (now (b .entry)) (format-at format) size vs old → Filling (in-room (end - at) (done (new-values given (format-at format) size vs 1 n))) at true (now (out .entry)) (now (out .exit)) r) ⌝ }
+    requires { ⌜ (format < formats) × (allowed (format-at format) size ≡ true) × (n ≤ highest-index) × Has-notes (now stage) (format-at format) size (now by) × Has-old (now b) (format-at format) size old × Roomy at end (now out) ⌝ }
+    ensures { λ r. ⌜ Puts-values (now (b .entry)) (now (stage .entry)) (now (by .entry)) old (format-at format) size n at end (now (out .entry)) (now (out .exit)) r ⌝ }
 {
     let mut q = old.from;
     let mut p = at;
@@ -161,7 +161,7 @@ fn put_counted(
     at: usize,
     end: usize,
 ) -> Next
-    requires { ⌜ Valid (now t) × (i < length (entries-of (now t))) × (is-multiple (getD (entries-of (now t)) i blank .what) ≡ true) × (1 ≤ o) × (o ≤ highest-index) × Has-cell (entries-of (now t)) (now b) (now kept) (now list) (now stage) i o cell × Roomy at end (now out) ⌝ }
+    requires { ⌜ Valid (now t) × (i < length (entries-of (now t))) × (is-multiple (what-at (entries-of (now t)) i) ≡ true) × Can-put-cell (entries-of (now t)) (now b) (now kept) (now list) (now stage) i o cell at end (now out) ⌝ }
     ensures { λ n. ⌜ Puts-cell (entries-of (now (t .entry))) (now (b .entry)) (now (kept .entry)) (now (list .entry)) (now (stage .entry)) i o cell (λ w. cell-laid w o (field-at (entries-of (now (t .entry))) i)) at end (now (out .entry)) (now (out .exit)) n ⌝ }
 {
     let format = tables::format_at(t, i);
@@ -194,7 +194,7 @@ fn put_plain(
     at: usize,
     end: usize,
 ) -> Next
-    requires { ⌜ Valid (now t) × (i < length (entries-of (now t))) × (is-group (getD (entries-of (now t)) i blank .what) ≡ false) × (is-multiple (getD (entries-of (now t)) i blank .what) ≡ false) × (1 ≤ o) × (o ≤ highest-index) × Has-cell (entries-of (now t)) (now b) (now kept) (now list) (now stage) i o cell × Roomy at end (now out) ⌝ }
+    requires { ⌜ Valid (now t) × (i < length (entries-of (now t))) × (is-group (what-at (entries-of (now t)) i) ≡ false) × (is-multiple (what-at (entries-of (now t)) i) ≡ false) × Can-put-cell (entries-of (now t)) (now b) (now kept) (now list) (now stage) i o cell at end (now out) ⌝ }
     ensures { λ n. ⌜ Puts-cell (entries-of (now (t .entry))) (now (b .entry)) (now (kept .entry)) (now (list .entry)) (now (stage .entry)) i o cell (λ w. cell-laid w o (field-at (entries-of (now (t .entry))) i)) at end (now (out .entry)) (now (out .exit)) n ⌝ }
 {
     let size = tables::size_at(t, i);
@@ -219,7 +219,7 @@ pub fn put_cell(
     at: usize,
     end: usize,
 ) -> Next
-    requires { ⌜ Valid (now t) × (i < length (entries-of (now t))) × (is-group (getD (entries-of (now t)) i blank .what) ≡ false) × (1 ≤ o) × (o ≤ highest-index) × Has-cell (entries-of (now t)) (now b) (now kept) (now list) (now stage) i o cell × Roomy at end (now out) ⌝ }
+    requires { ⌜ Valid (now t) × (i < length (entries-of (now t))) × (is-group (what-at (entries-of (now t)) i) ≡ false) × Can-put-cell (entries-of (now t)) (now b) (now kept) (now list) (now stage) i o cell at end (now out) ⌝ }
     ensures { λ n. ⌜ Puts-cell (entries-of (now (t .entry))) (now (b .entry)) (now (kept .entry)) (now (list .entry)) (now (stage .entry)) i o cell (λ w. cell-laid w o (field-at (entries-of (now (t .entry))) i)) at end (now (out .entry)) (now (out .exit)) n ⌝ }
 {
     if tables::multiple_at(t, i) {

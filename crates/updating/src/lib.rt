@@ -1,20 +1,18 @@
 // The new record of an update, laid out in table order.
 ghost use mathlib.Core.Path.{_≡_};
 ghost use mathlib.Core.Bool.{true, false};
-ghost use mathlib.Core.List.{_++_};
 ghost use Prim.Native.Nat.{_+_, _-_, _≤_, _<_};
-ghost use lib.ListN.{length, drop, getD};
+ghost use lib.ListN.{length};
 ghost use Rattle.rules.specs.Limits.{longest-new-record};
 ghost use Rattle.rules.specs.Outcome.{done};
 ghost use Rattle.rules.specs.Lists.{Bytes};
-ghost use Rattle.rules.specs.Table.{group, parts};
-ghost use Rattle.rules.specs.Record.{group-count-at, record-head};
-ghost use Rattle.tables.specs.Entries.{Valid, entries-of, blank, is-group};
+ghost use Rattle.rules.specs.Table.{group};
+ghost use Rattle.tables.specs.Entries.{Valid, entries-of, is-group, what-at};
 ghost use Rattle.tables.specs.Groups.{field-at};
 ghost use Rattle.tables.specs.Places.{inside-at};
 ghost use Rattle.records.specs.Places.{Has-record};
 ghost use Rattle.filling.specs.Filling.{Roomy, Filling, in-room};
-ghost use Rattle.updating.specs.Laid.{cell-laid, entry-laid, laid-from};
+ghost use Rattle.updating.specs.Laid.{cell-laid, entry-added, group-added, record-added};
 ghost use Rattle.updating.specs.New.{Has-both, Puts, Between};
 
 mod cells;
@@ -37,8 +35,8 @@ fn put_named_group(
     at: usize,
     end: usize,
 ) -> Next
-    requires { ⌜ Valid (now t) × (g < length (entries-of (now t))) × (getD (entries-of (now t)) g blank .what ≡ group true) × Has-both (entries-of (now t)) (now b) (now places) (now kept) (now list) (now stage) × Roomy at end (now out) ⌝ }
-    ensures { λ n. ⌜ Puts (entries-of (now (t .entry))) (now (b .entry)) (now (places .entry)) (now (kept .entry)) (now (list .entry)) (now (stage .entry)) (λ w r. entry-laid w (group-count-at (parts (entries-of (now (t .entry)))) r) true (getD (entries-of (now (t .entry))) g blank .name) (group true) (drop (g + 1) (entries-of (now (t .entry))))) at end (now (out .entry)) (now (out .exit)) n ⌝ }
+    requires { ⌜ Valid (now t) × (g < length (entries-of (now t))) × (what-at (entries-of (now t)) g ≡ group true) × Has-both (entries-of (now t)) (now b) (now places) (now kept) (now list) (now stage) × Roomy at end (now out) ⌝ }
+    ensures { λ n. ⌜ Puts (entries-of (now (t .entry))) (now (b .entry)) (now (places .entry)) (now (kept .entry)) (now (list .entry)) (now (stage .entry)) (group-added (entries-of (now (t .entry))) g) at end (now (out .entry)) (now (out .exit)) n ⌝ }
 {
     let old = records::places::group_count(t, b, places, g);
     let last = tables::group_end(t, g);
@@ -95,8 +93,8 @@ fn put_group(
     at: usize,
     end: usize,
 ) -> Next
-    requires { ⌜ Valid (now t) × (g < length (entries-of (now t))) × (getD (entries-of (now t)) g blank .what ≡ group true) × Has-both (entries-of (now t)) (now b) (now places) (now kept) (now list) (now stage) × Roomy at end (now out) ⌝ }
-    ensures { λ n. ⌜ Puts (entries-of (now (t .entry))) (now (b .entry)) (now (places .entry)) (now (kept .entry)) (now (list .entry)) (now (stage .entry)) (λ w r. entry-laid w (group-count-at (parts (entries-of (now (t .entry)))) r) true (getD (entries-of (now (t .entry))) g blank .name) (group true) (drop (g + 1) (entries-of (now (t .entry))))) at end (now (out .entry)) (now (out .exit)) n ⌝ }
+    requires { ⌜ Valid (now t) × (g < length (entries-of (now t))) × (what-at (entries-of (now t)) g ≡ group true) × Has-both (entries-of (now t)) (now b) (now places) (now kept) (now list) (now stage) × Roomy at end (now out) ⌝ }
+    ensures { λ n. ⌜ Puts (entries-of (now (t .entry))) (now (b .entry)) (now (places .entry)) (now (kept .entry)) (now (list .entry)) (now (stage .entry)) (group-added (entries-of (now (t .entry))) g) at end (now (out .entry)) (now (out .exit)) n ⌝ }
 {
     let last = tables::group_end(t, g);
     if assignments::highest_occurrence(kept, list, g + 1, last) == 0 {
@@ -118,7 +116,7 @@ fn put_field(
     at: usize,
     end: usize,
 ) -> Next
-    requires { ⌜ Valid (now t) × (i < length (entries-of (now t))) × (is-group (getD (entries-of (now t)) i blank .what) ≡ false) × (inside-at (entries-of (now t)) i ≡ false) × Has-both (entries-of (now t)) (now b) (now places) (now kept) (now list) (now stage) × Roomy at end (now out) ⌝ }
+    requires { ⌜ Valid (now t) × (i < length (entries-of (now t))) × (is-group (what-at (entries-of (now t)) i) ≡ false) × (inside-at (entries-of (now t)) i ≡ false) × Has-both (entries-of (now t)) (now b) (now places) (now kept) (now list) (now stage) × Roomy at end (now out) ⌝ }
     ensures { λ n. ⌜ Puts (entries-of (now (t .entry))) (now (b .entry)) (now (places .entry)) (now (kept .entry)) (now (list .entry)) (now (stage .entry)) (λ w r. cell-laid w 1 (field-at (entries-of (now (t .entry))) i)) at end (now (out .entry)) (now (out .exit)) n ⌝ }
 {
     if assignments::highest_occurrence(kept, list, i, i + 1) == 0 {
@@ -157,7 +155,7 @@ fn put_entry(
     end: usize,
 ) -> Next
     requires { ⌜ Valid (now t) × (i < length (entries-of (now t))) × (inside ≡ inside-at (entries-of (now t)) i) × Has-both (entries-of (now t)) (now b) (now places) (now kept) (now list) (now stage) × Roomy at end (now out) ⌝ }
-    ensures { λ n. ⌜ Puts (entries-of (now (t .entry))) (now (b .entry)) (now (places .entry)) (now (kept .entry)) (now (list .entry)) (now (stage .entry)) (λ w r. entry-laid w (group-count-at (parts (entries-of (now (t .entry)))) r) inside (getD (entries-of (now (t .entry))) i blank .name) (getD (entries-of (now (t .entry))) i blank .what) (drop (i + 1) (entries-of (now (t .entry))))) at end (now (out .entry)) (now (out .exit)) n ⌝ }
+    ensures { λ n. ⌜ Puts (entries-of (now (t .entry))) (now (b .entry)) (now (places .entry)) (now (kept .entry)) (now (list .entry)) (now (stage .entry)) (entry-added (entries-of (now (t .entry))) inside i) at end (now (out .entry)) (now (out .exit)) n ⌝ }
 {
     if tables::periodic_at(t, i) {
         return put_group(t, b, places, kept, list, stage, i, out, at, end);
@@ -182,7 +180,7 @@ pub fn put_record(
     out: &mut [u8],
 ) -> Next
     requires { ⌜ Valid (now t) × Has-both (entries-of (now t)) (now b) (now places) (now kept) (now list) (now stage) × (length (now out) ≡ longest-new-record) ⌝ }
-    ensures { λ n. ⌜ Puts (entries-of (now (t .entry))) (now (b .entry)) (now (places .entry)) (now (kept .entry)) (now (list .entry)) (now (stage .entry)) (λ w r. record-head ++ laid-from w (group-count-at (parts (entries-of (now (t .entry)))) r) false (entries-of (now (t .entry)))) 0 longest-new-record (now (out .entry)) (now (out .exit)) n ⌝ }
+    ensures { λ n. ⌜ Puts (entries-of (now (t .entry))) (now (b .entry)) (now (places .entry)) (now (kept .entry)) (now (list .entry)) (now (stage .entry)) (record-added (entries-of (now (t .entry)))) 0 longest-new-record (now (out .entry)) (now (out .exit)) n ⌝ }
 {
     let n = tables::count(t);
     let end = out.len();

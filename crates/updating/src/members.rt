@@ -2,17 +2,15 @@
 ghost use mathlib.Core.Path.{_≡_};
 ghost use mathlib.Core.Bool.{true};
 ghost use Prim.Native.Nat.{_+_, _-_, _≤_, _<_};
-ghost use lib.ListN.{length, drop, getD};
+ghost use lib.ListN.{length, drop};
 ghost use Rattle.rules.specs.Limits.{highest-index};
 ghost use Rattle.rules.specs.Table.{group};
-ghost use Rattle.rules.specs.Record.{Record};
-ghost use Rattle.tables.specs.Entries.{Valid, entries-of, blank};
+ghost use Rattle.tables.specs.Entries.{Valid, entries-of, what-at};
 ghost use Rattle.tables.specs.Groups.{group-end};
-ghost use Rattle.records.specs.Places.{Is-record};
 ghost use Rattle.filling.specs.Filling.{Roomy};
 ghost use Rattle.updating.specs.Laid.{occurrence-laid, occurrences-laid};
 ghost use Rattle.updating.specs.New.{Has-both, Puts};
-ghost use Rattle.updating.specs.Member.{Has-member, Puts-member, Cells-from, members-laid};
+ghost use Rattle.updating.specs.Member.{Has-member, Puts-member, members-laid, Cells-follow, Can-put-occurrence};
 use crate::cells;
 use filling::Next;
 use records::DIRECTORY;
@@ -58,7 +56,7 @@ pub fn put_members(
     at: usize,
     end: usize,
 ) -> Next
-    requires { ⌜ Valid (now t) × (last ≤ length (entries-of (now t))) × (1 ≤ o) × (o ≤ highest-index) × Has-both (entries-of (now t)) (now b) (now places) (now kept) (now list) (now stage) × ((r : Record) → Is-record (entries-of (now t)) (now b) (now places) r → first < last → Cells-from (entries-of (now t)) (now b) (now places) first last o r had) × Roomy at end (now out) ⌝ }
+    requires { ⌜ Valid (now t) × (last ≤ length (entries-of (now t))) × (1 ≤ o) × (o ≤ highest-index) × Has-both (entries-of (now t)) (now b) (now places) (now kept) (now list) (now stage) × Cells-follow (entries-of (now t)) (now b) (now places) first last o had × Roomy at end (now out) ⌝ }
     ensures { λ n. ⌜ Puts (entries-of (now (t .entry))) (now (b .entry)) (now (places .entry)) (now (kept .entry)) (now (list .entry)) (now (stage .entry)) (λ w r. members-laid w o (entries-of (now (t .entry))) first (last - first)) at end (now (out .entry)) (now (out .exit)) n ⌝ }
 {
     let mut cell = had;
@@ -96,7 +94,7 @@ fn put_occurrence(
     at: usize,
     end: usize,
 ) -> Next
-    requires { ⌜ Valid (now t) × (g < length (entries-of (now t))) × (getD (entries-of (now t)) g blank .what ≡ group true) × (last ≡ group-end (entries-of (now t)) g) × (1 ≤ o) × (o ≤ highest-index) × Has-both (entries-of (now t)) (now b) (now places) (now kept) (now list) (now stage) × Roomy at end (now out) ⌝ }
+    requires { ⌜ Valid (now t) × (g < length (entries-of (now t))) × (what-at (entries-of (now t)) g ≡ group true) × Can-put-occurrence (entries-of (now t)) (now b) (now places) (now kept) (now list) (now stage) g last o at end (now out) ⌝ }
     ensures { λ n. ⌜ Puts (entries-of (now (t .entry))) (now (b .entry)) (now (places .entry)) (now (kept .entry)) (now (list .entry)) (now (stage .entry)) (λ w r. occurrence-laid w o (drop (g + 1) (entries-of (now (t .entry))))) at end (now (out .entry)) (now (out .exit)) n ⌝ }
 {
     let had = records::places::first_cell(t, b, places, g, o);
@@ -132,7 +130,7 @@ pub fn put_occurrences(
     at: usize,
     end: usize,
 ) -> Next
-    requires { ⌜ Valid (now t) × (g < length (entries-of (now t))) × (getD (entries-of (now t)) g blank .what ≡ group true) × (last ≡ group-end (entries-of (now t)) g) × (n ≤ highest-index) × Has-both (entries-of (now t)) (now b) (now places) (now kept) (now list) (now stage) × Roomy at end (now out) ⌝ }
+    requires { ⌜ Valid (now t) × (g < length (entries-of (now t))) × (what-at (entries-of (now t)) g ≡ group true) × (last ≡ group-end (entries-of (now t)) g) × (n ≤ highest-index) × Has-both (entries-of (now t)) (now b) (now places) (now kept) (now list) (now stage) × Roomy at end (now out) ⌝ }
     ensures { λ r. ⌜ Puts (entries-of (now (t .entry))) (now (b .entry)) (now (places .entry)) (now (kept .entry)) (now (list .entry)) (now (stage .entry)) (λ w r. occurrences-laid w (drop (g + 1) (entries-of (now (t .entry)))) 1 n) at end (now (out .entry)) (now (out .exit)) r ⌝ }
 {
     let mut p = at;

@@ -14,7 +14,7 @@ use Rattle.rules.specs.Format.{elements}
 use Rattle.rules.specs.Use.{Indexes, last-index, indexes-after}
 use Rattle.rules.specs.Last as rules
 use Rattle.rules.specs.Last.{Lasts, after-N, lasts-by, meaning-of}
-use Rattle.tables.specs.Entries.{blank, is-multiple}
+use Rattle.tables.specs.Entries.{blank, is-multiple, what-at}
 use Rattle.tables.specs.Places.{inside-at}
 use Rattle.format_buffer.specs.Elements.{element-of, sound, with-occurrences, written-scope, last-scope}
 use Rattle.format_buffer.specs.declared.Indexing.{Indexing}
@@ -46,7 +46,7 @@ unscoped m = record { meant = m; scopes = both-written }
 -- What is known of scopes, beside what they mean: of occurrences there is a last one in periodic groups only, and of values in MU fields only.
 pub record Span-scoped (es : List Entry) (s : Span) (x : Scopes) : Type 0 where
   pub occurrences : (x .occurrences ≡ written-scope → ⊥) → inside-at es (s .first) ≡ true
-  pub values : (x .values ≡ written-scope → ⊥) → (s .standard ≡ false) × (is-multiple (getD es (s .first) blank .what) ≡ true)
+  pub values : (x .values ≡ written-scope → ⊥) → (s .standard ≡ false) × (is-multiple (what-at es (s .first)) ≡ true)
 
 abbrev pub Good-scopes : List Entry → Use → Scopes → Type 0
 Good-scopes es (code.Blanks n) x = Unit {0}

@@ -14,7 +14,7 @@ use Rattle.rules.specs.Format.{elements}
 use Rattle.rules.specs.Use as rules
 use Rattle.rules.specs.Use.{Asked, plain, as-stored, in-order}
 use Rattle.value_formats.specs.Formats.{format-at}
-use Rattle.tables.specs.Entries.{blank, is-group, is-multiple, is-periodic}
+use Rattle.tables.specs.Entries.{blank, is-group, is-multiple, is-periodic, what-at}
 use Rattle.tables.specs.Places.{inside-at, found-at, Home}
 use Rattle.tables.specs.Groups.{group-end, field-at, fields-in}
 use Rattle.format_buffer.specs.Part.{part}
@@ -58,7 +58,7 @@ outcome-of es f (meant.Refused x) = refused (refusal x)
 -- A span of one field, at a length and a format that are right for it.
 pub record One-field (es : List Entry) (s : Span) : Type 0 where
   pub next : s .end ≡ s .first + 1
-  pub field : is-group (getD es (s .first) blank .what) ≡ false
+  pub field : is-group (what-at es (s .first)) ≡ false
   pub format : s .format < formats
   pub allowed : allowed (format-at (s .format)) (s .size) ≡ true
   pub converts : converts (field-at es (s .first) .format) (format-at (s .format)) ≡ true
@@ -76,7 +76,7 @@ pub record Good-span (es : List Entry) (s : Span) : Type 0 where
   -- What lies outside periodic groups has occurrence 1 alone.
   pub only : (j : ℕ) → s .first ≤ j → j < s .end → inside-at es j ≡ false → s .upto ≡ 1
   -- A span does not begin with a periodic group itself.
-  pub begins : is-periodic (getD es (s .first) blank .what) ≡ false
+  pub begins : is-periodic (what-at es (s .first)) ≡ false
   -- Fields at their standard have value 1 alone.
   pub once : s .standard ≡ true → (s .«value_from» ≡ 1) × (s .«value_upto» ≡ 1)
   -- They name no format and no length in effect.
@@ -86,14 +86,14 @@ pub record Good-span (es : List Entry) (s : Span) : Type 0 where
   -- Where it lies outside, all do.
   pub outside : s .standard ≡ true → inside-at es (s .first) ≡ false → (j : ℕ) → s .first ≤ j → j < s .end → inside-at es j ≡ false
   -- Where it lies in one, they are the members of the group that the entry before the first is.
-  pub grouped : s .standard ≡ true → inside-at es (s .first) ≡ true → (i : ℕ) × (s .first ≡ suc i) × (is-group (getD es i blank .what) ≡ true) × (s .end ≡ group-end es i)
+  pub grouped : s .standard ≡ true → inside-at es (s .first) ≡ true → (i : ℕ) × (s .first ≡ suc i) × (is-group (what-at es i) ≡ true) × (s .end ≡ group-end es i)
 
 abbrev pub Good-use : List Entry → Bytes → Use → Type 0
 Good-use es f (code.Blanks n) = n ≤ longest-blanks
 Good-use es f (code.Text from upto) = (from < upto) × (upto ≤ length f) × (upto ≤ from + longest-text)
-Good-use es f (code.GroupCount i) = (i < length es) × (getD es i blank .what ≡ group true)
+Good-use es f (code.GroupCount i) = (i < length es) × (what-at es i ≡ group true)
 Good-use es f (code.ValueCount i k) =
-    (i < length es) × (is-multiple (getD es i blank .what) ≡ true) × (1 ≤ k) × (k ≤ highest-index) × (inside-at es i ≡ false → k ≡ 1)
+    (i < length es) × (is-multiple (what-at es i) ≡ true) × (1 ≤ k) × (k ≤ highest-index) × (inside-at es i ≡ false → k ≡ 1)
 Good-use es f (code.Values s) = Good-span es s
 
 abbrev pub Good-meaning : List Entry → Bytes → Meant → Type 0
@@ -109,8 +109,8 @@ pub record Settles (es : List Entry) (o : Outcome rules.Use) (r : Meant) : Type 
 pub record Entry-span (es : List Entry) (i : ℕ) (u : Use) : Type 0 where
   pub span : Span
   pub is : u ≡ code.Values span
-  pub standard : span .standard ≡ is-group (getD es i blank .what)
-  pub first : span .first ≡ cond (is-group (getD es i blank .what)) (i + 1) i
+  pub standard : span .standard ≡ is-group (what-at es i)
+  pub first : span .first ≡ cond (is-group (what-at es i)) (i + 1) i
 
 abbrev pub Entry-span-of : List Entry → ℕ → Meant → Type 0
 Entry-span-of es i (meant.As u) = Entry-span es i u
@@ -129,14 +129,14 @@ abbrev pub group-use : List Entry → ℕ → Named → Outcome rules.Use
 group-use es i n = rules.use-of-group (found-at es i) (occurrences n) (bracket n) (length-given n) (letter-given n)
 
 abbrev pub count-use : List Entry → ℕ → Count → Outcome rules.Use
-count-use es i c = rules.use-of-count (getD es i blank .name) (getD es i blank .what) (inside-at es i) (optional (c .indexed) (c .index))
+count-use es i c = rules.use-of-count (getD es i blank .name) (what-at es i) (inside-at es i) (optional (c .indexed) (c .index))
 
 abbrev pub series-use : List Entry → ℕ → ℕ → Outcome rules.Use
 series-use es i j = rules.use-of-series (found-at es i) (getD es j blank .name)
 
 -- The rules for an entry, a group or a field; and for a count and a series by their names.
 abbrev pub entry-use : List Entry → ℕ → ℕ → Named → Outcome rules.Use
-entry-use es i last n = cond (is-group (getD es i blank .what)) (group-use es i n) (field-use es i last n)
+entry-use es i last n = cond (is-group (what-at es i)) (group-use es i n) (field-use es i last n)
 
 abbrev pub count-named : List Entry → Count → Outcome rules.Use
 count-named es c = rules.find (c .name) es >>= λ x. rules.use-of-count (c .name) (x .entry .what) (x .inside) (optional (c .indexed) (c .index))

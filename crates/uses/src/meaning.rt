@@ -26,9 +26,9 @@ use tables::Found;
 ghost use mathlib.Core.Path.{_≡_};
 ghost use mathlib.Core.Bool.{true, false};
 ghost use Prim.Native.Nat.{_<_};
-ghost use lib.ListN.{length, getD};
+ghost use lib.ListN.{length};
 ghost use Rattle.rules.specs.Limits.{most-entries};
-ghost use Rattle.tables.specs.Entries.{Valid, entries-of, blank, is-group, is-multiple};
+ghost use Rattle.tables.specs.Entries.{Valid, entries-of, is-group, is-multiple, what-at};
 ghost use Rattle.tables.specs.Places.{inside-at};
 ghost use Rattle.uses.specs.Spread.{index-bound};
 ghost use Rattle.uses.specs.Meant.{Settles, Settles-entry, field-use, group-use, entry-use, count-use, series-use, count-named, series-named, stored-span, field-span};
@@ -73,7 +73,7 @@ fn one_field(i: usize, r: Ranges, format: usize, size: usize) -> Span
 
 // The field of entry i, after its last index so far.
 fn use_of_field(t: &[u8], i: usize, last: usize, n: Named) -> Meant
-    requires { ⌜ Valid (now t) × (i < length (entries-of (now t))) × (is-group (getD (entries-of (now t)) i blank .what) ≡ false) × (last < index-bound) ⌝ }
+    requires { ⌜ Valid (now t) × (i < length (entries-of (now t))) × (is-group (what-at (entries-of (now t)) i) ≡ false) × (last < index-bound) ⌝ }
     ensures { λ r. ⌜ Settles-entry (entries-of (now (t .entry))) i (field-use (entries-of (now (t .entry))) i last n) r ⌝ }
 {
     let s = spread::spread(tables::inside(t, i), tables::multiple_at(t, i), last, n);
@@ -89,7 +89,7 @@ fn use_of_field(t: &[u8], i: usize, last: usize, n: Named) -> Meant
 
 // The fields of group i: it takes no length and no format.
 fn use_of_group(t: &[u8], i: usize, n: Named) -> Meant
-    requires { ⌜ Valid (now t) × (i < length (entries-of (now t))) × (is-group (getD (entries-of (now t)) i blank .what) ≡ true) ⌝ }
+    requires { ⌜ Valid (now t) × (i < length (entries-of (now t))) × (is-group (what-at (entries-of (now t)) i) ≡ true) ⌝ }
     ensures { λ r. ⌜ Settles-entry (entries-of (now (t .entry))) i (group-use (entries-of (now (t .entry))) i n) r ⌝ }
 {
     if n.sized {
@@ -114,7 +114,7 @@ fn use_of_group(t: &[u8], i: usize, n: Named) -> Meant
 
 // The count of the MU field of entry i.
 fn use_of_value_count(t: &[u8], i: usize, c: Count) -> Meant
-    requires { ⌜ Valid (now t) × (i < length (entries-of (now t))) × (is-multiple (getD (entries-of (now t)) i blank .what) ≡ true) ⌝ }
+    requires { ⌜ Valid (now t) × (i < length (entries-of (now t))) × (is-multiple (what-at (entries-of (now t)) i) ≡ true) ⌝ }
     ensures { λ r. ⌜ Settles (entries-of (now (t .entry))) (count-use (entries-of (now (t .entry))) i c) r ⌝ }
 {
     if tables::inside(t, i) {

@@ -46,7 +46,7 @@ abbrev Good : tie.At-loop Inv-loop μ-loop → Bytes → Type 0
 Good c f = let a = start c .args in Good-uses (entries-of (a .t .now)) f (a .kept .now) (a .count)
 
 room : (c : tie.After-begin Inv-loop μ-loop) (f : Bytes) → Good (here c) f → note-place (here c .loop .n + 1) ≤ length (here c .loop .list)
-room c f h = let l = here c in omega (arith, c .before .before .loop-test .taken, start l .pre .4, l .loop .inv .1 f h .same-list)
+room c f h = let l = here c in omega (arith, c .before .before .loop-test .taken, start l .pre .3 .1, l .loop .inv .1 f h .same-list)
 
 gone : (c : tie.After-begin Inv-loop μ-loop) (f : Bytes) (h : Good (here c) f) → let l = here c in let a = start l .args in
     Gone (entries-of (a .t .now)) f (a .buffer .now) (a .kept .now) (l .loop .n) (a .list .now) (c .begin .last .0) (a .stage .now) (l .loop .stage) (l .loop .state)
@@ -76,14 +76,14 @@ taken c f h =
 loop-holds : tie.Need-loop-holds Inv-loop μ-loop
 loop-holds c =
     let s = c .before .before .before .before .before in
-    (search needs, λ f h. gone-start (valid-most (s .args .t .now) (s .pre .0)) (valid-names (s .args .t .now) (s .pre .0)) (s .pre .6))
+    (search needs, λ f h. gone-start (valid-most (s .args .t .now) (s .pre .0)) (valid-names (s .args .t .now) (s .pre .0)) (s .pre .3 .3))
 
 begin-requires : tie.Need-begin-requires Inv-loop μ-loop
 begin-requires c κs =
     let l = c .before .before in
     let s = start l in
     let g = l .loop .inv .1 (s .pre .2 .0) (s .pre .2 .1) in
-    (omega (arith, c .before .loop-test .taken, s .pre .4, g .same-list), omega (arith, g .held .within, g .same-stage, s .pre .5))
+    (omega (arith, c .before .loop-test .taken, s .pre .3 .1, g .same-list), omega (arith, g .held .within, g .same-stage, s .pre .3 .2))
 
 get-requires : tie.Need-get-requires Inv-loop μ-loop
 get-requires c κs = let l = here (c .before .before) in omega (arith, c .before .before .before .before .loop-test .taken, start l .pre .1)
@@ -96,7 +96,7 @@ take-use-requires c κs =
     let f = s .pre .2 .0 in
     let h = s .pre .2 .1 in
     let x = gone b f h in
-    (s .pre .0, (f, good g f h), ((omega (arith, s .pre .4, x .same-list), x .same-stage ∙ s .pre .5), (x .own, x .held)))
+    (s .pre .0, (f, good g f h), ((omega (arith, s .pre .3 .1, x .same-list), x .same-stage ∙ s .pre .3 .2), (x .own, x .held)))
 
 enum-known-x : tie.Need-enum-known-x Inv-loop μ-loop
 enum-known-x c = search needs
@@ -135,7 +135,7 @@ loop-again c =
     let w = turn (c .before .before .before) in
     let b = begun (got w) in
     let s = start (here b) in
-    (search needs, λ f h. gone-on (gone b f h) (noted b f h) (gone b f h .same-stage ∙ s .pre .5) (taken w f h) (c .before .next .given .1))
+    (search needs, λ f h. gone-on (gone b f h) (noted b f h) (gone b f h .same-stage ∙ s .pre .3 .2) (taken w f h) (c .before .next .given .1))
 
 same-length-3 : tie.Need-same-length-3 Inv-loop μ-loop
 same-length-3 c = let p = start (c .before) .pre .2 in c .before .loop .inv .1 (p .0) (p .1) .same-list
@@ -149,7 +149,7 @@ returns-2 c f h =
     let s = start l in
     let e : l .loop .n ≡ s .args .count = omega (arith, l .loop .inv .0, c .loop-test .left) in
     let g = rw e at (l .loop .inv .1 f h) in
-    gone-end g h (s .args .t .now) (s .pre .0) refl (λ i. l .before .before .before .before .shared-slice-known2 .given i .fits) (s .pre .1) (omega (arith, s .pre .4, g .same-list)) (s .pre .3) (g .same-stage ∙ s .pre .5)
+    gone-end g h (s .args .t .now) (s .pre .0) refl (λ i. l .before .before .before .before .shared-slice-known2 .given i .fits) (s .pre .1) (omega (arith, s .pre .3 .1, g .same-list)) (s .pre .3 .0) (g .same-stage ∙ s .pre .3 .2)
 
 pub take-spec : {M : Type 1} → statement M
 take-spec =

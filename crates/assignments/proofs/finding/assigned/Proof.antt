@@ -33,8 +33,8 @@ returns c f count ws ix =
 use-of-requires : tie.Need-use-of-requires
 use-of-requires c κs =
     let s = c .before .before .before .before .before in
-    let p = s .pre .6 in
-    ((entries-of (s .args .t .now), p .0, p .1, s .args .stage .now, p .2, p .3, s .pre .1, s .pre .2), s .pre .4, s .pre .5)
+    let p = s .pre .4 .2 in
+    ((entries-of (s .args .t .now), p .0, p .1, s .args .stage .now, p .2, p .3, s .pre .1, s .pre .2), s .pre .4 .0, s .pre .4 .1)
 
 returns-2 : tie.Need-returns-2
 returns-2 c f count ws ix =
@@ -53,9 +53,9 @@ cell-start-requires c κs =
     let e = c .before in
     let u = e .before in
     let s = start u in
-    let p = s .pre .6 in
+    let p = s .pre .4 .2 in
     let es = entries-of (s .args .t .now) in
-    (es, p .0, p .1, p .2, found-named (p .3) (s .args .i) (s .args .o) (s .pre .1) (s .pre .2) (u .use-of .result) (c .size-at .result) (u .use-of .ensures es (p .0) (p .1) (s .args .stage .now) (p .2) (p .3)) (e .if2 .left) (s .pre .4) (u .before .if1 .left) (c .size-at .ensures .0))
+    (es, p .0, p .1, p .2, found-named (p .3) (s .args .i) (s .args .o) (s .pre .1) (s .pre .2) (u .use-of .result) (c .size-at .result) (u .use-of .ensures es (p .0) (p .1) (s .args .stage .now) (p .2) (p .3)) (e .if2 .left) (s .pre .4 .0) (u .before .if1 .left) (c .size-at .ensures .0))
 
 add-result-2 : tie.Need-add-result-2
 add-result-2 c =
@@ -63,9 +63,9 @@ add-result-2 c =
     let e = d .before in
     let u = e .before in
     let s = start u in
-    let p = s .pre .6 in
+    let p = s .pre .4 .2 in
     let es = entries-of (s .args .t .now) in
-    let b = found-named (p .3) (s .args .i) (s .args .o) (s .pre .1) (s .pre .2) (u .use-of .result) (d .size-at .result) (u .use-of .ensures es (p .0) (p .1) (s .args .stage .now) (p .2) (p .3)) (e .if2 .left) (s .pre .4) (u .before .if1 .left) (d .size-at .ensures .0) in
+    let b = found-named (p .3) (s .args .i) (s .args .o) (s .pre .1) (s .pre .2) (u .use-of .result) (d .size-at .result) (u .use-of .ensures es (p .0) (p .1) (s .args .stage .now) (p .2) (p .3)) (e .if2 .left) (s .pre .4 .0) (u .before .if1 .left) (d .size-at .ensures .0) in
     omega (arith, block-within b (c .cell-start .ensures es (p .0) (p .1) (p .2) b), p .3 .listed .stands .most)
 
 returns-3 : tie.Need-returns-3
@@ -75,7 +75,7 @@ returns-3 c f count ws ix =
     let u = e .before in
     let s = start u in
     let es = entries-of (s .args .t .now) in
-    let b = found-named ix (s .args .i) (s .args .o) (s .pre .1) (s .pre .2) (u .use-of .result) (d .size-at .result) (u .use-of .ensures es f count (s .args .stage .now) ws ix) (e .if2 .left) (s .pre .4) (u .before .if1 .left) (d .size-at .ensures .0) in
+    let b = found-named ix (s .args .i) (s .args .o) (s .pre .1) (s .pre .2) (u .use-of .result) (d .size-at .result) (u .use-of .ensures es f count (s .args .stage .now) ws ix) (e .if2 .left) (s .pre .4 .0) (u .before .if1 .left) (d .size-at .ensures .0) in
     block-takes b (c .cell-start .ensures es f count ws b) (one-value b (s .pre .3))
 
 pub assigned-spec : {M : Type 1} → statement M

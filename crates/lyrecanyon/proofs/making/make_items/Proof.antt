@@ -55,7 +55,7 @@ take-requires : tie.Need-take-requires
 take-requires c κs =
     let s = c .before .before .before .before .before .before .before .before in
     let (f, a) = s .pre .2 in
-    (s .pre .0, a .room, (f, a .good), s .pre .3 .few, s .pre .3 .room, refl, s .pre .3 .zeros)
+    (s .pre .0, a .room, (f, a .good), (s .pre .3 .few, s .pre .3 .room, refl, s .pre .3 .zeros))
 
 enum-known-x : tie.Need-enum-known-x
 enum-known-x c = search needs

@@ -26,14 +26,16 @@ piece-inside-requires c κs =
     let home = subst (λ (j : ℕ). Home es j g) (way .entry) (way .leads .home inside) in (
       s .pre .0,
       subst (λ (j : ℕ). g < j) (sym (way .entry)) (home-before es (a .s .first) g (held .begins) home),
-      omega (arith, way .entry, held .ordered),
-      held .upto,
-      held .one-group (s .pre .2) g home .0,
-      s .pre .4,
-      way .leads,
-      inside,
-      subst (λ (j : ℕ). Wide (fields-in (slice j (a .s .end) es)) (a .width)) (sym (way .entry)) (way .wide inside),
-      s .pre .6,
+      (
+        omega (arith, way .entry, held .ordered),
+        held .upto,
+        held .one-group (s .pre .2) g home .0,
+        s .pre .4,
+        way .leads,
+        inside,
+        subst (λ (j : ℕ). Wide (fields-in (slice j (a .s .end) es)) (a .width)) (sym (way .entry)) (way .wide inside),
+        s .pre .6,
+      ),
     )
 
 returns : tie.Need-returns

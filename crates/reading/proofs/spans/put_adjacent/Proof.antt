@@ -29,11 +29,7 @@ occurrences-at-requires c κs =
       s .pre .0,
       g .0,
       g .1,
-      bounds (a .s .from) (a .s .upto) (s .pre .1 .occurrences) .0,
-      some,
-      whole .exist,
-      whole-width whole (way .wide (whole .inside)),
-      s .pre .5,
+      (bounds (a .s .from) (a .s .upto) (s .pre .1 .occurrences) .0, some, whole .exist, whole-width whole (way .wide (whole .inside)), s .pre .5),
     )
 
 mul-upto : tie.Need-mul-upto

@@ -19,7 +19,7 @@ entry-in-requires : tie.Need-entry-in-requires
 entry-in-requires c κs =
     let s = c .before .before in
     let a = s .args in
-    (s .pre .0, s .pre .1, omega (arith, s .pre .2, s .pre .3), s .pre .5, s .pre .6, s .pre .7, s .pre .9)
+    (s .pre .0, s .pre .1, omega (arith, s .pre .2 .0, s .pre .2 .1), s .pre .2 .3, s .pre .2 .4, s .pre .2 .5, s .pre .2 .7)
 
 enum-told : tie.Need-enum-told
 enum-told c = search needs
@@ -36,25 +36,25 @@ found c r held =
     let a = s .args in
     let es = entries-of (a .t .now) in
     let g = a .path .group in
-    let home = s .pre .6 .home (s .pre .7) in
-    let wide = s .pre .8 in
+    let home = s .pre .2 .4 .home (s .pre .2 .5) in
+    let wide = s .pre .2 .6 in
     let q = c .before .first .given .0 .0 in
     let e = subst (Entered es (a .b .now) (a .places .now) g (a .path .entry) (a .o) r) (c .before .first .given .1) (c .before .before .before .entry-in .ensures r held) in
     subst (λ w. Piece-of es (a .b .now) (a .path .entry) (a .end) (a .o) r (At q (q + w))) (sym (wide .width))
-    (piece-in (a .t .now) (s .pre .0) held g (a .o) (s .pre .5) (home .level) (home .periodic) (omega (arith, s .pre .1, s .pre .2, s .pre .3)) (e .1 .many) (e .0) (e .1 .row)
-    (a .path .entry) (a .end) q (omega (arith, s .pre .2)) (s .pre .1) (s .pre .4) (wide .plains) (e .1 .before))
+    (piece-in (a .t .now) (s .pre .0) held g (a .o) (s .pre .2 .3) (home .level) (home .periodic) (omega (arith, s .pre .1, s .pre .2 .0, s .pre .2 .1)) (e .1 .many) (e .0) (e .1 .row)
+    (a .path .entry) (a .end) q (omega (arith, s .pre .2 .0)) (s .pre .1) (s .pre .2 .2) (wide .plains) (e .1 .before))
 
 add-t11 : tie.Need-add-t11
-add-t11 c = let h = start c .pre .9 in omega (arith, found c (h .0) (h .1) .1)
+add-t11 c = let h = start c .pre .2 .7 in omega (arith, found c (h .0) (h .1) .1)
 
 returns : tie.Need-returns
 returns c r held =
     let s = c .before .before .before .before .before in
     let a = s .args in
     let es = entries-of (a .t .now) in
-    let home = s .pre .6 .home (s .pre .7) in
+    let home = s .pre .2 .4 .home (s .pre .2 .5) in
     let e = subst (Entered es (a .b .now) (a .places .now) (a .path .group) (a .path .entry) (a .o) r) (c .enum-told .given .1) (c .before .before .entry-in .ensures r held) in
-    (home .inside, none-in (a .t .now) (s .pre .0) held (a .path .group) (a .o) (s .pre .5) (home .level) (home .periodic) (omega (arith, s .pre .1, s .pre .2, s .pre .3)) e (a .path .entry) (a .end) (s .pre .1) (s .pre .4))
+    (home .inside, none-in (a .t .now) (s .pre .0) held (a .path .group) (a .o) (s .pre .2 .3) (home .level) (home .periodic) (omega (arith, s .pre .1, s .pre .2 .0, s .pre .2 .1)) e (a .path .entry) (a .end) (s .pre .1) (s .pre .2 .2))
 
 returns-2 : tie.Need-returns-2
 returns-2 c r held = found c r held

@@ -161,7 +161,7 @@ old-values-requires : tie.Need-old-values-requires
 old-values-requires c κs =
     let s = origin c in
     let es = entries-of (s .args .t .now) in
-    let x = s .pre .5 .0 in (
+    let x = s .pre .3 .2 .0 in (
       format-at (c .before .format-at .result),
       c .size-at .result,
       _,
@@ -171,8 +171,8 @@ old-values-requires c κs =
 named-requires : tie.Need-named-requires
 named-requires c κs =
     let s = begin c in
-    let (ws, a) = s .pre .5 .1 in
-    (omega (arith, s .pre .1, a .indexed .listed .entries), s .pre .3, s .pre .4, refl, no-notes (highest-index + 1), (entries-of (s .args .t .now), a .format, a .count, ws, able c ws a))
+    let (ws, a) = s .pre .3 .2 .1 in
+    (omega (arith, s .pre .1, a .indexed .listed .entries), s .pre .3 .0, s .pre .3 .1, refl, no-notes (highest-index + 1), (entries-of (s .args .t .now), a .format, a .count, ws, able c ws a))
 
 larger-requires : tie.Need-larger-requires
 larger-requires c κs = search needs
@@ -181,8 +181,8 @@ put-count-requires : tie.Need-put-count-requires
 put-count-requires c κs =
     let d = c .before in
     let s = start (d .before) in
-    let h = s .pre .5 in
-    (omega (arith, count d (h .0 .0) (h .1 .0) (h .0 .1) (h .1 .1) .1, counts-and-indexes .1), s .pre .6)
+    let h = s .pre .3 .2 in
+    (omega (arith, count d (h .0 .0) (h .1 .0) (h .0 .1) (h .1 .1) .1, counts-and-indexes .1), s .pre .3 .3)
 
 enum-known-x : tie.Need-enum-known-x
 enum-known-x c = search needs
@@ -196,7 +196,7 @@ put-values-requires c κs =
     let j = joined p in
     let d = j .before in
     let s = start d in
-    let h = s .pre .5 in
+    let h = s .pre .3 .2 in
     let e = read d in
     let k = entry-known (s .args .t .now) (s .pre .0) (s .args .i) (s .pre .1) (what d) (entry e) (entry-is e) in (
       k .0,
@@ -204,7 +204,7 @@ put-values-requires c κs =
       count j (h .0 .0) (h .1 .0) (h .0 .1) (h .1 .1) .1,
       (_, notes d (h .1 .0) (h .1 .1)),
       (_, olds d (h .0 .0) (h .0 .1)),
-      (both-within (s .args .end) (count-bytes (j .if1 .n)) [] (p .put-count .ensures) (s .pre .6 .0) (s .pre .6 .1) _ (c .before .before .before .p .given .1), omega (arith, p .put-count .ensures .same, s .pre .6 .1)),
+      (both-within (s .args .end) (count-bytes (j .if1 .n)) [] (p .put-count .ensures) (s .pre .3 .3 .0) (s .pre .3 .3 .1) _ (c .before .before .before .p .given .1), omega (arith, p .put-count .ensures .same, s .pre .3 .3 .1)),
     )
 
 same-length : tie.Need-same-length
@@ -214,7 +214,7 @@ returns : tie.Need-returns
 returns c r ws x a =
     let p = c .before .before .before .before .before in
     let s = start (joined p .before) in
-    filling-as (s .args .end - s .args .at) (both-off (s .args .end) _ _ (p .put-count .ensures) (s .pre .6 .0) (s .pre .6 .1) _ (c .before .x .given .1)) (sym (laid (joined p) r ws x a))
+    filling-as (s .args .end - s .args .at) (both-off (s .args .end) _ _ (p .put-count .ensures) (s .pre .3 .3 .0) (s .pre .3 .3 .1) _ (c .before .x .given .1)) (sym (laid (joined p) r ws x a))
 
 same-length-2 : tie.Need-same-length-2
 same-length-2 c = search needs
@@ -226,7 +226,7 @@ returns-2 c r ws x a =
     let d = joined p .before in
     let s = start d in
     filling-as (s .args .end - s .args .at)
-    (both-on (s .args .end) _ _ (p .put-count .ensures) (s .pre .6 .0) (s .pre .6 .1) _ (k .before .p .given .1) (c .before .before .put-values .ensures (given d ws) (had d r) (notes d ws a) (olds d r x)))
+    (both-on (s .args .end) _ _ (p .put-count .ensures) (s .pre .3 .3 .0) (s .pre .3 .3 .1) _ (k .before .p .given .1) (c .before .before .put-values .ensures (given d ws) (had d r) (notes d ws a) (olds d r x)))
     (sym (laid (joined p) r ws x a))
 
 pub put-counted-spec : {M : Type 1} → statement M

@@ -85,8 +85,8 @@ size-at-requires c κs = search needs
 assigned-requires : tie.Need-assigned-requires
 assigned-requires c κs =
     let s = c .before .before .before .before .before .before .before in
-    let (ws, a) = s .pre .6 .1 in
-    (s .pre .0, s .pre .1, s .pre .2, s .pre .3, s .pre .4, s .pre .5, (a .format, a .count, ws, a .indexed))
+    let (ws, a) = s .pre .4 .2 .1 in
+    (s .pre .0, s .pre .1, s .pre .2, s .pre .3, (s .pre .4 .0, s .pre .4 .1, (a .format, a .count, ws, a .indexed)))
 
 sub-put-stored : tie.Need-sub-put-stored
 sub-put-stored c = search needs
@@ -95,9 +95,9 @@ put-stored-requires : tie.Need-put-stored-requires
 put-stored-requires c κs =
     let t = c .before in
     let s = start (t .before) in
-    let (ws, a) = s .pre .6 .1 in
+    let (ws, a) = s .pre .4 .2 .1 in
     let (v, e, w) = stands t ws a in
-    ((format-at (number (t .before)), v, w), s .pre .7)
+    ((format-at (number (t .before)), v, w), s .pre .4 .3)
 
 same-length : tie.Need-same-length
 same-length c = search needs
@@ -123,8 +123,8 @@ put-old-requires c κs =
     let e = c .before in
     let s = start (missed e) in
     let k = entry-known (s .args .t .now) (s .pre .0) (s .args .i) (s .pre .1) (s .pre .2) (both e) (both-are e) in
-    let h = s .pre .6 .0 in
-    (k .0, k .1, (_, was e (h .0) (h .1)), s .pre .7)
+    let h = s .pre .4 .2 .0 in
+    (k .0, k .1, (_, was e (h .0) (h .1)), s .pre .4 .3)
 
 same-length-2 : tie.Need-same-length-2
 same-length-2 c = search needs

@@ -25,7 +25,7 @@ put-cell-requires c κs =
     let s = c .before .before .before .before .before .before .before .before .before in
     let f = sym (c .before .before .group-at .ensures) ∙ c .before .if1 .left in
     let h = s .pre .4 in
-    (s .pre .0, s .pre .1, f, s .pre .2, s .pre .3, ((h .0 .0, h .0 .1 f), h .1), s .pre .5)
+    (s .pre .0, s .pre .1, f, (s .pre .2, s .pre .3, ((h .0 .0, h .0 .1 f), h .1), s .pre .5))
 
 same-length : tie.Need-same-length
 same-length c = search needs

@@ -26,7 +26,7 @@ within : (c : tie.After-first-cell) → (start c .args .g + 1 ≤ start c .args 
 within c =
     let s = start c in
     let h = group-within (entries-of (s .args .t .now)) (s .args .g) (s .pre .1) in
-    (omega (arith, s .pre .3, h .0), omega (arith, s .pre .3, h .1))
+    (omega (arith, s .pre .3 .0, h .0), omega (arith, s .pre .3 .0, h .1))
 
 first-cell-requires : tie.Need-first-cell-requires
 first-cell-requires c κs = search needs
@@ -40,15 +40,15 @@ put-members-requires c κs =
     let s = start f in (
       s .pre .0,
       within f .1,
-      s .pre .4,
-      s .pre .5,
-      s .pre .6,
-      (λ r held less. inl (s .args .g, s .pre .3, record { held = held; periodic = s .pre .2; after = omega arith; within = omega (arith, s .pre .3, less); some = s .pre .4; entered = f .first-cell .ensures r held })),
-      s .pre .7,
+      s .pre .3 .1,
+      s .pre .3 .2,
+      s .pre .3 .3,
+      (λ r held less. inl (s .args .g, s .pre .3 .0, record { held = held; periodic = s .pre .2; after = omega arith; within = omega (arith, s .pre .3 .0, less); some = s .pre .3 .1; entered = f .first-cell .ensures r held })),
+      s .pre .3 .4,
     )
 
 same-length : tie.Need-same-length
-same-length c = let m = c .before .before in let h = start (m .before .before) .pre .6 in m .put-members .ensures (h .0 .0) (h .1 .0) (h .0 .1) (h .1 .1) .same
+same-length c = let m = c .before .before in let h = start (m .before .before) .pre .3 .3 in m .put-members .ensures (h .0 .0) (h .1 .0) (h .0 .1) (h .1 .1) .same
 
 returns : tie.Need-returns
 returns c r ws p a =
@@ -59,7 +59,7 @@ returns c r ws p a =
     let h = within f in
     let e = end-start es 1 (s .args .g) (sym (periodic-level (s .args .t .now) (s .pre .0) (s .args .g) (s .pre .1) (s .pre .2))) in
     puts-as (s .args .end - s .args .at)
-    (sym (occurrence-members (update-plan (parts es) r ws) (s .args .o) es (s .args .last - (s .args .g + 1)) (s .args .g + 1) (omega (arith, e, s .pre .3, h .0)) (omega (arith, h .0, h .1))))
+    (sym (occurrence-members (update-plan (parts es) r ws) (s .args .o) es (s .args .last - (s .args .g + 1)) (s .args .g + 1) (omega (arith, e, s .pre .3 .0, h .0)) (omega (arith, h .0, h .1))))
     (m .put-members .ensures r ws p a)
 
 pub put-occurrence-spec : {M : Type 1} → statement M

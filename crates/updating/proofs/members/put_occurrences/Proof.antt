@@ -49,7 +49,7 @@ put-occurrence-requires c κs =
     let l = c .before in
     let s = start (l .before) in
     let i = l .before .loop .inv in
-    (s .pre .0, s .pre .1, s .pre .2, s .pre .3, i .0, omega (arith, l .loop-test .taken, s .pre .4), s .pre .5, (i .1 .fits, i .1 .room))
+    (s .pre .0, s .pre .1, s .pre .2, (s .pre .3, i .0, omega (arith, l .loop-test .taken, s .pre .4), s .pre .5, (i .1 .fits, i .1 .room)))
 
 enum-known-x : tie.Need-enum-known-x Inv-loop μ-loop
 enum-known-x c = search needs
