@@ -48,7 +48,9 @@ unfolding fields_below
 within_on l m k level (field g r mu) es o h = by_test (ltb m level)
     (λ t.
     let u : ltb l level ≡ true = lt-ltb l level (let z = ltb-true m level t in omega arith) in
-    rw (t, u, fields_below) (inl refl, all_map (λ f. In f (fields_below l es)) (λ f. In f (named_field k g r mu ∷ fields_below l es)) (λ f i. inr i) (fields_below m es) h))
+    let e : fields_below l (named_entry k level (field g r mu) ∷ es) ≡ named_field k g r mu ∷ fields_below l es = rw (u, fields_below) refl in
+    subst (λ (ys : List Field). All (λ f. In f ys) (fields_below m (named_entry k level (field g r mu) ∷ es))) (sym e)
+    (rw (t, fields_below) (inl refl, all_map (λ f. In f (fields_below l es)) (λ f. In f (named_field k g r mu ∷ fields_below l es)) (λ f i. inr i) (fields_below m es) h)))
     (λ t. rw (t, fields_below) tt)
 within_on l m k level (group p) es o h = by_test (ltb m level)
     (λ t.
