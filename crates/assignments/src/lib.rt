@@ -1,5 +1,7 @@
 // Which assignments a cell takes: the uses of a format by the entry and the occurrence that they name, and where the values that they give
 // stand on a stage, one after the other.
+#![tactic(auto)]
+
 ghost use Rattle.std.specs.Prelude.{◌≡◌, ◌+◌, ◌≤◌, ◌<◌, length, set};
 ghost use Rattle.rules.specs.Limits.{most_entries};
 ghost use Rattle.assignments.specs.Notes.{note_bound, note_place, uses_from};

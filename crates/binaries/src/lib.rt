@@ -1,4 +1,6 @@
 // Format B: unsigned numbers of 1 to LONGEST_BINARY bytes, converted from bytes to bytes, and to and from a word.
+#![tactic(auto)]
+
 ghost use Rattle.std.specs.Prelude.{◌≡◌, true, ◌+◌, ◌≤◌, ◌<◌, eqb, length};
 ghost use Rattle.rules.specs.Outcome.{is_done};
 ghost use Rattle.rules.specs.Lists.{bytes_of};

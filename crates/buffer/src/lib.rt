@@ -1,4 +1,6 @@
 // Bytes in a lent slice: put, filled, compared and found. A write's contract is one equation, `splice`, which settles every byte.
+#![tactic(auto)]
+
 ghost use Rattle.std.specs.Prelude.{◌≡◌, ◌+◌, ◌≤◌, length, replicate, take, drop};
 ghost use Rattle.rules.specs.Lists.{same};
 ghost use Rattle.buffer.specs.Splice.{splice};

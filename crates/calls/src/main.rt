@@ -1,5 +1,7 @@
 // Answers calls on the services, given as lines on standard input, by lines on standard output; tests/vectors/README.md has their form.
 // A line that is no call is answered `? 0 -`.
+#![tactic(auto)]
+
 ghost use Rattle.std.specs.Prelude.{◌≡◌, ◌*◌, ◌≤◌, ◌<◌, length};
 ghost use Rattle.lines.specs.Placed.{Placed};
 ghost use Rattle.protocol.specs.Calls.{Called};

@@ -1,4 +1,6 @@
 // EBCDIC characters, and names.
+#![tactic(auto)]
+
 ghost use Rattle.std.specs.Prelude.{◌≡◌, ◌&&◌, leb};
 ghost use Rattle.rules.specs.Characters.{letter, digit};
 ghost use Rattle.rules.specs.Table.{is_name};

@@ -1,6 +1,8 @@
 // Formats P and U: is it a value, is it in normal form, does it fit, and its bytes, between P and U and to and from numbers.
 // `packed` says that a value is P and not U; `target` says the same of the bytes to write.
 // A loop over the bytes of P and its twin over those of U are two functions, so that no turn of a loop asks which format it is.
+#![tactic(auto)]
+
 ghost use Rattle.std.specs.Prelude.{◌≡◌, true, false, ◌+◌, ◌-◌, ◌*◌, ◌/◌, ◌%◌, ◌≤◌, ◌<◌, length};
 ghost use Rattle.rules.specs.Outcome.{is_done};
 ghost use Rattle.rules.specs.Limits.{longest_alpha, longest_unpacked};

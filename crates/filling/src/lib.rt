@@ -1,4 +1,6 @@
 // What puts something into room: it ends at a place or is refused, and where it is asked to write it leaves its bytes there.
+#![tactic(auto)]
+
 ghost use Rattle.std.specs.Prelude.{◌≡◌, ◌∷◌, [], true, ◌-◌, ◌≤◌, ◌<◌, replicate};
 ghost use Rattle.rules.specs.Outcome.{done};
 ghost use Rattle.rules.specs.Characters.{space};

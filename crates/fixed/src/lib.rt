@@ -1,5 +1,7 @@
 // Numbers between the formats: a sign and a magnitude, where the conversion ranges hold them; and format F, whose two's complement is
 // decoded to and encoded from i32 here and nowhere else.
+#![tactic(auto)]
+
 ghost use Rattle.std.specs.Prelude.{◌≡◌, true, not, ◌⊎◌, ◌+◌, ◌-◌, ◌*◌, ◌^◌, ◌<◌, ◌≤◌, T, negsuc, length};
 ghost use Rattle.std.specs.Int.Signed.{mag, non_neg};
 ghost use Rattle.std.specs.Int.{w32};

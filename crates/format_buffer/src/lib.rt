@@ -1,4 +1,6 @@
 // The format buffer: its syntax, one element at a time. A format is any bytes at all.
+#![tactic(auto)]
+
 pub mod following;
 pub mod numbers;
 pub mod pieces;

@@ -1,4 +1,6 @@
 // Journals of updates: a record is made anew from the calls alone, and read back.
+#![tactic(auto)]
+
 ghost use Rattle.std.specs.Prelude.{◌≡◌, true, ◌+◌, ◌≤◌, ◌<◌, length, take};
 ghost use Rattle.rules.specs.Limits.{longest_new_record};
 ghost use Rattle.lyrecanyon.specs.Answers.{Settled};

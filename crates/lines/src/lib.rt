@@ -1,4 +1,6 @@
 // The lines of standard input, one at a time, in an area that is lent, and the answers to standard output.
+#![tactic(auto)]
+
 ghost use Rattle.std.specs.Prelude.{◌≡◌, ◌-◌, ◌≤◌, ◌<◌, length, take, drop};
 ghost use Rattle.buffer.specs.Splice.{splice};
 ghost use Rattle.lines.specs.Placed.{Placed, Begun};

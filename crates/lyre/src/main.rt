@@ -1,4 +1,6 @@
 // `lyre`: the services for people. It answers one call from the words of its command line; `commands` has what each word does.
+#![tactic(auto)]
+
 mod asking;
 mod commands;
 mod elements;

@@ -1,4 +1,6 @@
 // The services: read, update, and the empty record of a table.
+#![tactic(auto)]
+
 ghost use Rattle.std.specs.Prelude.{◌≡◌, min, length, take};
 ghost use Rattle.rules.specs.Limits.{longest_items};
 ghost use Rattle.rules.specs.Services as Rules;

@@ -1,4 +1,6 @@
 // Calls and answers as lines: tests/vectors/README.md has their form.
+#![tactic(auto)]
+
 ghost use Rattle.std.specs.Prelude.{◌≡◌, ◌+◌, ◌*◌, ◌≤◌, ◌<◌, length};
 ghost use Rattle.buffer.specs.Splice.{splice};
 ghost use Rattle.protocol.specs.Calls.{TakesThree, Called};

@@ -1,4 +1,6 @@
 // The service read, after its tests of table and record: one pass over a format tests its elements and items, and writes where it is asked to.
+#![tactic(auto)]
+
 ghost use Rattle.std.specs.Prelude.{◌≡◌, ◌-◌, ◌≤◌, length};
 ghost use Rattle.tables.specs.Entries.{Valid, entries_of};
 ghost use Rattle.format_buffer.specs.Elements.{sound};

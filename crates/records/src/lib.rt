@@ -1,4 +1,6 @@
 // The stored record: whether a slice is one, where each entry's bytes begin, and where a value lies; and the empty record.
+#![tactic(auto)]
+
 ghost use Rattle.std.specs.Prelude.{◌≡◌, ◌<◌, length, get_or};
 ghost use Rattle.rules.specs.Table.{is_inside};
 ghost use Rattle.tables.specs.Entries.{Valid, entries_of, blank};

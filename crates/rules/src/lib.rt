@@ -1,5 +1,7 @@
 // The bounds of document 01, each under what it bounds, and why a call is refused. The definitions in specs/Limits.antt and
 // specs/Numbers.antt have the same names; no other crate writes these numbers.
+#![tactic(auto)]
+
 ghost use Rattle.std.specs.Prelude.{◌≡◌};
 ghost use Rattle.rules.specs.Numbers.{refusal_number, refusal_length};
 

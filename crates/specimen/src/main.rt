@@ -1,5 +1,7 @@
 // The specimen job record of document 01: its cases, run by the compiled services. Each line has a call, and of its answer the number, the
 // length, the bytes, and the length that a value of a read needs.
+#![tactic(auto)]
+
 ghost use Rattle.std.specs.Prelude.{◌≤◌, length};
 ghost use Rattle.lyrecanyon.specs.Answers.{answer_length};
 

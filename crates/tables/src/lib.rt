@@ -1,4 +1,6 @@
 // The field definition table: whether a slice is one, and what the layers above ask of one.
+#![tactic(auto)]
+
 mod entries;
 mod groups;
 mod lookup;

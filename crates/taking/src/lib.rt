@@ -1,5 +1,7 @@
 // What the record buffer gives to the occurrences that a format names (7, 8, 9): each value to a stage, in normal form at its field's own
 // format and length. Where the values of each use begin is noted.
+#![tactic(auto)]
+
 ghost use Rattle.std.specs.Prelude.{◌*◌, ◌≤◌, ◌<◌, length};
 ghost use Rattle.rules.specs.Lists.{Bytes};
 ghost use Rattle.rules.specs.Use.{items_of};

@@ -1,4 +1,6 @@
 // The new record of an update, laid out in table order.
+#![tactic(auto)]
+
 ghost use Rattle.std.specs.Prelude.{◌≡◌, true, false, ◌+◌, ◌-◌, ◌≤◌, ◌<◌, length};
 ghost use Rattle.rules.specs.Limits.{longest_new_record};
 ghost use Rattle.rules.specs.Outcome.{done};

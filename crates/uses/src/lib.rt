@@ -1,4 +1,6 @@
 // The use rules: what an element means by a valid table, or why it is refused.
+#![tactic(auto)]
+
 mod boxes;
 mod effect;
 pub mod kept;

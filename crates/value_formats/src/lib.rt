@@ -1,4 +1,6 @@
 // The formats by their numbers, 0 A, 1 B, 2 F, 3 P, 4 U: their letters, which lengths they have, and which convert.
+#![tactic(auto)]
+
 ghost use Rattle.std.specs.Prelude.{◌≡◌, ◌<◌, ◌≤◌};
 ghost use Rattle.rules.specs.Limits.{formats};
 ghost use Rattle.rules.specs.Values as Rules;

@@ -1,5 +1,7 @@
 // The five formats: where a value ends, null, normal form, and a value converted from one to another.
 // A format is a number: 0 A, 1 B, 2 F, 3 P, 4 U.
+#![tactic(auto)]
+
 ghost use Rattle.std.specs.Prelude.{◌≡◌, true, ◌⊎◌, ◌+◌, ◌<◌, ◌≤◌, length, drop, replicate};
 ghost use Rattle.rules.specs.Limits.{formats, longest_alpha};
 ghost use Rattle.rules.specs.Lists.{join};
