@@ -35,7 +35,7 @@ pub const NUMBERS: usize = 2;
 pub const VALUES: usize = rules::HIGHEST_INDEX + 1;
 
 // What is named of a field in one occurrence: the highest value, 0 where none is named, and whether it is named by bare names only.
-#[derive(Drop)]
+#[derive(Clone, Copy)]
 pub struct Naming {
     pub highest: usize,
     pub bare: bool,

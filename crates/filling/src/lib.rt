@@ -16,7 +16,7 @@ pub mod value;
 use rules::Refusal;
 
 // Where what was put ends, or why it is refused.
-#[derive(Drop)]
+#[derive(Clone, Copy)]
 pub enum Next {
     At(usize),
     Refused(Refusal),

@@ -14,14 +14,14 @@ ghost use Rattle.fixed.specs.Words.{signed_value};
 ghost use Rattle.fixed.specs.Signs.{sign_of, with_sign, greatest};
 
 // A number: whether it is below zero, and its magnitude. Zero is never below zero.
-#[derive(Drop)]
+#[derive(Clone, Copy)]
 pub struct Signed {
     pub negative: bool,
     pub magnitude: u32,
 }
 
 // A number whose magnitude is at most LOWEST_WORD, or one outside every conversion range.
-#[derive(Drop)]
+#[derive(Clone, Copy)]
 pub enum Word {
     Number(Signed),
     Outside,

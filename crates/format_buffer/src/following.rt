@@ -21,7 +21,7 @@ const FIRST_LETTER: u8 = 0xC1;
 const LAST_LETTER: u8 = 0xE9;
 
 // What can follow a name: a length, a format, neither (an element, if it is good), or bad syntax.
-#[derive(Drop)]
+#[derive(Clone, Copy)]
 pub enum Trailer {
     Length(u16),
     Format(u8),

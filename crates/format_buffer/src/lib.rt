@@ -18,7 +18,7 @@ pub const LAST_ALONE: u8 = 1;
 pub const UP_TO_LAST: u8 = 2;
 
 // The indexes of a name: from_upto, and how far they reach. The use rules take N as they take 1, so it is 1 here.
-#[derive(Drop)]
+#[derive(Clone, Copy)]
 pub struct Indexing {
     pub from: u16,
     pub upto: u16,
@@ -27,7 +27,7 @@ pub struct Indexing {
 
 // A name with what may follow it: occurrences from_upto, values (first_last), how far each of the two reaches, a length and a format
 // letter. A number that is not given is 0.
-#[derive(Drop)]
+#[derive(Clone, Copy)]
 pub struct Named {
     pub name: u16,
     pub indexed: bool,
@@ -103,7 +103,7 @@ impl Named {
 }
 
 // A count; if it is indexed, that of one occurrence, or of the last.
-#[derive(Drop)]
+#[derive(Clone, Copy)]
 pub struct Count {
     pub name: u16,
     pub indexed: bool,
@@ -112,7 +112,7 @@ pub struct Count {
 }
 
 // An element. The bytes of a text stand in the format from one place up to another.
-#[derive(Drop)]
+#[derive(Clone, Copy)]
 pub enum Element {
     Blanks(u8),
     Text(usize, usize),

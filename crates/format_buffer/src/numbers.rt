@@ -10,7 +10,7 @@ use super::{AS_WRITTEN, Indexing, LAST_ALONE, UP_TO_LAST};
 use characters::{DIGIT_0, HYPHEN, LETTER_N, is_digit};
 
 // A number, and the place after it.
-#[derive(Drop)]
+#[derive(Clone, Copy)]
 pub enum Number {
     Value(u16, usize),
     Bad,
@@ -51,7 +51,7 @@ pub fn number_first(f: &[u8], at: usize, upto: usize) -> Number
 }
 
 // Indexes, and the place after them.
-#[derive(Drop)]
+#[derive(Clone, Copy)]
 pub enum IndexesRead {
     At(Indexing, usize),
     Bad,

@@ -15,13 +15,13 @@ use characters::{
 };
 
 // The values in parentheses after a name.
-#[derive(Drop)]
+#[derive(Clone, Copy)]
 pub enum Bracket {
     Values(Indexing),
     Bad,
 }
 
-#[derive(Drop)]
+#[derive(Clone, Copy)]
 pub enum Piece {
     Element(Element),
     Length(u16),

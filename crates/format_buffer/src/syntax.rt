@@ -12,7 +12,7 @@ use super::texts::text_at;
 use characters::PERIOD;
 
 // An element and the place of the comma or period after it, or bad syntax.
-#[derive(Drop)]
+#[derive(Clone, Copy)]
 pub enum Step {
     At(Element, usize),
     Bad,

@@ -9,14 +9,14 @@ use super::pieces::{Piece, piece_at};
 use characters::{APOSTROPHE, COMMA, PERIOD, SPACE};
 
 // The piece of the text at a place, and where its comma or period stands.
-#[derive(Drop)]
+#[derive(Clone, Copy)]
 pub struct PieceAt {
     pub piece: Piece,
     pub end: usize,
 }
 
 // A text from one place up to another, and where its comma or period stands.
-#[derive(Drop)]
+#[derive(Clone, Copy)]
 pub struct Bounds {
     pub first: usize,
     pub last: usize,

@@ -9,20 +9,20 @@ ghost use Rattle.hexadecimal.specs.Lines as Lines;
 ghost use Rattle.hexadecimal.specs.Answers.{number_read, DecodesWord, TakesWord};
 
 // The place after the bytes that were written; or the word spells no bytes.
-#[derive(Drop)]
+#[derive(Clone, Copy)]
 enum BytesWord {
     Upto(usize),
     NoBytes,
 }
 
-#[derive(Drop)]
+#[derive(Clone, Copy)]
 pub enum NumberWord {
     Is(usize),
     NoNumber,
 }
 
 // The place after the bytes that a word gave, and where the next word of the line begins.
-#[derive(Drop)]
+#[derive(Clone, Copy)]
 pub struct TakenWord {
     pub end: usize,
     pub next: usize,

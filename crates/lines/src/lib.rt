@@ -10,7 +10,7 @@ ghost use Rattle.lines.specs.Placed.{Placed, Begun};
 // the input does, so it counts down from a number that no run uses up.
 // The bytes from next up to filled are still to be looked at, and those before seen have no newline. If `skips`, those up to the
 // next newline belong to a line that was too long.
-#[derive(Drop)]
+#[derive(Clone, Copy)]
 pub struct Line {
     pub start: usize,
     pub end: usize,

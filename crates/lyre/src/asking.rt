@@ -9,7 +9,7 @@ use rules::Refusal;
 use uses::{INDEXES, Index};
 
 // What is asked for: the services, and whether a format, a table or a record is good by itself.
-#[derive(Drop)]
+#[derive(Clone, Copy)]
 pub enum Service {
     Read,
     Update,
@@ -20,7 +20,7 @@ pub enum Service {
 }
 
 // The number that is returned, how many bytes stand at the front of the room, and the length that a value needs which is not held.
-#[derive(Drop)]
+#[derive(Clone, Copy)]
 pub struct Reply {
     pub number: u8,
     pub used: usize,

@@ -49,7 +49,7 @@ fn is_blank(c: u8) -> bool {
 }
 
 // What stands at a place: a pair of digits, which makes a byte, or a blank, which makes none; or neither.
-#[derive(Drop)]
+#[derive(Clone, Copy)]
 struct Pair {
     good: bool,
     byte: u8,

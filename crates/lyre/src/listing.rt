@@ -7,7 +7,7 @@ use format_buffer::{AS_WRITTEN, LAST_ALONE, UP_TO_LAST};
 
 // How lines are made: by values or by bytes, these at the standard of each field or at a format and a length in effect; how far occurrences
 // and values reach; and whether the whole record is listed, by levels.
-#[derive(Drop)]
+#[derive(Clone, Copy)]
 pub struct Manner {
     pub valued: bool,
     pub standard: bool,

@@ -10,7 +10,7 @@ use uses::scopes::Scopes;
 use uses::{INDEXES, Index, Meant, Use};
 
 // What an element means, by how far its indexes reach, and the place of the comma or period after it.
-#[derive(Drop)]
+#[derive(Clone, Copy)]
 pub enum Told {
     As(Use, Scopes, usize),
     Refused(Refusal),

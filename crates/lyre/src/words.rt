@@ -8,7 +8,7 @@ use crate::{hexadecimal, letters, plain};
 const HEAD: u8 = 0xE5;
 
 // What a word gave: the bytes at the front of an area. Where it gave nothing good, a message has said so.
-#[derive(Drop)]
+#[derive(Clone, Copy)]
 pub struct Input {
     pub good: bool,
     pub used: usize,

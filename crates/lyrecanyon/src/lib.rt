@@ -24,7 +24,7 @@ const SHORT_FORMAT: usize = 64;
 const SHORT_RECORD: usize = 256;
 
 // What a service answers: done, with the number of bytes written, or refused with nothing changed.
-#[derive(Drop)]
+#[derive(Clone, Copy)]
 pub enum Answer {
     Done(usize),
     Refused(Refusal),

@@ -10,7 +10,7 @@ use hexadecimal::NumberWord;
 
 // A call that a line makes: its letter, where the bytes of its table, record, format and record buffer end, and the length that it
 // asks for. A word that the call does not have is empty, and what is no call has the letter 0.
-#[derive(Drop)]
+#[derive(Clone, Copy)]
 pub struct CallLine {
     pub letter: u8,
     pub table: usize,
@@ -21,7 +21,7 @@ pub struct CallLine {
 }
 
 // Where the bytes of a call's table, record and format end, and where its next word begins.
-#[derive(Drop)]
+#[derive(Clone, Copy)]
 struct Three {
     table: usize,
     record: usize,

@@ -14,7 +14,7 @@ use values::FirstValue;
 
 // What is wanted of a field: its values from first to last, by how far they reach, which are stored at its own format and standard length,
 // at a format and a length in effect.
-#[derive(Drop)]
+#[derive(Clone, Copy)]
 pub struct Wanted {
     pub own: usize,
     pub standard: usize,
@@ -27,7 +27,7 @@ pub struct Wanted {
 }
 
 // Those of the values wanted that exist, which stand one after the other from a place on, and how many do not exist.
-#[derive(Drop)]
+#[derive(Clone, Copy)]
 pub struct ValueRun {
     pub at: usize,
     pub count: usize,

@@ -23,7 +23,7 @@ use uses::scopes::Scopes;
 use uses::{Meant, Use};
 
 // Where a scan of a format stands: the items so far end at a place, or an item is refused, or an element.
-#[derive(Drop)]
+#[derive(Clone, Copy)]
 enum Progress {
     At(usize),
     ItemRefused(Refusal),

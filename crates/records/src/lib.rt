@@ -24,7 +24,7 @@ const MOST_KEPT: usize = 512;
 pub const DIRECTORY: usize = KEPT + MOST_KEPT;
 
 // Where a walk over a record stands: at a place after what it was to take, or at something that is no record.
-#[derive(Drop)]
+#[derive(Clone, Copy)]
 pub enum Reach {
     At(usize),
     Bad,

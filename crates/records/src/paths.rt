@@ -13,7 +13,7 @@ use tables::Found;
 
 // The way to an entry: whether it lies in a periodic group, and in which, whether all fields before it there have a fixed length and
 // are not MU, and then how many bytes those are.
-#[derive(Drop)]
+#[derive(Clone, Copy)]
 pub struct Path {
     pub entry: usize,
     pub inside: bool,

@@ -15,14 +15,14 @@ use crate::paths::Path;
 use crate::{DIRECTORY, FIRSTS, counts, paths, skip};
 
 // The cell of a field in an occurrence: the place where it begins, or there is no such occurrence.
-#[derive(Drop)]
+#[derive(Clone, Copy)]
 pub enum Cell {
     At(usize),
     Nothing,
 }
 
 // The piece of a record that some fields are: from a place up to another, or there is no such occurrence.
-#[derive(Drop)]
+#[derive(Clone, Copy)]
 pub enum Extent {
     At(usize, usize),
     Nothing,

@@ -64,7 +64,7 @@ pub const RECORD_HEAD_SIZE: usize = 5;
 pub const COUNT_SIZE: usize = 1;
 
 // Why a call is refused: the numbers 1 to 10 of document 01, in their order; 9 with the smallest length that would have held the value, or 0.
-#[derive(Drop)]
+#[derive(Clone, Copy)]
 pub enum Refusal {
     BadTable,
     BadRecord,

@@ -27,7 +27,7 @@ pub fn group_end(t: &[u8], i: usize) -> usize
 }
 
 // How far a walk over entries has come: the next entry, and how many fields were written.
-#[derive(Drop)]
+#[derive(Clone, Copy)]
 struct Expansion {
     next: usize,
     count: usize,

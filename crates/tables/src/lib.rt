@@ -17,7 +17,7 @@ pub use validity::valid;
 pub const GROUP: u8 = rules::FORMATS as u8;
 
 // A decoded entry. A format is its number: A 0, B 1, F 2, P 3, U 4; a group has GROUP.
-#[derive(Drop)]
+#[derive(Clone, Copy)]
 pub struct Entry {
     pub name: u16,
     pub level: u8,
@@ -28,7 +28,7 @@ pub struct Entry {
 }
 
 // The number of an entry, where there is one.
-#[derive(Drop)]
+#[derive(Clone, Copy)]
 pub enum Found {
     At(usize),
     Nothing,

@@ -18,7 +18,7 @@ use uses::Use;
 
 // Where the items of a call stand: at a place of the record buffer, with `staged` bytes on the stage. Where the stage is full the new record
 // is too long, and the items are only tested.
-#[derive(Drop)]
+#[derive(Clone, Copy)]
 pub struct Taking {
     pub at: usize,
     pub staged: usize,
@@ -26,7 +26,7 @@ pub struct Taking {
 }
 
 // Where the items stand, or why one is refused.
-#[derive(Drop)]
+#[derive(Clone, Copy)]
 pub enum Taken {
     At(Taking),
     Refused(Refusal),

@@ -19,7 +19,7 @@ use rules::Refusal;
 use values::FirstValue;
 
 // A field whose values are taken: its entry, the format and the length in effect, its own, and whether its bare name stands for them.
-#[derive(Drop)]
+#[derive(Clone, Copy)]
 pub struct Given {
     pub entry: usize,
     pub format: usize,

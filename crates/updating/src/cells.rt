@@ -19,7 +19,7 @@ use rules::Refusal;
 use uses::Index;
 
 // The values of an MU field that stand one after the other from a place on.
-#[derive(Drop)]
+#[derive(Clone, Copy)]
 pub struct Run {
     pub from: usize,
     pub count: usize,

@@ -8,7 +8,7 @@ ghost use Rattle.uses.specs.Effect.{FormatInEffect, LengthInEffect, Asks};
 use crate::wide;
 use format_buffer::Named;
 
-#[derive(Drop)]
+#[derive(Clone, Copy)]
 pub enum Effect {
     At(usize, usize),
     Broken,

@@ -46,7 +46,7 @@ const FORMATS: Index = 8;
 const PAIR: usize = 256;
 
 // The uses of a format, by how many they are; or why it is refused.
-#[derive(Drop)]
+#[derive(Clone, Copy)]
 pub enum Decoded {
     Uses(usize),
     Refused(Refusal),

@@ -32,7 +32,7 @@ const AFTER_N: Index = 1000;
 
 // The fields of the entries from first up to end, in the occurrences from_upto, and in each the values value_from-value_upto. Where
 // standard holds, each is at its own format and length; else first is the one field, at the format and the size in effect.
-#[derive(Drop)]
+#[derive(Clone, Copy)]
 pub struct Span {
     pub first: usize,
     pub end: usize,
@@ -48,7 +48,7 @@ pub struct Span {
 
 // What an element means. The bytes of a text stand in the format from one place up to another. A count has its entry's number, and
 // that of an MU field its occurrence.
-#[derive(Drop)]
+#[derive(Clone, Copy)]
 pub enum Use {
     Blanks(usize),
     Text(usize, usize),
@@ -57,7 +57,7 @@ pub enum Use {
     Values(Span),
 }
 
-#[derive(Drop)]
+#[derive(Clone, Copy)]
 pub enum Meant {
     As(Use),
     Refused(Refusal),

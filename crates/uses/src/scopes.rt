@@ -10,14 +10,14 @@ use crate::{Meant, ranges};
 use format_buffer::{AS_WRITTEN, Count, LAST_ALONE, Named};
 
 // The scope of the occurrences that an element names, and that of the values.
-#[derive(Drop)]
+#[derive(Clone, Copy)]
 pub struct Scopes {
     pub occurrences: u8,
     pub values: u8,
 }
 
 // What an element of a read means, with how far its indexes reach.
-#[derive(Drop)]
+#[derive(Clone, Copy)]
 pub struct Meaning {
     pub meant: Meant,
     pub scopes: Scopes,

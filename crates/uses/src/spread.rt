@@ -8,7 +8,7 @@ use crate::wide;
 use format_buffer::Named;
 
 // The occurrences and the values that an element means, and whether the bare name of an MU field means them.
-#[derive(Drop)]
+#[derive(Clone, Copy)]
 pub struct Ranges {
     pub from: usize,
     pub upto: usize,
@@ -17,7 +17,7 @@ pub struct Ranges {
     pub bare: bool,
 }
 
-#[derive(Drop)]
+#[derive(Clone, Copy)]
 pub enum Spreads {
     Over(Ranges),
     Broken,

@@ -69,7 +69,7 @@ pub fn allowed(format: usize, size: usize) -> bool
 }
 
 // Which values convert: none, all, those of a word, those of a word that are not below zero.
-#[derive(Drop)]
+#[derive(Clone, Copy)]
 pub enum Kind {
     Never,
     Every,

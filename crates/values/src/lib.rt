@@ -20,7 +20,7 @@ use rules::Refusal;
 use value_formats::{ALPHA, PACKED, UNPACKED};
 
 // Where the first value of a run of bytes lies: its content, without its length byte, and the place after it.
-#[derive(Drop)]
+#[derive(Clone, Copy)]
 pub enum FirstValue {
     Value(usize, usize),
     Refused(Refusal),
