@@ -1,0 +1,12 @@
+-- `decimals::tests::packed_pairs` meets its contract: what is left to scan answers as the whole does.
+use mathlib.Core.Bool.{true}
+use Prim.Native.Nat.{◌-◌}
+use Rattle.decimals.specs.Tests.{inner_byte}
+use Rattle.buffer.proofs.Loops.{Scan}
+use Rattle.decimals.proofs.tests.packed_pairs.Given as goal
+
+abbrev pub invariant-loop-i : goal.invariant-loop-i
+invariant-loop-i l = Scan (inner_byte true) l.n l.s l.i
+
+abbrev pub decreases-loop-i : goal.decreases-loop-i
+decreases-loop-i l = l.n - l.i

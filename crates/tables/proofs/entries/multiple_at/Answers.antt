@@ -1,0 +1,14 @@
+-- `tables::entries::multiple_at` meets its contract: a valid table's bytes are its entries.
+use mathlib.Core.Path.{ap}
+use native.Mathlib.Omega.{arith}
+use Rattle.tables.specs.Entries.{entry_of_bytes}
+use Rattle.tables.specs.declared.Entry.{Entry}
+use Rattle.tables.proofs.Tables.{valid_reach, valid_decoded}
+use Rattle.tables.proofs.entries.multiple_at.Goals as goal
+
+pub entry_byte-requires : goal.entry_byte-requires
+entry_byte-requires c = (valid_reach c.args.t.now c.requires.0 c.args.i c.requires.1, omega arith)
+
+pub returns : goal.returns
+unfolding entry_of_bytes
+returns c = rw c.entry_byte.ensures (ap (λ (r : Entry). r.multiple) (valid_decoded c.args.t.now c.requires.0 c.args.i c.requires.1))
