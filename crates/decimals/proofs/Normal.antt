@@ -27,8 +27,10 @@ use Rattle.decimals.proofs.Sound.{Sound, sound, readable, below_ten}
 module _ (p : Bool) (n : ℕ) (below : Bool) (x : ℕ) where
   normal_is : normal (decimal_format p) n (number below x)
       ≡ (need (ltb x (10 ^ places p n)) (refusal_number (OutOfRange 0)) >>= λ _. done (written p n below x))
-  unfolding normal decimal_format places encoded written refusal_number
-  normal_is = elim p [ true ↦ refl | false ↦ refl ]
+  unfolding normal decimal_format places encoded written
+  normal_is =
+      elim p as (λ (k : Bool). normal (decimal_format k) n (number below x) ≡ (need (ltb x (10 ^ places k n)) (refusal_number (OutOfRange 0)) >>= λ _. done (written k n below x)))
+      [ true ↦ refl | false ↦ refl ]
 
   pub normal_fits : is_done (normal (decimal_format p) n (number below x)) ≡ ltb x (10 ^ places p n)
   normal_fits = ap is_done normal_is ∙ is_done_need (ltb x (10 ^ places p n)) _

@@ -25,7 +25,7 @@ slice_bounds-put-length-else-n-len c = sym (length-take-le (length c.args.s.now 
 pub put-requires-else-n-len : goal.put-requires-else-n-len
 put-requires-else-n-len c =
     let l = length-take-le (length c.args.s.now - 1) c.args.s.now (omega arith) in
-    omega (arith, l, (value (goal.at.put-requires-else-n-len c).Start).some, c.fill.auto.0, c.requires.2, c.if1.false)
+    omega (arith, l, (value (goal.at.put-requires-else-n-len c).Start).some, c.fill.auto.out, c.requires.2, c.if-n-len.false)
 
 pub returns-then-n-len : goal.returns-then-n-len
 returns-then-n-len c =
@@ -36,5 +36,5 @@ pub returns-else-n-len : goal.returns-else-n-len
 returns-else-n-len c =
     let z = inner_written c.args.packed 0 in
     let l = length-replicate {A = ℕ} (c.args.n - length c.args.s.now) z in
-    splice_chain c.args.at (replicate (c.args.n - length c.args.s.now) z) (take (length c.args.s.now - 1) c.args.s.now) c.args.out.now _ _ _ (rw c.zero-byte.ensures at c.fill.ensures) c.put-else-n-len.ensures.1 (omega arith) (omega (arith, l, c.if1.false, c.requires.2))
-    ∙ ap (λ b. splice c.args.at b c.args.out.now) (copied_all (value (goal.at.returns-else-n-len c).Start) c.args.n c.if1.false)
+    splice_chain c.args.at (replicate (c.args.n - length c.args.s.now) z) (take (length c.args.s.now - 1) c.args.s.now) c.args.out.now _ _ _ (rw c.zero_byte.ensures at c.fill.ensures) c.put-else-n-len.ensures.1 (omega arith) (omega (arith, l, c.if-n-len.false, c.requires.2))
+    ∙ ap (λ b. splice c.args.at b c.args.out.now) (copied_all (value (goal.at.returns-else-n-len c).Start) c.args.n c.if-n-len.false)

@@ -41,7 +41,16 @@ pub bounds-seen-k-in-loop-i : goal.bounds-seen-k-in-loop-i
 bounds-seen-k-in-loop-i c = c.mark_of-k.ensures.1
 
 pub loop-i-preserved : goal.loop-i-preserved
-loop-i-preserved c = ?
+loop-i-preserved c =
+    let q = name-is (goal.at.loop-i-preserved c).After-entry_byte-b in
+    let z = c.mark_of-k.ensures.0 ∙ ap mark_of q in (
+      omega arith,
+      marked_turn c.loop-i.invariant.1 _ z
+          (⊎_elim
+          (λ w. named_new c.args.n c.args.t.now c.requires c.loop-i.i c.loop-i-test.true _ q _ w.1.ensures w.2.left)
+          (λ w. unmarked_new c.loop-i.invariant.1 _ z w.left)
+          c.if-seen-k.branch),
+    )
 
 pub returns : goal.returns
 returns c = marked_end c.loop-i.invariant.1 (omega (arith, read_count c.args.n c.args.t.now c.requires))
