@@ -49,7 +49,7 @@ returns c =
     let a = c.args in
     let v = bracketed_values c.parenthesis.ensures c.in-Values.is in
     element_is
-    (ap code.Named (c.with_values.ensures ∙ ap (λ (goal.at.returns c).After-with_occurrences-n. with_values (goal.at.returns c).After-with_occurrences-n c.in-Values.v) (occurring (goal.at.returns c).After-with_occurrences-n)))
+    (ap code.Named (c.with_values.ensures ∙ ap (λ n. with_values n c.in-Values.v) (occurring (goal.at.returns c).After-with_occurrences-n)))
     (after_range_open a.name (indexing_of a.x) a.f.now a.at a.upto (omega (arith, c.requires, c.if-at-upto.false)) c.requires.1
     (bracketed (goal.at.returns c).After-parenthesis) c.if-f-at-ne-OPEN.false v.0)
     (small_values (small_occurrences (small_bare a.name) c.requires.2) v.1)

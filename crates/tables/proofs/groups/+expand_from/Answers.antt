@@ -31,7 +31,6 @@ claims t = (
   group-at-reads.Learnt,
   expand_from_below t,
   expand-from.Post,
-
 )
 
 -- Where the function begins, seen from after it has the entry's level.

@@ -18,14 +18,13 @@ pub returns-then-level_at-level : goal.returns-then-level_at-level
 returns-then-level_at-level c = plain_stop (entries_of c.args.t.now) c.level_at-level.result c.loop-j.j (omega arith) (rw c.level_at.ensures at c.if-level_at-level.true) ∙ c.loop-j.invariant.2
 
 pub loop-j-preserved : goal.loop-j-preserved
-loop-j-preserved c =
-    (
-      c.loop-j.invariant.0,
-      omega arith,
-      plain_turn (entries_of c.args.t.now) c.level_at-level.result c.loop-j.j (omega arith)
-          (rw c.level_at.ensures at c.if-level_at-level.false) (sym c.plain_at.ensures ∙ c.if-plain_at.true)
-          ∙ c.loop-j.invariant.2,
-    )
+loop-j-preserved c = (
+  c.loop-j.invariant.0,
+  omega arith,
+  plain_turn (entries_of c.args.t.now) c.level_at-level.result c.loop-j.j (omega arith)
+      (rw c.level_at.ensures at c.if-level_at-level.false) (sym c.plain_at.ensures ∙ c.if-plain_at.true)
+      ∙ c.loop-j.invariant.2,
+)
 
 pub returns-else-plain_at : goal.returns-else-plain_at
 returns-else-plain_at c =

@@ -8,12 +8,11 @@ pub loop-i-init : goal.loop-i-init
 loop-i-init c = (omega arith, rw sub-zero)
 
 pub loop-i-preserved : goal.loop-i-preserved
-loop-i-preserved c =
-    (
-      omega arith,
-      right_turn c.args.t.now c.args.n c.loop-i.i c.requires c.loop-i-test.true (sym c.entry_right.ensures ∙ c.if-entry_right.true)
-          ∙ c.loop-i.invariant.1,
-    )
+loop-i-preserved c = (
+  omega arith,
+  right_turn c.args.t.now c.args.n c.loop-i.i c.requires c.loop-i-test.true (sym c.entry_right.ensures ∙ c.if-entry_right.true)
+      ∙ c.loop-i.invariant.1,
+)
 
 pub returns-else-entry_right : goal.returns-else-entry_right
 returns-else-entry_right c =
