@@ -8,7 +8,7 @@ use Rattle.tables.specs.Validity.{read_entries, mark_of}
 use Rattle.tables.proofs.Marks.{marked_start, marked_turn, marked_end, unmarked_new, named_new, named_twice}
 use Rattle.tables.proofs.Tables.{read_count, read_reach, read_name}
 use Rattle.tables.proofs.validity.names_differ.Goals as goal
-use Rattle.tables.proofs.validity.names_differ.Goals.{After-entry_byte-b}
+use Rattle.tables.proofs.validity.names_differ.Goals.{then-seen-k+else-named_before, else-seen-k, After-entry_byte-b}
 
 pub loop-i-init : goal.loop-i-init
 loop-i-init c = (omega arith, marked_start _ _ refl)
@@ -45,11 +45,11 @@ loop-i-preserved c =
     let q = name-is (goal.at.loop-i-preserved c).After-entry_byte-b in
     let z = c.mark_of-k.ensures.0 ∙ ap mark_of q in (
       omega arith,
-      marked_turn c.loop-i.invariant.1 _ z
-          (⊎_elim
-          (λ w. named_new c.args.n c.args.t.now c.requires c.loop-i.i c.loop-i-test.true _ q _ w.1.ensures w.2.left)
-          (λ w. unmarked_new c.loop-i.invariant.1 _ z w.left)
-          c.if-seen-k.branch),
+      elim c.if-seen-k.branch [
+        | then-seen-k+else-named_before w ↦
+            marked_turn c.loop-i.invariant.1 _ z (named_new c.args.n c.args.t.now c.requires c.loop-i.i c.loop-i-test.true _ q _ w.named_before.ensures w.if-named_before.false)
+        | else-seen-k w ↦ marked_turn c.loop-i.invariant.1 _ z (unmarked_new c.loop-i.invariant.1 _ z w.if-seen-k.false)
+      ],
     )
 
 pub returns : goal.returns
