@@ -33,14 +33,15 @@ value_within : (c : Else-s) → c.args.s.value_upto ≤ highest_index
 value_within c = (ordered_within (range c.args.s.value_from c.args.s.value_upto) c.requires.1.values).2
 
 -- What is set in the place of its field.
-set_as : (c : Then-multiple_at) (k : ℕ) → (let a = c.args in k ≡ cond (is_last (scope_at a.scope)) kept_after_N a.s.value_upto
+set_as : (c : Then-multiple_at) (k : ℕ) → c.args.s.value_upto ≤ highest_index → c.args.s.first < most_entries → c.args.s.first < length (entries_of c.args.t.now)
+    → (let a = c.args in k ≡ cond (is_last (scope_at a.scope)) kept_after_N a.s.value_upto
     → Remembered (entries_of a.t.now) (Values a.s) a.scope a.last.now (set (set a.last.now most_entries a.s.end) a.s.first k))
-set_as c k e =
+set_as c k v f i e =
     after_remembered (entries_of c.args.t.now) _ _ _ _ _ _ (valid_most c.args.t.now c.requires.0)
-    (multiple_remembered (entries_of c.args.t.now) c.args.s _ _ k e (value_within c.before.before) c.if-s.false
+    (multiple_remembered (entries_of c.args.t.now) c.args.s _ _ k e v c.if-s.false
     (multiple_at (entries_of c.args.t.now) _ ∙ sym c.multiple_at.ensures ∙ c.if-multiple_at.true)
-    (omega (arith, first_kept c.before.before, c.requires.2, length-set c.args.last.now most_entries c.args.s.end))
-    (λ j h q. one_entry c.args.t.now c.requires.0 _ j (first_within c.before.before) h q))
+    (omega (arith, f, c.requires.2, length-set c.args.last.now most_entries c.args.s.end))
+    (λ j h q. one_entry c.args.t.now c.requires.0 _ j i h q))
 
 pub overflow_cast-last : goal.overflow_cast-last
 overflow_cast-last c = omega (arith, c.requires.1.upto, valid_most c.args.t.now c.requires.0)
@@ -63,7 +64,9 @@ pub bounds-last-i : goal.bounds-last-i
 bounds-last-i c = omega (arith, first_kept (goal.at.bounds-last-i c).Else-s)
 
 pub returns-then-scope-eq-AS_WRITTEN : goal.returns-then-scope-eq-AS_WRITTEN
-returns-then-scope-eq-AS_WRITTEN c = set_as (goal.at.returns-then-scope-eq-AS_WRITTEN c).Then-multiple_at _ (rw (last_told c.args.scope, eq-eqb _ _ c.if-scope-eq-AS_WRITTEN.true) refl)
+returns-then-scope-eq-AS_WRITTEN c =
+    let o = (goal.at.returns-then-scope-eq-AS_WRITTEN c).Else-s in
+    set_as (goal.at.returns-then-scope-eq-AS_WRITTEN c).Then-multiple_at _ (value_within o) (first_kept o) (first_within o) (rw (last_told c.args.scope, eq-eqb _ _ c.if-scope-eq-AS_WRITTEN.true) refl)
 
 pub offset_bounds-last-i-then-multiple_at : goal.offset_bounds-last-i-then-multiple_at
 offset_bounds-last-i-then-multiple_at c = omega (arith, first_kept (goal.at.offset_bounds-last-i-then-multiple_at c).Else-s)
@@ -72,7 +75,9 @@ pub bounds-last-i-then-multiple_at : goal.bounds-last-i-then-multiple_at
 bounds-last-i-then-multiple_at c = omega (arith, first_kept (goal.at.bounds-last-i-then-multiple_at c).Else-s)
 
 pub returns-then-multiple_at : goal.returns-then-multiple_at
-returns-then-multiple_at c = set_as (goal.at.returns-then-multiple_at c).Then-multiple_at _ (rw (last_told c.args.scope, ne_eqb _ _ c.if-scope-eq-AS_WRITTEN.false) refl)
+returns-then-multiple_at c =
+    let o = (goal.at.returns-then-multiple_at c).Else-s in
+    set_as (goal.at.returns-then-multiple_at c).Then-multiple_at _ (value_within o) (first_kept o) (first_within o) (rw (last_told c.args.scope, ne_eqb _ _ c.if-scope-eq-AS_WRITTEN.false) refl)
 
 pub returns : goal.returns
 returns c =
