@@ -11,7 +11,7 @@ use Rattle.rules.specs.Limits.{record_head_size}
 use Rattle.rules.specs.Outcome.{Outcome, done}
 use Rattle.rules.specs.Lists.{Bytes, join}
 use Rattle.rules.specs.Values.{Format}
-use Rattle.rules.specs.Table.{What, field, group, Entry, Field, parts_from, inside_of, names, differ, parts}
+use Rattle.rules.specs.Table.{What, field, group, Entry, Field, parts_from, inside_of, names, differ, parts, is_inside}
 use Rattle.rules.specs.Record.{Record, Cell, each, counted, stored_value, stored_cell, values_at}
 use Rattle.rules.proofs.Steps.{done_inj}
 use Rattle.rules.proofs.Readers.{value_sound}
@@ -38,13 +38,13 @@ unfolding start_of inside_from
 start_next before [] d bs j l = absurd (not-suc-le-zero l)
 start_next before (e ∷ []) d bs zero l = absurd (not-suc-le-zero (le_of_suc-le-suc l))
 start_next before (e ∷ e₂ ∷ es) d bs zero l = refl
-start_next before (e ∷ es) d bs (suc j) l = start_next _ es d _ j (le_of_suc-le-suc l)
+start_next before (e ∷ es) d bs (suc j) l = start_next (is_inside before e) es d _ j (le_of_suc-le-suc l)
 
 pub start_none : (before : Bool) (es : List Entry) (bs : Bytes) (j : ℕ) → length es ≤ j → start_of before es bs j ≡ []
 unfolding start_of
 start_none before [] bs j h = refl
 start_none before (e ∷ es) bs zero h = absurd (not-suc-le-zero h)
-start_none before (e ∷ es) bs (suc j) h = start_none _ es _ j (le_of_suc-le-suc h)
+start_none before (e ∷ es) bs (suc j) h = start_none (is_inside before e) es _ j (le_of_suc-le-suc h)
 
 -- The bytes of a cell that has one value.
 pub once_bytes : (mu : Bool) (f : Format) (s : ℕ) (bs : Bytes) {vs : Cell} {rest : Bytes} → mu ≡ false → counted mu (stored_value f s) bs ≡ done (vs, rest) → bs ≡ join vs ++ rest
