@@ -129,7 +129,7 @@ pub fn put_occurrences(
     end: usize,
 ) -> Next
     requires { Valid t.now × (g < length (entries_of t.now)) × (what_at (entries_of t.now) g ≡ group true) × (last ≡ group_end (entries_of t.now) g) × (n ≤ highest_index) × HasBoth (entries_of t.now) b.now places.now kept.now list.now stage.now × Roomy at end out.old }
-    ensures* { λ r. ⌜ Puts (entries_of t.now) b.now places.now kept.now list.now stage.now (λ w r. occurrences_laid w (drop (g + 1) (entries_of t.now)) 1 n) at end out.old out.new r ⌝ }
+    ensures { Puts (entries_of t.now) b.now places.now kept.now list.now stage.now (λ w r. occurrences_laid w (drop (g + 1) (entries_of t.now)) 1 n) at end out.old out.new result }
 {
     let mut p = at;
     let mut o = 1;
