@@ -40,7 +40,7 @@ members c =
 count : (c : After-larger-n) (r : Record) (ws : List Assignment) → IsRecord (entries_of c.args.t.now) c.args.b.now c.args.places.now r
     → Assigns (entries_of c.args.t.now) c.args.kept.now c.args.list.now c.args.stage.now ws → c.larger-n.result ≡ (let es = entries_of c.args.t.now in
     let name = (get_or es c.args.g blank).name in
-    w.occurrences (group_part name (drop (c.args.g + 1) es)) (group_count_at (parts es) r name))
+    ((update_plan (parts (entries_of c.args.t.now)) r ws)).occurrences (group_part name (drop (c.args.g + 1) es)) (group_count_at (parts es) r name))
 count c r ws p a =
     let es = entries_of c.args.t.now in
     let name = (get_or es c.args.g blank).name in

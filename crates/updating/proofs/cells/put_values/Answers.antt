@@ -1,10 +1,8 @@
 use mathlib.Core.Path.{sym, subst}
 use mathlib.Core.List.{List}
 use mathlib.Core.Option.{Option}
-use mathlib.Core.Logic.{⊎_elim}
 use Prim.Native.Nat.{ℕ, zero, suc, ◌+◌, ◌-◌, ◌≤◌}
 use native.Mathlib.Omega.{arith}
-use borrow.Author.Tests.{leb-true, leb-false}
 use lib.ListN.{length, drop, get_or}
 use Rattle.rules.specs.Lists.{Bytes}
 use Rattle.rules.specs.Values.{Format, null}
@@ -13,7 +11,7 @@ use Rattle.updating.specs.New.{NotesBy, Stands, Old, Was, Were}
 use Rattle.updating.proofs.OldValues.{was_ends}
 use Rattle.updating.proofs.NewValues.{putting_start, stands_next, missing_next, were_after, were_none, putting_on, putting_off, putting_end}
 use Rattle.updating.proofs.cells.put_values.Goals as goal
-use Rattle.updating.proofs.cells.put_values.Goals.{After-staged-1, At-loop-k, Joined-exists-2}
+use Rattle.updating.proofs.cells.put_values.Goals.{After-staged-1, At-loop-k, Joined-exists-2, else-exists, else-exists-2, then-exists, then-exists-2}
 
 -- What is noted is at most one above the end of the stage.
 stands_below : (stage : Bytes) (f : Format) (n : ℕ) (o : Option Bytes) (m : ℕ) → Stands stage f n o m → m ≤ length stage + 1
@@ -31,9 +29,10 @@ was c given vs x y =
     let f = format_at a.format in
     let g = c.loop-k.invariant given vs x y in
     let W = Was a.b.now f a.size (get_or vs g.put (null f a.size)) in
-    ⊎_elim (λ w. subst W (sym w.1) (stands_next given f a.size vs g y (leb-true _ _ w.0.taken)))
-    (λ w. subst W (sym w.1) (missing_next given f a.size vs g y (leb-false _ _ w.0.left)))
-    c.if-exists.branch
+    elim c.if-exists.branch [
+      | then-exists w ↦ subst W (sym w.cell-is) (stands_next given f a.size vs g y w.if-exists.true)
+      | else-exists w ↦ subst W (sym w.cell-is) (missing_next given f a.size vs g y w.if-exists.false)
+    ]
 
 pub loop-k-init : goal.loop-k-init
 loop-k-init c given vs x y =
@@ -66,7 +65,7 @@ values_end-q-requires c =
     let a = c.args in
     let f = format_at a.format in
     let g = c.loop-k.invariant c.requires.3.0 c.requires.4.0 c.requires.3.1 c.requires.4.1 in
-    let w = stands_next c.requires.3.0 f a.size c.requires.4.0 g c.requires.4.1 (leb-true _ _ c.if-exists-2.true) in
+    let w = stands_next c.requires.3.0 f a.size c.requires.4.0 g c.requires.4.1 c.if-exists-2.true in
     (g.were.0, (f, was_ends a.b.now f a.size (get_or c.requires.4.0 g.put (null f a.size)) c.loop-k.q w))
 
 -- The old values that are left.
@@ -78,10 +77,10 @@ were c given vs x y =
     let f = format_at a.format in
     let g = c.loop-k.invariant given vs x y in
     let W : ℕ → Type 0 = λ q. Were a.b.now f a.size q (a.old.count - suc g.put) (drop (suc g.put) vs) in
-    ⊎_elim
-    (λ w. subst W (sym w.2) (were_after given f a.size vs g y (leb-true _ _ w.0.taken) w.1.result (w.1.ensures f)))
-    (λ w. subst W (sym w.1) (were_none given f a.size vs g y (leb-false _ _ w.0.left)))
-    c.if-exists-2.branch
+    elim c.if-exists-2.branch [
+      | then-exists-2 w ↦ subst W (sym w.q-is) (were_after given f a.size vs g y w.if-exists-2.true w.values_end-q.result (w.values_end-q.ensures f))
+      | else-exists-2 w ↦ subst W (sym w.q-is) (were_none given f a.size vs g y w.if-exists-2.false)
+    ]
 
 pub loop-k-preserved : goal.loop-k-preserved
 loop-k-preserved c given vs x y =

@@ -1,6 +1,5 @@
 use mathlib.Core.Path.{◌≡◌, sym, subst}
 use mathlib.Core.List.{◌++◌}
-use mathlib.Core.Logic.{⊎_elim}
 use Prim.Native.Nat.{◌+◌, ◌-◌, ◌<◌}
 use native.Mathlib.Omega.{arith}
 use lib.ListN.{length, get_or}
@@ -13,7 +12,7 @@ use Rattle.updating.specs.Member.{CelledMember, CellsFrom, members_laid}
 use Rattle.updating.proofs.Laying.{lay_start, lay_on, lay_off, lay_end, lay_same}
 use Rattle.updating.proofs.Membering.{members_turn, members_none, cells_here, cells_member, cells_next}
 use Rattle.updating.proofs.members.put_members.Goals as goal
-use Rattle.updating.proofs.members.put_members.Goals.{In-loop-i, Joined-i-last}
+use Rattle.updating.proofs.members.put_members.Goals.{In-loop-i, Joined-i-last, else-i-last, then-i-last}
 
 less : (c : In-loop-i) → c.loop-i.i < length (entries_of c.args.t.now)
 less c = omega (arith, c.loop-i-test.true, c.requires.1)
@@ -66,11 +65,12 @@ left : (c : Joined-i-last) (r : Record)
     c.args.last c.args.o r c.if-i-last.cell
 left c r held more =
     let a = c.args in
-    ⊎_elim
-    (λ w. subst (CellsFrom (entries_of a.t.now) a.b.now a.places.now (c.loop-i.i + 1) a.last a.o r) (sym w.2)
-    (cells_next a.t.now c.requires.0 c.loop-i.cell w.1.result more (c.loop-i.invariant.0 r held c.loop-i-test.true) (λ g m. w.1.ensures a.places.now g a.o r m)))
-    (λ w. absurd (omega (arith, more, w.0.left)))
-    c.if-i-last.branch
+    elim c.if-i-last.branch [
+      | then-i-last w ↦
+          subst (CellsFrom (entries_of a.t.now) a.b.now a.places.now (c.loop-i.i + 1) a.last a.o r) (sym w.cell-is)
+          (cells_next a.t.now c.requires.0 c.loop-i.cell w.next_cell-cell.result more (c.loop-i.invariant.0 r held c.loop-i-test.true) (λ g m. w.next_cell-cell.ensures a.places.now g a.o r m))
+      | else-i-last w ↦ absurd (omega (arith, more, w.if-i-last.false))
+    ]
 
 pub loop-i-preserved : goal.loop-i-preserved
 loop-i-preserved c = (
