@@ -6,7 +6,7 @@ ghost use Rattle.rules.specs.Limits.{longest_items};
 ghost use Rattle.rules.specs.Services as Rules;
 ghost use Rattle.tables.specs.Entries.{Valid, entries_of};
 ghost use Rattle.records.specs.Places.{HasRecord};
-ghost use Rattle.lyrecanyon.specs.Answers.{Settled, Exported, Applied, answer_number, answer_length, answer_needed, ExportedNeeding};
+ghost use Rattle.lyrecanyon.specs.Answers.{Settled, answer_number, answer_length, answer_needed};
 
 mod making;
 
@@ -157,40 +157,6 @@ pub fn read(table: &[u8], stored: &[u8], format: &[u8], buffer: &mut [u8]) -> An
     read_items(table, stored, &places, format, buffer)
 }
 
-// The same for C: the number is returned, and the length used is written.
-#[unsafe(no_mangle)]
-pub extern "C" fn lyrecanyon_read(
-    table: &[u8],
-    stored: &[u8],
-    format: &[u8],
-    buffer: &mut [u8],
-    used: &mut usize,
-) -> u8
-    ensures { Exported (Rules.read table.now stored.now format.now (length buffer.old)) buffer.old buffer.new used.new result }
-{
-    let answer = read(table, stored, format, buffer);
-    *used = answer.length();
-    answer.number()
-}
-
-// The same, with the length that is needed too.
-#[unsafe(no_mangle)]
-pub extern "C" fn lyrecanyon_read_needing(
-    table: &[u8],
-    stored: &[u8],
-    format: &[u8],
-    buffer: &mut [u8],
-    used: &mut usize,
-    needed: &mut usize,
-) -> u8
-    ensures { ExportedNeeding (Rules.read table.now stored.now format.now (length buffer.old)) buffer.old buffer.new used.new needed.new result }
-{
-    let answer = read(table, stored, format, buffer);
-    *used = answer.length();
-    *needed = answer.needed() as usize;
-    answer.number()
-}
-
 // Stores new values: the new record, to the front of the room. It is made by itself first, so that a refusal changes nothing.
 pub fn update(table: &[u8], stored: &[u8], format: &[u8], buffer: &[u8], room: &mut [u8]) -> Answer
     ensures { Settled (Rules.update table.now stored.now format.now buffer.now (length room.old)) room.old room.new result }
@@ -198,23 +164,6 @@ pub fn update(table: &[u8], stored: &[u8], format: &[u8], buffer: &[u8], room: &
     let mut record = [0u8; rules::LONGEST_NEW_RECORD];
     let answer = making::make(table, stored, format, buffer, &mut record);
     making::lend(answer, &record, room)
-}
-
-// The same for C: the number is returned, and the length used is written.
-#[unsafe(no_mangle)]
-pub extern "C" fn lyrecanyon_update(
-    table: &[u8],
-    stored: &[u8],
-    format: &[u8],
-    buffer: &[u8],
-    room: &mut [u8],
-    used: &mut usize,
-) -> u8
-    ensures { Exported (Rules.update table.now stored.now format.now buffer.now (length room.old)) room.old room.new used.new result }
-{
-    let answer = update(table, stored, format, buffer, room);
-    *used = answer.length();
-    answer.number()
 }
 
 // Stores new values where the record stands, which is the first `used` bytes of a slice: the new record takes the place of the old one, or
@@ -226,27 +175,6 @@ pub fn apply(table: &[u8], stored: &mut [u8], used: usize, format: &[u8], buffer
     let mut new = [0u8; rules::LONGEST_NEW_RECORD];
     let answer = making::make(table, &stored[..end], format, buffer, &mut new);
     making::lend(answer, &new, stored)
-}
-
-// The same for C: the number is returned, and the length of the record is the new one, or stays where the update is refused.
-#[unsafe(no_mangle)]
-pub extern "C" fn lyrecanyon_apply(
-    table: &[u8],
-    stored: &mut [u8],
-    used: &mut usize,
-    format: &[u8],
-    buffer: &[u8],
-) -> u8
-    ensures { Applied (Rules.update table.now (take used.old stored.old) format.now buffer.now (length stored.old)) stored.old stored.new used.old used.new result }
-{
-    let answer = apply(table, stored, *used, format, buffer);
-    match answer {
-        Answer::Done(n) => {
-            *used = n;
-            0
-        }
-        Answer::Refused(x) => rules::refusal_number(x),
-    }
 }
 
 // The empty record of a table, to the front of the room. It is built by itself first, so that a refusal changes nothing.
@@ -267,14 +195,4 @@ pub fn empty(table: &[u8], room: &mut [u8]) -> Answer
     records::empty::write_empty(table, &mut record);
     buffer::put(&record[..size], room, 0);
     Answer::Done(size)
-}
-
-// The same for C: the number is returned, and the length used is written.
-#[unsafe(no_mangle)]
-pub extern "C" fn lyrecanyon_empty(table: &[u8], room: &mut [u8], used: &mut usize) -> u8
-    ensures { Exported (Rules.empty table.now (length room.old)) room.old room.new used.new result }
-{
-    let answer = empty(table, room);
-    *used = answer.length();
-    answer.number()
 }
