@@ -1,4 +1,4 @@
-//! Finds the proved library, `liblyrecanyon.a`: in the folder that LYRECANYON_LIB names, else where `rt staticlib lyrecanyon` writes it.
+//! Finds the proved library, `liblyrecanyon.a`: in the folder that LYRECANYON_LIB names, else where `tests/prove library` writes it.
 
 use std::env;
 use std::path::PathBuf;
@@ -13,7 +13,7 @@ fn main() {
         panic!("the library is compiled for x86-64: build with --target x86_64-unknown-linux-gnu");
     }
     if !library.exists() {
-        panic!("no {}: make it by `rt staticlib lyrecanyon`, or name its folder in LYRECANYON_LIB", library.display());
+        panic!("no {}: make it by `tests/prove library`, or name its folder in LYRECANYON_LIB", library.display());
     }
     println!("cargo:rustc-link-search=native={}", folder.display());
     println!("cargo:rustc-link-lib=static=lyrecanyon");
