@@ -1,9 +1,13 @@
-// The lines of standard input, one at a time, in an area that is lent, and the answers to standard output.
+// The lines of an input, one at a time, in an area that is lent, and the answers to an output.
 #![tactic(auto)]
 
-ghost use Rattle.std.specs.Prelude.{◌≡◌, ◌-◌, ◌≤◌, ◌<◌, length, take, drop};
+ghost use Rattle.std.specs.Prelude.{◌≡◌, ◌-◌, ◌≤◌, ◌<◌, length, take, drop, IfOk, OnOk};
+ghost use Rattle.std.specs.Io.KnownBytes.{Appends};
 ghost use Rattle.buffer.specs.Splice.{splice};
 ghost use Rattle.lines.specs.Placed.{Placed, Begun};
+
+use std::io;
+use std::io::{Read, Write};
 
 // A line, if one was found, from start up to end in the input area.
 // `more` is how often the next line may be asked for, 0 once the input has ended: a proved loop has to end, and nothing says that
@@ -70,23 +74,23 @@ fn move_front(s: &mut [u8], from: usize, to: usize) -> usize
 }
 
 // One read, to the input from held on; the place after what came, which is held itself if nothing more comes.
-fn read_more(input: &mut [u8], held: usize) -> usize
+fn read_more<R: Read>(reader: &mut R, input: &mut [u8], held: usize) -> io::Result<usize>
     requires { held ≤ length input.old }
-    ensures { (held ≤ result) × (result ≤ length input.old) }
+    ensures { IfOk result (λ end. (held ≤ end) × (end ≤ length input.old)) }
 {
-    let got = libc::read(libc::STDIN_FILENO, &mut input[held..]);
-    held + io::count(got, &input[held..])
+    let got = reader.read(&mut input[held..])?;
+    Ok(held + got)
 }
 
 // One read after the bytes that have no newline. If nothing comes, these are the last line, unless there are none.
-fn fill(input: &mut [u8], l: Line) -> Line
+fn fill<R: Read>(reader: &mut R, input: &mut [u8], l: Line) -> io::Result<Line>
     requires { Placed (length input.old) l × (0 < l.more) × (l.filled - l.next < length input.old) }
-    ensures { Placed (length input.old) result × (result.more < l.more) }
+    ensures { IfOk result (λ next. Placed (length input.old) next × (next.more < l.more)) }
 {
     let held = move_front(input, l.next, l.filled);
-    let filled = read_more(input, held);
+    let filled = read_more(reader, input, held)?;
     if held < filled {
-        return Line {
+        return Ok(Line {
             start: 0,
             end: 0,
             found: false,
@@ -95,9 +99,9 @@ fn fill(input: &mut [u8], l: Line) -> Line
             seen: held,
             filled,
             skips: l.skips,
-        };
+        });
     }
-    Line {
+    Ok(Line {
         start: 0,
         end: held,
         found: 0 < held && !l.skips,
@@ -106,7 +110,7 @@ fn fill(input: &mut [u8], l: Line) -> Line
         seen: 0,
         filled: 0,
         skips: false,
-    }
+    })
 }
 
 // Where the next newline stands, or the end of what was read.
@@ -119,14 +123,15 @@ fn find_end(input: &[u8], l: Line) -> usize
 }
 
 // The next line, if it stands in the input area already; else one read. A line that fills the area is too long: it is found as an
-// empty one, and the rest of it skipped.
-pub fn next(input: &mut [u8], l: Line) -> Line
+// empty one, and the rest of it skipped. After an error the bytes that were held may have been moved, so that l no longer says where they
+// stand: the line is lost.
+pub fn next<R: Read>(reader: &mut R, input: &mut [u8], l: Line) -> io::Result<Line>
     requires { Placed (length input.old) l × (0 < l.more) }
-    ensures { Placed (length input.old) result × (result.more < l.more) }
+    ensures { IfOk result (λ next. Placed (length input.old) next × (next.more < l.more)) }
 {
     let end = find_end(input, l);
     if end < l.filled {
-        return Line {
+        return Ok(Line {
             start: l.next,
             end,
             found: !l.skips,
@@ -135,12 +140,12 @@ pub fn next(input: &mut [u8], l: Line) -> Line
             seen: end + 1,
             filled: l.filled,
             skips: false,
-        };
+        });
     }
     if l.filled - l.next < input.len() {
-        return fill(input, l);
+        return fill(reader, input, l);
     }
-    Line {
+    Ok(Line {
         start: 0,
         end: 0,
         found: !l.skips,
@@ -149,16 +154,15 @@ pub fn next(input: &mut [u8], l: Line) -> Line
         seen: 0,
         filled: 0,
         skips: true,
-    }
+    })
 }
 
-// Writes the first `used` bytes of out. No contract can say what is written, so this one repeats what it asks for.
-pub fn write(out: &[u8], used: usize)
+// Writes the first `used` bytes of out, which a writer that says what it holds has after what it held. After an error some of them may
+// have been written.
+pub fn write<W: Write>(writer: &mut W, out: &[u8], used: usize) -> io::Result<()>
     requires { used ≤ length out.now }
-    ensures { used ≤ length out.now }
+    ensures within { used ≤ length out.now }
+    ensures written { OnOk result (Appends (W.contents writer.old) (W.contents writer.new) (take used out.now)) }
 {
-    if io::write_all(libc::STDOUT_FILENO, &out[..used]) {
-        return;
-    }
-    os::fail(b"output");
+    writer.write_all(&out[..used])
 }
