@@ -2,13 +2,15 @@
 // A line that is no call is answered `? 0 -`.
 #![tactic(auto)]
 
-ghost use Rattle.std.specs.Prelude.{◌≡◌, ◌*◌, ◌≤◌, ◌<◌, length};
+ghost use Rattle.std.specs.Prelude.{◌≡◌, ◌*◌, ◌≤◌, ◌<◌, length, IfOk};
 ghost use Rattle.lines.specs.Placed.{Placed};
 ghost use Rattle.protocol.specs.Calls.{Called};
 ghost use Rattle.calls.specs.Areas.{room_size, line_size, Areas};
 
 use lines::Line;
 use protocol::CallLine;
+use std::io;
+use std::io::{Read, Write};
 
 // The buffer or room that a call is lent. A read writes no more than 32,767 bytes and a record has no more than 4,096,
 // so a call that asks for more than 40,000 bytes is answered as with 40,000.
@@ -206,41 +208,70 @@ fn put(a: Answered, room: &[u8], out: &mut [u8]) -> usize
     protocol::put_answer(a.number, &room[..used], out, 0)
 }
 
-fn answer_line(line: &[u8], bytes: &mut [u8], room: &mut [u8], out: &mut [u8])
+fn answer_line<W: Write>(
+    line: &[u8],
+    bytes: &mut [u8],
+    room: &mut [u8],
+    out: &mut [u8],
+    writer: &mut W,
+) -> io::Result<()>
     requires { (length line.now ≤ 2 * length bytes.old) × (length room.old ≤ room_size) × (line_size ≤ length out.old) }
 {
     let a = answer_call(line, bytes, room);
     let end = put(a, room, out);
-    lines::write(out, end);
+    lines::write(writer, out, end)
 }
 
-// Answers the next line of the input, if there is one.
-fn answer_next(input: &mut [u8], l: Line, bytes: &mut [u8], room: &mut [u8], out: &mut [u8]) -> Line
+// Answers the next line of the input, if there is one. After an error no further line can be asked for.
+fn answer_next<R: Read, W: Write>(
+    reader: &mut R,
+    writer: &mut W,
+    input: &mut [u8],
+    l: Line,
+    bytes: &mut [u8],
+    room: &mut [u8],
+    out: &mut [u8],
+) -> io::Result<Line>
     requires { Areas input.old bytes.old room.old out.old × Placed (length input.old) l × (0 < l.more) }
-    ensures { Placed (length input.old) result × (result.more < l.more) }
+    ensures { IfOk result (λ next. Placed (length input.old) next × (next.more < l.more)) }
 {
-    let next = lines::next(input, l);
+    let next = lines::next(reader, input, l)?;
     let start = next.start;
     let end = next.end;
     if next.found {
-        answer_line(&input[start..end], bytes, room, out);
+        answer_line(&input[start..end], bytes, room, out, writer)?;
     }
-    next
+    Ok(next)
 }
 
-fn answer_lines(input: &mut [u8], bytes: &mut [u8], room: &mut [u8], out: &mut [u8])
+fn answer_lines<R: Read, W: Write>(
+    reader: &mut R,
+    writer: &mut W,
+    input: &mut [u8],
+    bytes: &mut [u8],
+    room: &mut [u8],
+    out: &mut [u8],
+) -> io::Result<()>
     requires { Areas input.old bytes.old room.old out.old }
 {
     let mut l = lines::begin();
     while 0 < l.more {
-        l = answer_next(input, l, bytes, room, out);
+        l = answer_next(reader, writer, input, l, bytes, room, out)?;
     }
+    Ok(())
 }
 
-fn main() {
+fn main(rt: HostRuntime) -> io::Result<()> {
     let mut input = lines::input_area();
     let mut bytes = lines::bytes_area();
     let mut room = room_area();
     let mut out = output_area();
-    answer_lines(&mut input, &mut bytes, &mut room, &mut out);
+    answer_lines(
+        &mut rt.stdin(),
+        &mut rt.stdout(),
+        &mut input,
+        &mut bytes,
+        &mut room,
+        &mut out,
+    )
 }
