@@ -1,6 +1,5 @@
 // The services, asked by one function.
-ghost use Rattle.std.specs.Prelude.{◌≡◌};
-ghost use Rattle.io.specs.Counts.{IsPrefixLen};
+ghost use Rattle.std.specs.Prelude.{◌≡◌, ◌≤◌, length};
 ghost use Rattle.tables.specs.Entries.{Valid};
 
 use crate::meanings;
@@ -28,7 +27,7 @@ pub struct Reply {
 }
 
 pub(crate) fn read(t: &[u8], record: &[u8], f: &[u8], room: &mut [u8]) -> Reply
-    ensures { IsPrefixLen result.used room.new }
+    ensures { result.used ≤ length room.new }
 {
     let answer = lyrecanyon::read(t, record, f, room);
     Reply {
@@ -39,7 +38,7 @@ pub(crate) fn read(t: &[u8], record: &[u8], f: &[u8], room: &mut [u8]) -> Reply
 }
 
 fn update(t: &[u8], record: &[u8], f: &[u8], values: &[u8], room: &mut [u8]) -> Reply
-    ensures { IsPrefixLen result.used room.new }
+    ensures { result.used ≤ length room.new }
 {
     let answer = lyrecanyon::update(t, record, f, values, room);
     Reply {
@@ -50,7 +49,7 @@ fn update(t: &[u8], record: &[u8], f: &[u8], values: &[u8], room: &mut [u8]) -> 
 }
 
 fn empty(t: &[u8], room: &mut [u8]) -> Reply
-    ensures { IsPrefixLen result.used room.new }
+    ensures { result.used ≤ length room.new }
 {
     let answer = lyrecanyon::empty(t, room);
     Reply {
@@ -126,7 +125,7 @@ pub(crate) fn ask(
     values: &[u8],
     room: &mut [u8],
 ) -> Reply
-    ensures { IsPrefixLen result.used room.new }
+    ensures { result.used ≤ length room.new }
 {
     match service {
         Service::Read => read(t, record, f, room),

@@ -1,11 +1,18 @@
 // What each command does: the words are taken, the service is asked, and its answer is said.
-ghost use Rattle.io.specs.Counts.{IsPrefixLen};
+ghost use Rattle.std.specs.Prelude.{◌≤◌, length, IfOk};
 
 use crate::asking::Service;
-use crate::words::{Input, same};
+use crate::plain::Ended;
+use crate::saving::Given;
+use crate::words::same;
 use crate::{
-    asking, explaining, help, hexadecimal, listing, plain, refusals, saving, tables_shown, words,
+    asking, explaining, help, hexadecimal, listing, refusals, saving, tables_shown, words,
 };
+use std::io;
+use std::rt::{Env, Files};
+
+// The longest table or record, and one byte more.
+const FILE: usize = 65536;
 
 // A format may be longer than the services take: they refuse it.
 const FORMAT: usize = 8192;
@@ -19,165 +26,206 @@ const UPDATE: usize = 6;
 const EMPTY: usize = 3;
 
 // Whether the command has its words alone, or `-o` and a file too.
-fn has_file(words: usize, more: usize) -> bool {
-    let n = os::arg_count();
+fn has_file(env: &impl Env, words: usize, more: usize) -> bool {
+    let n = words::count(env);
     if n == words {
         return true;
     }
     if n == more {
-        return words::is(words, b"-o");
+        return words::is(env, words, b"-o");
     }
     false
 }
 
 // The record, where the service takes one.
-fn take_record(service: Service, area: &mut [u8]) -> Input
-    ensures { IsPrefixLen result.used area.new }
+fn take_record(
+    rt: &(impl Env + Files + Input),
+    err: &impl Print,
+    service: Service,
+    area: &mut [u8],
+) -> io::Result<words::Input>
+    ensures { IfOk result (λ given. given.used ≤ length area.new) }
 {
     match service {
-        Service::Read => words::file(3, area),
-        Service::Update => words::file(3, area),
-        Service::Record => words::file(3, area),
-        _ => words::nothing(area, true),
+        Service::Read => words::file(rt, err, 3, area),
+        Service::Update => words::file(rt, err, 3, area),
+        Service::Record => words::file(rt, err, 3, area),
+        _ => Ok(words::nothing(area, true)),
     }
 }
 
 // The format, where the service takes one.
-fn take_format(service: Service, area: &mut [u8]) -> Input
-    ensures { IsPrefixLen result.used area.new }
+fn take_format(
+    env: &impl Env,
+    err: &impl Print,
+    service: Service,
+    area: &mut [u8],
+) -> io::Result<words::Input>
+    ensures { IfOk result (λ given. given.used ≤ length area.new) }
 {
     match service {
-        Service::Read => words::format(4, area),
-        Service::Update => words::format(4, area),
-        Service::Explain => words::format(3, area),
-        _ => words::nothing(area, true),
+        Service::Read => words::format(env, err, 4, area),
+        Service::Update => words::format(env, err, 4, area),
+        Service::Explain => words::format(env, err, 3, area),
+        _ => Ok(words::nothing(area, true)),
     }
 }
 
 // The values, which an update takes.
-fn take_values(service: Service, area: &mut [u8]) -> Input
-    ensures { IsPrefixLen result.used area.new }
+fn take_values(
+    env: &impl Env,
+    err: &impl Print,
+    service: Service,
+    area: &mut [u8],
+) -> io::Result<words::Input>
+    ensures { IfOk result (λ given. given.used ≤ length area.new) }
 {
     match service {
-        Service::Update => words::bytes(5, area),
-        _ => words::nothing(area, true),
+        Service::Update => words::bytes(env, err, 5, area),
+        _ => Ok(words::nothing(area, true)),
     }
 }
 
 // The answer of a service that was not refused. After a new record it is said what the format now reads, or what every field holds.
-fn say_answer(service: Service, t: &[u8], record: &[u8], f: &[u8], answer: &[u8]) {
+fn say_answer(
+    rt: &(impl Env + Files),
+    out: &impl Print,
+    err: &impl Print,
+    service: Service,
+    t: &[u8],
+    record: &[u8],
+    f: &[u8],
+    answer: &[u8],
+) -> io::Result<Ended> {
     match service {
         Service::Read => {
-            hexadecimal::say_line(answer);
-            explaining::say_format(t, record, f, true);
+            hexadecimal::say_line(out, answer)?;
+            explaining::say_format(out, t, record, f, true)?;
         }
-        Service::Update => {
-            if saving::give(answer, UPDATE) {
-                explaining::say_format(t, answer, f, true);
-            }
-        }
-        Service::Empty => {
-            if saving::give(answer, EMPTY) {
-                listing::show(t, answer);
-            }
-        }
-        Service::Explain => {
-            explaining::say_format(t, record, f, false);
-        }
-        Service::Table => {
-            tables_shown::show(t);
-        }
-        Service::Record => {
-            listing::show(t, record);
-        }
+        Service::Update => match saving::give(rt, out, err, answer, UPDATE)? {
+            Given::Told => explaining::say_format(out, t, answer, f, true)?,
+            Given::Over(ended) => return Ok(ended),
+        },
+        Service::Empty => match saving::give(rt, out, err, answer, EMPTY)? {
+            Given::Told => listing::show(out, t, answer)?,
+            Given::Over(ended) => return Ok(ended),
+        },
+        Service::Explain => explaining::say_format(out, t, record, f, false)?,
+        Service::Table => tables_shown::show(out, t)?,
+        Service::Record => listing::show(out, t, record)?,
     }
+    Ok(Ended::Done)
 }
 
-fn answer(service: Service, t: &[u8], record: &[u8], f: &[u8], values: &[u8]) {
+fn answer(
+    rt: &(impl Env + Files),
+    out: &impl Print,
+    err: &impl Print,
+    service: Service,
+    t: &[u8],
+    record: &[u8],
+    f: &[u8],
+    values: &[u8],
+) -> io::Result<Ended> {
     let mut room = [0u8; rules::LONGEST_ITEMS];
     let a = asking::ask(service, t, record, f, values, &mut room);
     let used = a.used;
     if a.number == 0 {
-        say_answer(service, t, record, f, &room[..used]);
-    } else {
-        refusals::refuse(service, t, record, f, values, a);
+        return say_answer(rt, out, err, service, t, record, f, &room[..used]);
     }
+    refusals::refuse(err, service, t, record, f, values, a)?;
+    Ok(Ended::Refused)
 }
 
 // A service with the words that it takes. A word that is not good has been said so.
-fn run(service: Service) {
-    let mut table = io::large_buffer();
-    let t = words::file(2, &mut table);
+fn run(
+    rt: &(impl Env + Files + Input),
+    out: &impl Print,
+    err: &impl Print,
+    service: Service,
+) -> io::Result<Ended> {
+    let mut table = [0u8; FILE];
+    let t = words::file(rt, err, 2, &mut table)?;
     if !t.good {
-        return;
+        return Ok(Ended::Wrong);
     }
-    let mut record = io::large_buffer();
-    let r = take_record(service, &mut record);
+    let mut record = [0u8; FILE];
+    let r = take_record(rt, err, service, &mut record)?;
     if !r.good {
-        return;
+        return Ok(Ended::Wrong);
     }
     let mut format = [0u8; FORMAT];
-    let f = take_format(service, &mut format);
+    let f = take_format(rt, err, service, &mut format)?;
     if !f.good {
-        return;
+        return Ok(Ended::Wrong);
     }
     let mut values = [0u8; VALUES];
-    let v = take_values(service, &mut values);
+    let v = take_values(rt, err, service, &mut values)?;
     if !v.good {
-        return;
+        return Ok(Ended::Wrong);
     }
     let table_end = t.used;
     let record_end = r.used;
     let format_end = f.used;
     let values_end = v.used;
     answer(
+        rt,
+        out,
+        err,
         service,
         &table[..table_end],
         &record[..record_end],
         &format[..format_end],
         &values[..values_end],
-    );
+    )
 }
 
 // A service that has its words, or what they would be.
-fn start(service: Service, enough: bool) {
+fn start(
+    rt: &(impl Env + Files + Input),
+    out: &impl Print,
+    err: &impl Print,
+    service: Service,
+    enough: bool,
+) -> io::Result<Ended> {
     if enough {
-        run(service);
-    } else {
-        help::tell_use(service);
+        return run(rt, out, err, service);
     }
+    help::tell_use(err, service)?;
+    Ok(Ended::Wrong)
 }
 
 // Which of the two is shown, a table or a record, goes by the words.
-fn show() {
-    let n = os::arg_count();
+fn show(rt: &(impl Env + Files + Input), out: &impl Print, err: &impl Print) -> io::Result<Ended> {
+    let n = words::count(rt);
     if n == 3 {
-        start(Service::Table, true);
-        return;
+        return start(rt, out, err, Service::Table, true);
     }
-    start(Service::Record, n == 4);
+    start(rt, out, err, Service::Record, n == 4)
 }
 
-pub(crate) fn command(word: &[u8]) {
+pub(crate) fn command(
+    rt: &(impl Env + Files + Input),
+    out: &impl Print,
+    err: &impl Print,
+    word: &[u8],
+) -> io::Result<Ended> {
     if same(word, b"read") {
-        start(Service::Read, os::arg_count() == 5);
-        return;
+        return start(rt, out, err, Service::Read, words::count(rt) == 5);
     }
     if same(word, b"update") {
-        start(Service::Update, has_file(UPDATE, UPDATE + 2));
-        return;
+        let enough = has_file(rt, UPDATE, UPDATE + 2);
+        return start(rt, out, err, Service::Update, enough);
     }
     if same(word, b"empty") {
-        start(Service::Empty, has_file(EMPTY, EMPTY + 2));
-        return;
+        let enough = has_file(rt, EMPTY, EMPTY + 2);
+        return start(rt, out, err, Service::Empty, enough);
     }
     if same(word, b"show") {
-        show();
-        return;
+        return show(rt, out, err);
     }
     if same(word, b"explain") {
-        start(Service::Explain, os::arg_count() == 4);
-        return;
+        return start(rt, out, err, Service::Explain, words::count(rt) == 4);
     }
-    help::help(word);
+    help::help(rt, out, err, word)
 }

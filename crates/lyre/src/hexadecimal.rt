@@ -1,9 +1,9 @@
 // Bytes as pairs of hexadecimal digits.
-ghost use Rattle.io.specs.Counts.{IsPrefixLen};
 ghost use Rattle.std.specs.Prelude.{◌+◌, ◌≤◌, ◌<◌, length};
 
 use crate::plain;
 use crate::words::Input;
+use std::io;
 
 // No digit.
 const NONE: u8 = 16;
@@ -14,19 +14,20 @@ fn glyph(d: u8) -> u8
     if d < 10 { b'0' + d } else { b'A' - 10 + d }
 }
 
-pub(crate) fn write_byte(to: i32, b: u8) {
-    plain::write(to, &[glyph(b / 16), glyph(b % 16)]);
+pub(crate) fn write_byte(to: &impl Print, b: u8) -> io::Result<()> {
+    plain::write(to, &[glyph(b / 16), glyph(b % 16)])
 }
 
-pub(crate) fn say_bytes(bytes: &[u8]) {
+pub(crate) fn say_bytes(out: &impl Print, bytes: &[u8]) -> io::Result<()> {
     for i in 0..bytes.len() {
-        write_byte(libc::STDOUT_FILENO, bytes[i]);
+        write_byte(out, bytes[i])?;
     }
+    Ok(())
 }
 
-pub(crate) fn say_line(bytes: &[u8]) {
-    say_bytes(bytes);
-    plain::say(b"\n");
+pub(crate) fn say_line(out: &impl Print, bytes: &[u8]) -> io::Result<()> {
+    say_bytes(out, bytes)?;
+    plain::say(out, b"\n")
 }
 
 // The value of a digit, below 16, or NONE.
@@ -96,7 +97,7 @@ fn take(text: &[u8], at: usize, end: usize) -> Pair
 // The bytes that the first `used` characters of an area spell, to its front: digits in pairs, with blanks and line ends between them.
 pub(crate) fn decode(area: &mut [u8], used: usize) -> Input
     requires { used ≤ length area.old }
-    ensures { IsPrefixLen result.used area.new }
+    ensures { result.used ≤ length area.new }
 {
     let mut at = 0;
     let mut made = 0;

@@ -1,5 +1,6 @@
 // Printable characters in ASCII and in EBCDIC (code page 037).
 use crate::{hexadecimal, plain};
+use std::io;
 
 const FIRST: u8 = b' ';
 
@@ -35,50 +36,48 @@ pub(crate) fn ascii_of(code: u8) -> u8 {
 }
 
 // One character, or its code in hexadecimal.
-fn write_letter(to: i32, code: u8) {
+fn write_letter(to: &impl Print, code: u8) -> io::Result<()> {
     let c = ascii_of(code);
     if c == 0 {
-        plain::write(to, b"\\x");
-        hexadecimal::write_byte(to, code);
-        return;
+        plain::write(to, b"\\x")?;
+        return hexadecimal::write_byte(to, code);
     }
-    plain::write(to, &[c]);
+    plain::write(to, &[c])
 }
 
-pub(crate) fn write_text(to: i32, text: &[u8]) {
+pub(crate) fn write_text(to: &impl Print, text: &[u8]) -> io::Result<()> {
     for i in 0..text.len() {
-        write_letter(to, text[i]);
+        write_letter(to, text[i])?;
     }
+    Ok(())
 }
 
 // The same between quotation marks: a quotation mark and a backslash have a backslash before them.
-fn say_letter(code: u8) {
+fn say_letter(out: &impl Print, code: u8) -> io::Result<()> {
     let c = ascii_of(code);
     if c == b'"' {
-        plain::say(b"\\");
+        plain::say(out, b"\\")?;
     }
     if c == b'\\' {
-        plain::say(b"\\");
+        plain::say(out, b"\\")?;
     }
-    write_letter(libc::STDOUT_FILENO, code);
+    write_letter(out, code)
 }
 
-fn say_letters(text: &[u8]) {
+fn say_letters(out: &impl Print, text: &[u8]) -> io::Result<()> {
     for i in 0..text.len() {
-        say_letter(text[i]);
+        say_letter(out, text[i])?;
     }
+    Ok(())
 }
 
-pub(crate) fn say_quoted(text: &[u8]) {
-    plain::say(b"\"");
-    say_letters(text);
-    plain::say(b"\"");
+pub(crate) fn say_quoted(out: &impl Print, text: &[u8]) -> io::Result<()> {
+    plain::say(out, b"\"")?;
+    say_letters(out, text)?;
+    plain::say(out, b"\"")
 }
 
 // A name, which is two letters.
-pub(crate) fn say_name(name: u16) {
-    write_text(
-        libc::STDOUT_FILENO,
-        &[(name / 256) as u8, (name % 256) as u8],
-    );
+pub(crate) fn say_name(out: &impl Print, name: u16) -> io::Result<()> {
+    write_text(out, &[(name / 256) as u8, (name % 256) as u8])
 }

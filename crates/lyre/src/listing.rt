@@ -4,6 +4,7 @@ ghost use Rattle.tables.specs.Entries.{Valid, entries_of};
 
 use crate::{letters, plain, tables_shown, values_shown};
 use format_buffer::{AS_WRITTEN, LAST_ALONE, UP_TO_LAST};
+use std::io;
 
 // How lines are made: by values or by bytes, these at the standard of each field or at a format and a length in effect; how far occurrences
 // and values reach; and whether the whole record is listed, by levels.
@@ -19,118 +20,135 @@ pub struct Manner {
 }
 
 // An index as a format spells it. Where there is no record, N stays what it is.
-fn say_index(n: usize, scope: u8, m: Manner) {
+fn say_index(out: &impl Print, n: usize, scope: u8, m: Manner) -> io::Result<()> {
     if !m.valued {
         if scope == LAST_ALONE {
-            plain::say(b"N");
-            return;
+            return plain::say(out, b"N");
         }
         if scope == UP_TO_LAST {
-            plain::say(b"1-N");
-            return;
+            return plain::say(out, b"1-N");
         }
     }
-    plain::say_number(n);
+    plain::say_number(out, n)
 }
 
 // The name of entry i, with the occurrence where it lies in a periodic group.
-fn say_entry_name(t: &[u8], i: usize, o: usize, m: Manner)
+fn say_entry_name(out: &impl Print, t: &[u8], i: usize, o: usize, m: Manner) -> io::Result<()>
     requires { Valid t.now × (i < length (entries_of t.now)) }
 {
     let e = tables::entry_at(t, i);
-    letters::say_name(e.name);
+    letters::say_name(out, e.name)?;
     if values_shown::has_occurrences(t, i) {
-        say_index(o, m.scope, m);
+        say_index(out, o, m.scope, m)?;
     }
+    Ok(())
 }
 
 // The name of value k of entry i in occurrence o, as a format spells it.
-fn say_value_name(t: &[u8], i: usize, o: usize, k: usize, m: Manner)
+fn say_value_name(
+    out: &impl Print,
+    t: &[u8],
+    i: usize,
+    o: usize,
+    k: usize,
+    m: Manner,
+) -> io::Result<()>
     requires { Valid t.now × (i < length (entries_of t.now)) }
 {
-    say_entry_name(t, i, o, m);
+    say_entry_name(out, t, i, o, m)?;
     if !tables::multiple_at(t, i) {
-        return;
+        return Ok(());
     }
     if values_shown::has_occurrences(t, i) {
-        plain::say(b"(");
-        say_index(k, m.value_scope, m);
-        plain::say(b")");
-        return;
+        plain::say(out, b"(")?;
+        say_index(out, k, m.value_scope, m)?;
+        return plain::say(out, b")");
     }
-    say_index(k, m.value_scope, m);
+    say_index(out, k, m.value_scope, m)
 }
 
 // Where lines say bytes they stand below their element.
-pub(crate) fn say_lead(m: Manner) {
+pub(crate) fn say_lead(out: &impl Print, m: Manner) -> io::Result<()> {
     if !m.valued {
-        plain::say(b"  ");
+        plain::say(out, b"  ")?;
     }
+    Ok(())
 }
 
 // The blanks before a line of entry i: by its level in a whole record.
-fn say_margin(t: &[u8], i: usize, m: Manner)
+fn say_margin(out: &impl Print, t: &[u8], i: usize, m: Manner) -> io::Result<()>
     requires { Valid t.now × (i < length (entries_of t.now)) }
 {
     if m.whole {
-        plain::indent(tables::level_at(t, i));
+        plain::indent(out, tables::level_at(t, i))?;
     }
-    say_lead(m);
+    say_lead(out, m)
 }
 
 // The values of an MU field stand below their count.
-fn say_deeper(t: &[u8], i: usize)
+fn say_deeper(out: &impl Print, t: &[u8], i: usize) -> io::Result<()>
     requires { Valid t.now × (i < length (entries_of t.now)) }
 {
     if tables::multiple_at(t, i) {
-        plain::say(b"  ");
+        plain::say(out, b"  ")?;
     }
+    Ok(())
 }
 
 // The line of value k of entry i in occurrence o.
-fn say_value_line(t: &[u8], record: &[u8], i: usize, o: usize, k: usize, m: Manner)
+fn say_value_line(
+    out: &impl Print,
+    t: &[u8],
+    record: &[u8],
+    i: usize,
+    o: usize,
+    k: usize,
+    m: Manner,
+) -> io::Result<()>
     requires { Valid t.now × (i < length (entries_of t.now)) }
 {
-    say_margin(t, i, m);
+    say_margin(out, t, i, m)?;
     if m.whole {
-        say_deeper(t, i);
+        say_deeper(out, t, i)?;
     }
-    say_value_name(t, i, o, k, m);
+    say_value_name(out, t, i, o, k, m)?;
     if m.valued {
-        plain::say(b" = ");
-        values_shown::say_value(t, record, i, o, k);
+        plain::say(out, b" = ")?;
+        values_shown::say_value(out, t, record, i, o, k)?;
     } else {
-        plain::say(b"  ");
-        say_bytes_taken(t, i, m);
-        say_each(m);
+        plain::say(out, b"  ")?;
+        say_bytes_taken(out, t, i, m)?;
+        say_each(out, m)?;
     }
-    plain::say(b"\n");
+    plain::say(out, b"\n")
 }
 
 // Where a line is of all that are stored, each of them takes as many bytes.
-fn say_each(m: Manner) {
+fn say_each(out: &impl Print, m: Manner) -> io::Result<()> {
     if m.scope == UP_TO_LAST {
-        plain::say(b" each");
-        return;
+        return plain::say(out, b" each");
     }
     if m.value_scope == UP_TO_LAST {
-        plain::say(b" each");
+        plain::say(out, b" each")?;
     }
+    Ok(())
 }
 
 // The format and the length that a value of entry i takes.
-fn say_bytes_taken(t: &[u8], i: usize, m: Manner)
+fn say_bytes_taken(out: &impl Print, t: &[u8], i: usize, m: Manner) -> io::Result<()>
     requires { Valid t.now × (i < length (entries_of t.now)) }
 {
     let e = tables::entry_at(t, i);
     if m.standard {
-        tables_shown::say_format(e.format as usize, e.size as usize);
+        tables_shown::say_format(out, e.format as usize, e.size as usize)?;
     } else {
-        tables_shown::say_format(m.format, m.size);
+        tables_shown::say_format(out, m.format, m.size)?;
     }
+    Ok(())
 }
 
 pub(crate) fn say_values(
+    out: &impl Print,
     t: &[u8],
     record: &[u8],
     i: usize,
@@ -138,75 +156,116 @@ pub(crate) fn say_values(
     from: usize,
     upto: usize,
     m: Manner,
-)
+) -> io::Result<()>
     requires { Valid t.now × (i < length (entries_of t.now)) }
 {
     for k in from..=upto {
-        say_value_line(t, record, i, o, k, m);
+        say_value_line(out, t, record, i, o, k, m)?;
     }
+    Ok(())
 }
 
-fn say_number(t: &[u8], i: usize, n: usize)
+fn say_number(out: &impl Print, t: &[u8], i: usize, n: usize) -> io::Result<()>
     requires { Valid t.now × (i < length (entries_of t.now)) }
 {
     if tables::periodic_at(t, i) {
-        plain::say_counted(n, b"occurrence");
+        plain::say_counted(out, n, b"occurrence")?;
     } else {
-        plain::say_counted(n, b"value");
+        plain::say_counted(out, n, b"value")?;
     }
+    Ok(())
 }
 
 // The line of a count, of entry i in occurrence o.
-pub(crate) fn say_count(t: &[u8], record: &[u8], i: usize, o: usize, m: Manner)
+pub(crate) fn say_count(
+    out: &impl Print,
+    t: &[u8],
+    record: &[u8],
+    i: usize,
+    o: usize,
+    m: Manner,
+) -> io::Result<()>
     requires { Valid t.now × (i < length (entries_of t.now)) }
 {
-    say_margin(t, i, m);
-    say_entry_name(t, i, o, m);
+    say_margin(out, t, i, m)?;
+    say_entry_name(out, t, i, o, m)?;
     if m.valued {
-        plain::say(b": ");
-        say_number(t, i, values_shown::count(t, record, i, o));
+        plain::say(out, b": ")?;
+        say_number(out, t, i, values_shown::count(t, record, i, o))?;
     } else {
-        plain::say(b"  count, 1 byte");
+        plain::say(out, b"  count, 1 byte")?;
     }
-    plain::say(b"\n");
+    plain::say(out, b"\n")
 }
 
 // The values of an MU field in one occurrence, after their count.
-fn say_counted_values(t: &[u8], record: &[u8], i: usize, o: usize, m: Manner)
+fn say_counted_values(
+    out: &impl Print,
+    t: &[u8],
+    record: &[u8],
+    i: usize,
+    o: usize,
+    m: Manner,
+) -> io::Result<()>
     requires { Valid t.now × (i < length (entries_of t.now)) }
 {
-    say_count(t, record, i, o, m);
-    say_values(t, record, i, o, 1, values_shown::count(t, record, i, o), m);
+    say_count(out, t, record, i, o, m)?;
+    say_values(
+        out,
+        t,
+        record,
+        i,
+        o,
+        1,
+        values_shown::count(t, record, i, o),
+        m,
+    )
 }
 
 // Entry i in one occurrence: a group by its name alone.
-fn say_entry(t: &[u8], record: &[u8], i: usize, o: usize, m: Manner)
+fn say_entry(
+    out: &impl Print,
+    t: &[u8],
+    record: &[u8],
+    i: usize,
+    o: usize,
+    m: Manner,
+) -> io::Result<()>
     requires { Valid t.now × (i < length (entries_of t.now)) }
 {
     if tables::multiple_at(t, i) {
-        say_counted_values(t, record, i, o, m);
-        return;
+        return say_counted_values(out, t, record, i, o, m);
     }
     if !tables::group_at(t, i) {
-        say_value_line(t, record, i, o, 1, m);
-        return;
+        return say_value_line(out, t, record, i, o, 1, m);
     }
     if m.whole {
-        say_margin(t, i, m);
-        say_entry_name(t, i, o, m);
-        plain::say(b":\n");
+        say_margin(out, t, i, m)?;
+        say_entry_name(out, t, i, o, m)?;
+        plain::say(out, b":\n")?;
     }
+    Ok(())
 }
 
-fn say_entries(t: &[u8], record: &[u8], first: usize, end: usize, o: usize, m: Manner)
+fn say_entries(
+    out: &impl Print,
+    t: &[u8],
+    record: &[u8],
+    first: usize,
+    end: usize,
+    o: usize,
+    m: Manner,
+) -> io::Result<()>
     requires { Valid t.now × (end ≤ length (entries_of t.now)) }
 {
     for i in first..end {
-        say_entry(t, record, i, o, m);
+        say_entry(out, t, record, i, o, m)?;
     }
+    Ok(())
 }
 
 pub(crate) fn say_occurrences(
+    out: &impl Print,
     t: &[u8],
     record: &[u8],
     first: usize,
@@ -214,39 +273,40 @@ pub(crate) fn say_occurrences(
     from: usize,
     upto: usize,
     m: Manner,
-)
+) -> io::Result<()>
     requires { Valid t.now × (end ≤ length (entries_of t.now)) }
 {
     for o in from..=upto {
-        say_entries(t, record, first, end, o, m);
+        say_entries(out, t, record, first, end, o, m)?;
     }
+    Ok(())
 }
 
 // A periodic group: its count, and its members in each occurrence.
-fn say_periodic(t: &[u8], record: &[u8], i: usize, m: Manner)
+fn say_periodic(out: &impl Print, t: &[u8], record: &[u8], i: usize, m: Manner) -> io::Result<()>
     requires { Valid t.now × (i < length (entries_of t.now)) }
 {
-    say_count(t, record, i, 1, m);
+    say_count(out, t, record, i, 1, m)?;
     let n = values_shown::count(t, record, i, 1);
     let end = tables::group_end(t, i);
-    say_occurrences(t, record, i + 1, end, 1, n, m);
+    say_occurrences(out, t, record, i + 1, end, 1, n, m)
 }
 
 // An entry of the record; the members of a periodic group are said with it.
-fn say_part(t: &[u8], record: &[u8], i: usize, m: Manner)
+fn say_part(out: &impl Print, t: &[u8], record: &[u8], i: usize, m: Manner) -> io::Result<()>
     requires { Valid t.now × (i < length (entries_of t.now)) }
 {
     if tables::periodic_at(t, i) {
-        say_periodic(t, record, i, m);
-        return;
+        return say_periodic(out, t, record, i, m);
     }
     if !tables::inside(t, i) {
-        say_entry(t, record, i, 1, m);
+        say_entry(out, t, record, i, 1, m)?;
     }
+    Ok(())
 }
 
 // A whole record, field by field.
-fn say_record(t: &[u8], record: &[u8])
+fn say_record(out: &impl Print, t: &[u8], record: &[u8]) -> io::Result<()>
     requires { Valid t.now }
 {
     let m = Manner {
@@ -260,12 +320,14 @@ fn say_record(t: &[u8], record: &[u8])
     };
     let n = tables::count(t);
     for i in 0..n {
-        say_part(t, record, i, m);
+        say_part(out, t, record, i, m)?;
     }
+    Ok(())
 }
 
-pub(crate) fn show(t: &[u8], record: &[u8]) {
+pub(crate) fn show(out: &impl Print, t: &[u8], record: &[u8]) -> io::Result<()> {
     if tables::valid(t) {
-        say_record(t, record);
+        say_record(out, t, record)?;
     }
+    Ok(())
 }

@@ -18,9 +18,19 @@ mod tables_shown;
 mod values_shown;
 mod words;
 
-fn main() {
+use plain::Ended;
+use std::process::ExitCode;
+
+fn main(rt: HostRuntime) -> ExitCode {
+    let out = rt.stdout();
+    let err = rt.stderr();
     let mut word = [0u8; 8];
-    let used = os::arg(1, &mut word);
-    commands::command(&word[..used]);
-    plain::end(plain::DONE);
+    let used = words::short(&rt, 1, &mut word);
+    match commands::command(&rt, &out, &err, &word[..used]) {
+        Ok(ended) => plain::end(ended),
+        Err(_) => {
+            let _ = plain::complain(&err, b"the output could not be written");
+            plain::end(Ended::Wrong)
+        }
+    }
 }

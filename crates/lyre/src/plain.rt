@@ -1,53 +1,58 @@
 // What is said, to standard output or to standard error, and how the call ended.
-ghost use Rattle.std.specs.Prelude.{◌<◌};
+ghost use Rattle.std.specs.Prelude.{◌≡◌, ◌≤◌, ◌<◌, length};
+ghost use Rattle.std.specs.Process.{exit_status};
+ghost use Rattle.lyre.specs.Statuses.{status_of};
 
-// How a call ended, as a digit.
-pub const DONE: u8 = b'0';
+use std::io;
+use std::io::{Cursor, Write};
+use std::process::ExitCode;
 
-pub const REFUSED: u8 = b'1';
-
-pub const WRONG: u8 = b'2';
-
-// What was said could not be written.
-const LOST: u8 = b'3';
-
-// Where the digits are written. A program has no exit status of its own: the script `lyre` makes one of the greatest digit.
-const STATUS: i32 = 9;
+// How a call ended: done, refused by the service, or wrong in its words or in a file that cannot be read or written.
+#[derive(Clone, Copy)]
+pub enum Ended {
+    Done,
+    Refused,
+    Wrong,
+}
 
 const BLANKS: [u8; 16] = [b' '; 16];
 
-pub(crate) fn end(digit: u8) {
-    io::write_all(STATUS, &[digit]);
-}
-
-pub(crate) fn write(to: i32, text: &[u8]) {
-    if !io::write_all(to, text) {
-        end(LOST);
+// The exit status of a call.
+pub(crate) fn end(ended: Ended) -> ExitCode
+    ensures { exit_status result ≡ status_of ended }
+{
+    match ended {
+        Ended::Done => ExitCode::from(0u8),
+        Ended::Refused => ExitCode::from(1u8),
+        Ended::Wrong => ExitCode::from(2u8),
     }
 }
 
-pub(crate) fn write_number(to: i32, n: usize) {
-    if !io::print_decimal(to, n as u64) {
-        end(LOST);
-    }
+pub(crate) fn write(to: &impl Print, text: &[u8]) -> io::Result<()> {
+    to.write_all(text)
 }
 
-pub(crate) fn say(text: &[u8]) {
-    write(libc::STDOUT_FILENO, text);
+pub(crate) fn write_number(to: &impl Print, n: usize) -> io::Result<()> {
+    to.print(n)
 }
 
-pub(crate) fn say_number(n: usize) {
-    write_number(libc::STDOUT_FILENO, n);
+pub(crate) fn say(out: &impl Print, text: &[u8]) -> io::Result<()> {
+    write(out, text)
+}
+
+pub(crate) fn say_number(out: &impl Print, n: usize) -> io::Result<()> {
+    write_number(out, n)
 }
 
 // A number and what it counts: `1 byte`, `2 bytes`.
-pub(crate) fn say_counted(n: usize, one: &[u8]) {
-    say_number(n);
-    say(b" ");
-    say(one);
+pub(crate) fn say_counted(out: &impl Print, n: usize, one: &[u8]) -> io::Result<()> {
+    say_number(out, n)?;
+    say(out, b" ")?;
+    say(out, one)?;
     if n != 1 {
-        say(b"s");
+        say(out, b"s")?;
     }
+    Ok(())
 }
 
 pub(crate) fn wide(b: u8) -> usize
@@ -57,31 +62,54 @@ pub(crate) fn wide(b: u8) -> usize
 }
 
 // The blanks before a line of a level: two for each level after the first.
-pub(crate) fn indent(level: u8) {
+pub(crate) fn indent(out: &impl Print, level: u8) -> io::Result<()> {
     let blanks = BLANKS;
     let n = 2 * wide(level);
     if 2 <= n {
         if n <= 16 {
-            say(&blanks[2..n]);
+            return say(out, &blanks[2..n]);
         }
     }
+    Ok(())
 }
 
-fn complain_after(text: &[u8]) {
-    write(libc::STDERR_FILENO, text);
-    write(libc::STDERR_FILENO, b"\n");
-    end(WRONG);
+fn complain_after(err: &impl Print, text: &[u8]) -> io::Result<()> {
+    write(err, text)?;
+    write(err, b"\n")
 }
 
 // What is wrong with the words of a command.
-pub(crate) fn complain(text: &[u8]) {
-    write(libc::STDERR_FILENO, b"lyre: ");
-    complain_after(text);
+pub(crate) fn complain(err: &impl Print, text: &[u8]) -> io::Result<()> {
+    write(err, b"lyre: ")?;
+    complain_after(err, text)
 }
 
 // What is wrong with a file.
-pub(crate) fn complain_of(path: &[u8], text: &[u8]) {
-    write(libc::STDERR_FILENO, b"lyre: ");
-    write(libc::STDERR_FILENO, path);
-    complain_after(text);
+pub(crate) fn complain_of(err: &impl Print, path: &[u8], text: &[u8]) -> io::Result<()> {
+    write(err, b"lyre: ")?;
+    write(err, path)?;
+    complain_after(err, text)
+}
+
+// Where the system's own number of an error begins, ` (os error 2)`, or the end of the text.
+fn reason_end(text: &[u8]) -> usize
+    ensures { result ≤ length text.now }
+{
+    for i in 0..text.len() {
+        if text[i..].starts_with(b" (os error ") {
+            return i;
+        }
+    }
+    text.len()
+}
+
+// What failed, and why in the system's words: `none: No such file or directory`.
+pub(crate) fn fail(err: &impl Print, what: &[u8], why: io::Error) -> io::Result<()> {
+    let mut text = Cursor::new([0u8; 320]);
+    write!(text, "{why}")?;
+    let words = text.get_ref();
+    write(err, what)?;
+    write(err, b": ")?;
+    write(err, &words[..reason_end(words)])?;
+    write(err, b"\n")
 }

@@ -1,6 +1,5 @@
 // A refusal in words: its number, its meaning, and the element that it is about.
 ghost use Rattle.std.specs.Prelude.{◌≤◌, ◌<◌, length};
-ghost use Rattle.io.specs.Counts.{IsPrefixLen};
 ghost use Rattle.rules.specs.Limits.{longest_format};
 
 use crate::asking::{Reply, Service};
@@ -8,46 +7,42 @@ use crate::{asking, letters, plain};
 use characters::PERIOD;
 use format_buffer::pieces::Piece;
 use format_buffer::syntax::Step;
-use libc::STDERR_FILENO;
+use std::io;
 
-fn tell(text: &[u8]) {
-    plain::write(STDERR_FILENO, text);
+fn tell(err: &impl Print, text: &[u8]) -> io::Result<()> {
+    plain::write(err, text)
 }
 
-fn tell_meaning(number: u8) {
+fn tell_meaning(err: &impl Print, number: u8) -> io::Result<()> {
     match number {
-        1 => {
-            tell(b"the table is not a field definition table\n");
-        }
-        2 => {
-            tell(b"the record is not a stored record of this table, or is over 4,096 bytes\n");
-        }
-        3 => {
-            tell(b"the format is not well formed\n");
-        }
-        4 => {
-            tell(b"the format names a field or group that the table does not have\n");
-        }
-        5 => {
-            tell(
-                b"the format breaks a use rule: the index, length or format does not suit the name, or the group cannot be named\n",
-            );
-        }
-        6 => {
-            tell(b"the update names a value twice\n");
-        }
-        7 => {
-            tell(b"an item ends beyond the values that were given, or beyond 32,767 bytes\n");
-        }
-        8 => {
-            tell(b"a value that was given is not a value of its format\n");
-        }
-        9 => {
-            tell(b"a value is outside the range of the conversion, or does not fit the length\n");
-        }
-        _ => {
-            tell(b"the new record is over 4,096 bytes\n");
-        }
+        1 => tell(err, b"the table is not a field definition table\n"),
+        2 => tell(
+            err,
+            b"the record is not a stored record of this table, or is over 4,096 bytes\n",
+        ),
+        3 => tell(err, b"the format is not well formed\n"),
+        4 => tell(
+            err,
+            b"the format names a field or group that the table does not have\n",
+        ),
+        5 => tell(
+            err,
+            b"the format breaks a use rule: the index, length or format does not suit the name, or the group cannot be named\n",
+        ),
+        6 => tell(err, b"the update names a value twice\n"),
+        7 => tell(
+            err,
+            b"an item ends beyond the values that were given, or beyond 32,767 bytes\n",
+        ),
+        8 => tell(
+            err,
+            b"a value that was given is not a value of its format\n",
+        ),
+        9 => tell(
+            err,
+            b"a value is outside the range of the conversion, or does not fit the length\n",
+        ),
+        _ => tell(err, b"the new record is over 4,096 bytes\n"),
     }
 }
 
@@ -63,20 +58,27 @@ pub(crate) fn element_end(f: &[u8], at: usize) -> usize
 }
 
 // Element n, which stands in the format from one place up to another, as it is written.
-pub(crate) fn write_element(to: i32, f: &[u8], at: usize, stop: usize, n: usize)
+pub(crate) fn write_element(
+    to: &impl Print,
+    f: &[u8],
+    at: usize,
+    stop: usize,
+    n: usize,
+) -> io::Result<()>
     requires { (at ≤ stop) × (stop ≤ length f.now) }
 {
     let b = format_buffer::texts::bounds_at(f, at);
     let first = b.first;
-    plain::write(to, b"element ");
-    plain::write_number(to, n);
+    plain::write(to, b"element ")?;
+    plain::write_number(to, n)?;
     if first < stop {
-        plain::write(to, b": ");
-        letters::write_text(to, &f[first..stop]);
-        plain::write(to, b"\n");
+        plain::write(to, b": ")?;
+        letters::write_text(to, &f[first..stop])?;
+        plain::write(to, b"\n")?;
     } else {
-        plain::write(to, b" is empty\n");
+        plain::write(to, b" is empty\n")?;
     }
+    Ok(())
 }
 
 // Whether a period ends the format: one that stands in no text.
@@ -96,20 +98,20 @@ fn has_period(f: &[u8]) -> bool {
 }
 
 // The element at a place where the syntax is bad. Where its own characters are good, what follows it is not.
-fn tell_bad(f: &[u8], at: usize, n: usize)
+fn tell_bad(err: &impl Print, f: &[u8], at: usize, n: usize) -> io::Result<()>
     requires { at ≤ length f.now }
 {
     let b = format_buffer::texts::bounds_at(f, at);
     let piece = format_buffer::pieces::piece_at(f, b.first, b.last);
-    tell(b"  ");
+    tell(err, b"  ")?;
     if let Piece::Element(_) = piece {
-        tell(b"what follows ");
+        tell(err, b"what follows ")?;
     }
-    write_element(STDERR_FILENO, f, at, b.end, n);
+    write_element(err, f, at, b.end, n)
 }
 
 // The first element whose syntax is bad.
-fn tell_first_bad(f: &[u8])
+fn tell_first_bad(err: &impl Print, f: &[u8]) -> io::Result<()>
     requires { length f.now ≤ longest_format }
 {
     let mut at = 0;
@@ -117,11 +119,10 @@ fn tell_first_bad(f: &[u8])
     loop {
         let stop = element_end(f, at);
         if stop == f.len() {
-            tell_bad(f, at, n);
-            return;
+            return tell_bad(err, f, at, n);
         }
         if format_buffer::syntax::is_last(f, stop) {
-            return;
+            return Ok(());
         }
         at = stop + 1;
         n += 1;
@@ -129,22 +130,20 @@ fn tell_first_bad(f: &[u8])
 }
 
 // What is bad about the syntax.
-fn tell_syntax(f: &[u8]) {
+fn tell_syntax(err: &impl Print, f: &[u8]) -> io::Result<()> {
     if rules::LONGEST_FORMAT < f.len() {
-        tell(b"  it is over 2,048 bytes\n");
-        return;
+        return tell(err, b"  it is over 2,048 bytes\n");
     }
     if has_period(f) {
-        tell_first_bad(f);
-        return;
+        return tell_first_bad(err, f);
     }
-    tell(b"  no period ends it\n");
+    tell(err, b"  no period ends it\n")
 }
 
 // The elements before a place, ended by a period; how many bytes they take.
 fn put_first(f: &[u8], stop: usize, area: &mut [u8]) -> usize
     requires { (stop < length f.now) × (stop < length area.old) }
-    ensures { IsPrefixLen result area.new }
+    ensures { result ≤ length area.new }
 {
     buffer::put(&f[..stop], area, 0);
     area[stop] = PERIOD;
@@ -170,7 +169,15 @@ fn number_upto(
 }
 
 // The first element with which the call is refused with this number: the refusals that come before it are those of earlier elements.
-fn tell_element(service: Service, t: &[u8], record: &[u8], f: &[u8], values: &[u8], number: u8)
+fn tell_element(
+    err: &impl Print,
+    service: Service,
+    t: &[u8],
+    record: &[u8],
+    f: &[u8],
+    values: &[u8],
+    number: u8,
+) -> io::Result<()>
     requires { length f.now ≤ longest_format }
 {
     let mut at = 0;
@@ -178,15 +185,14 @@ fn tell_element(service: Service, t: &[u8], record: &[u8], f: &[u8], values: &[u
     loop {
         let stop = element_end(f, at);
         if stop == f.len() {
-            return;
+            return Ok(());
         }
         if number_upto(service, t, record, f, values, stop) == number {
-            tell(b"  ");
-            write_element(STDERR_FILENO, f, at, stop, n);
-            return;
+            tell(err, b"  ")?;
+            return write_element(err, f, at, stop, n);
         }
         if format_buffer::syntax::is_last(f, stop) {
-            return;
+            return Ok(());
         }
         at = stop + 1;
         n += 1;
@@ -194,34 +200,39 @@ fn tell_element(service: Service, t: &[u8], record: &[u8], f: &[u8], values: &[u
 }
 
 // How long the value is that a read did not hold, where a length is said.
-fn tell_needed(needed: u8) {
+fn tell_needed(err: &impl Print, needed: u8) -> io::Result<()> {
     if 0 < needed {
-        tell(b"  needs length ");
-        plain::write_number(STDERR_FILENO, needed as usize);
-        tell(b"\n");
+        tell(err, b"  needs length ")?;
+        plain::write_number(err, needed as usize)?;
+        tell(err, b"\n")?;
     }
+    Ok(())
 }
 
 // Refusals 3 to 9 are about an element. A format that is too long is refused with 3.
-pub(crate) fn refuse(service: Service, t: &[u8], record: &[u8], f: &[u8], values: &[u8], a: Reply) {
+pub(crate) fn refuse(
+    err: &impl Print,
+    service: Service,
+    t: &[u8],
+    record: &[u8],
+    f: &[u8],
+    values: &[u8],
+    a: Reply,
+) -> io::Result<()> {
     let number = a.number;
-    tell(b"refused with ");
-    plain::write_number(STDERR_FILENO, number as usize);
-    tell(b": ");
-    tell_meaning(number);
-    plain::end(plain::REFUSED);
+    tell(err, b"refused with ")?;
+    plain::write_number(err, number as usize)?;
+    tell(err, b": ")?;
+    tell_meaning(err, number)?;
     match number {
-        3 => {
-            tell_syntax(f);
-        }
+        3 => tell_syntax(err, f),
         4..=9 => {
             if f.len() <= rules::LONGEST_FORMAT {
-                tell_element(service, t, record, f, values, number);
-                tell_needed(a.needed);
+                tell_element(err, service, t, record, f, values, number)?;
+                tell_needed(err, a.needed)?;
             }
+            Ok(())
         }
-        _ => {
-            return;
-        }
+        _ => Ok(()),
     }
 }

@@ -2,15 +2,27 @@
 // Each function says whether the record has come there and words about it may follow.
 ghost use Rattle.std.specs.Prelude.{◌+◌};
 
+use crate::plain::Ended;
 use crate::{hexadecimal, plain, words};
+use std::fs::{OpenFile, OpenOptions};
+use std::io::Write;
+use std::rt::{Env, Files};
+use std::{fs, io};
 
 // The room for a path, which leaves enough for the new file's.
 const PATH: usize = 4000;
 
-fn failed(path: &[u8]) -> bool {
-    os::fail(path);
-    plain::complain_of(path, b" cannot be written, and nothing was changed");
-    false
+// What became of a new record: words about it may follow, or the call has ended.
+#[derive(Clone, Copy)]
+pub enum Given {
+    Told,
+    Over(Ended),
+}
+
+fn failed(err: &impl Print, path: &[u8], why: io::Error) -> io::Result<bool> {
+    plain::fail(err, path, why)?;
+    plain::complain_of(err, path, b" cannot be written, and nothing was changed")?;
+    Ok(false)
 }
 
 // Devices and the like cannot be replaced by a file.
@@ -21,83 +33,130 @@ fn is_special(path: &[u8]) -> bool {
     false
 }
 
-// Writes a new file; whether it is whole.
-fn fill(fd: i32, record: &[u8]) -> bool {
-    let written = io::write_all(fd, record);
-    let kept = libc::fsync(fd);
-    let closed = libc::close(fd);
-    if written {
-        if kept == 0 {
-            return closed == 0;
-        }
+// A new file, where nothing has its name.
+fn create<R: Files>(rt: &R, path: &[u8]) -> io::Result<R::File> {
+    let mut options = OpenOptions::new();
+    options.write(true).create_new(true);
+    options.open(rt, words::name(path)?)
+}
+
+// Writes a new file, and sees that the system keeps it.
+fn fill(mut file: impl Write + OpenFile + Drop, record: &[u8]) -> io::Result<()> {
+    file.write_all(record)?;
+    file.sync_all()
+}
+
+fn rename(rt: &impl Files, from: &[u8], to: &[u8]) -> io::Result<()> {
+    fs::rename(rt, words::name(from)?, words::name(to)?)
+}
+
+// Takes a new file away again. If that fails too, the file stays where it is.
+fn remove(rt: &impl Files, path: &[u8]) {
+    if let Ok(path) = words::name(path) {
+        let _ = fs::remove_file(rt, path);
     }
-    false
 }
 
 // The new file takes the place of the old one, or goes away again.
-fn put_in_place(new: &[u8], path: &[u8], record: &[u8]) -> bool {
-    if os::rename(new, path) != 0 {
-        failed(path);
-        os::unlink(new);
-        return false;
+fn put_in_place(
+    rt: &impl Files,
+    out: &impl Print,
+    err: &impl Print,
+    new: &[u8],
+    path: &[u8],
+    record: &[u8],
+) -> io::Result<bool> {
+    if let Err(why) = rename(rt, new, path) {
+        let told = failed(err, path, why);
+        remove(rt, new);
+        return told;
     }
-    plain::say_counted(record.len(), b"byte");
-    plain::say(b" written to ");
-    plain::say(path);
-    plain::say(b"\n");
-    true
+    plain::say_counted(out, record.len(), b"byte")?;
+    plain::say(out, b" written to ")?;
+    plain::say(out, path)?;
+    plain::say(out, b"\n")?;
+    Ok(true)
 }
 
-fn replace(new: &[u8], path: &[u8], record: &[u8]) -> bool {
-    let fd = os::create(new);
-    if fd < 0 {
-        return failed(new);
+fn replace(
+    rt: &impl Files,
+    out: &impl Print,
+    err: &impl Print,
+    new: &[u8],
+    path: &[u8],
+    record: &[u8],
+) -> io::Result<bool> {
+    match create(rt, new) {
+        Ok(file) => {
+            if let Err(why) = fill(file, record) {
+                let told = failed(err, new, why);
+                remove(rt, new);
+                return told;
+            }
+            put_in_place(rt, out, err, new, path, record)
+        }
+        Err(why) => failed(err, new, why),
     }
-    if fill(fd, record) {
-        return put_in_place(new, path, record);
-    }
-    failed(new);
-    os::unlink(new);
-    false
 }
 
-fn save(path: &[u8], record: &[u8]) -> bool {
+fn save(
+    rt: &impl Files,
+    out: &impl Print,
+    err: &impl Print,
+    path: &[u8],
+    record: &[u8],
+) -> io::Result<bool> {
     if is_special(path) {
-        plain::complain_of(path, b" is not a file: use - for standard output");
-        return false;
+        plain::complain_of(err, path, b" is not a file: use - for standard output")?;
+        return Ok(false);
     }
-    let mut new = io::buffer();
+    let mut new = [0u8; words::PATH];
     let end = path.len();
     if end <= PATH {
         buffer::put(path, &mut new, 0);
         buffer::put(b".new", &mut new, end);
         let whole = end + 4;
-        return replace(&new[..whole], path, record);
+        return replace(rt, out, err, &new[..whole], path, record);
     }
-    plain::complain(b"the name of a file is too long");
-    false
+    plain::complain(err, b"the name of a file is too long")?;
+    Ok(false)
 }
 
 // To the file of this name; `-` is standard output, where the bytes of the record stand alone for the program that reads them.
-fn give_to(path: &[u8], record: &[u8]) -> bool {
+fn give_to(
+    rt: &impl Files,
+    out: &impl Print,
+    err: &impl Print,
+    path: &[u8],
+    record: &[u8],
+) -> io::Result<Given> {
     if words::same(path, b"-") {
-        plain::say(record);
-        return false;
+        plain::say(out, record)?;
+        return Ok(Given::Over(Ended::Done));
     }
-    save(path, record)
+    if save(rt, out, err, path, record)? {
+        return Ok(Given::Told);
+    }
+    Ok(Given::Over(Ended::Wrong))
 }
 
 // Hexadecimal to standard output; or, where word i is `-o`, to what the next word names.
-pub(crate) fn give(record: &[u8], i: usize) -> bool {
-    if os::arg_count() <= i {
-        hexadecimal::say_line(record);
-        return true;
+pub(crate) fn give(
+    rt: &(impl Env + Files),
+    out: &impl Print,
+    err: &impl Print,
+    record: &[u8],
+    i: usize,
+) -> io::Result<Given> {
+    if words::count(rt) <= i {
+        hexadecimal::say_line(out, record)?;
+        return Ok(Given::Told);
     }
-    let mut name = io::buffer();
-    let given = words::word(i + 1, &mut name);
+    let mut name = [0u8; words::PATH];
+    let given = words::word(rt, err, i + 1, &mut name)?;
     let used = given.used;
     if given.good {
-        return give_to(&name[..used], record);
+        return give_to(rt, out, err, &name[..used], record);
     }
-    false
+    Ok(Given::Over(Ended::Wrong))
 }

@@ -5,12 +5,21 @@ ghost use Rattle.tables.specs.Entries.{Valid, entries_of};
 use crate::listing::Manner;
 use crate::{listing, values_shown};
 use format_buffer::{AS_WRITTEN, LAST_ALONE};
+use std::io;
 use tables::Found;
 use uses::Span;
 use uses::scopes::{resolved_from, resolved_upto};
 
 // The values of entry i that are meant in occurrence o; without a record, as they are written.
-fn say_values_meant(t: &[u8], record: &[u8], i: usize, o: usize, s: Span, m: Manner)
+fn say_values_meant(
+    out: &impl Print,
+    t: &[u8],
+    record: &[u8],
+    i: usize,
+    o: usize,
+    s: Span,
+    m: Manner,
+) -> io::Result<()>
     requires { Valid t.now × (i < length (entries_of t.now)) }
 {
     if m.valued {
@@ -18,22 +27,29 @@ fn say_values_meant(t: &[u8], record: &[u8], i: usize, o: usize, s: Span, m: Man
             let n = values_shown::count(t, record, i, o);
             let from = resolved_from(m.value_scope, s.value_from, s.value_upto, n);
             let upto = resolved_upto(m.value_scope, s.value_from, s.value_upto, n);
-            listing::say_values(t, record, i, o, from, upto, m);
-            return;
+            return listing::say_values(out, t, record, i, o, from, upto, m);
         }
     }
-    listing::say_values(t, record, i, o, s.value_from, s.value_upto, m);
+    listing::say_values(out, t, record, i, o, s.value_from, s.value_upto, m)
 }
 
 // The values of one field in several occurrences.
-fn say_field(t: &[u8], record: &[u8], i: usize, s: Span, m: Manner)
+fn say_field(
+    out: &impl Print,
+    t: &[u8],
+    record: &[u8],
+    i: usize,
+    s: Span,
+    m: Manner,
+) -> io::Result<()>
     requires { Valid t.now × (i < length (entries_of t.now)) }
 {
     let from = s.from;
     let upto = s.upto;
     for o in from..=upto {
-        say_values_meant(t, record, i, o, s, m);
+        say_values_meant(out, t, record, i, o, s, m)?;
     }
+    Ok(())
 }
 
 // How many occurrences a record has of the periodic group in which entry i lies.
@@ -74,31 +90,46 @@ fn span_meant(t: &[u8], record: &[u8], s: Span, m: Manner) -> Span
 }
 
 // What a span names, in its order.
-fn say_span_meant(t: &[u8], record: &[u8], s: Span, m: Manner)
+fn say_span_meant(out: &impl Print, t: &[u8], record: &[u8], s: Span, m: Manner) -> io::Result<()>
     requires { Valid t.now × (s.first < length (entries_of t.now)) }
 {
     if s.standard {
         if s.end <= tables::count(t) {
-            listing::say_occurrences(t, record, s.first, s.end, s.from, s.upto, m);
+            listing::say_occurrences(out, t, record, s.first, s.end, s.from, s.upto, m)?;
         }
-        return;
+        return Ok(());
     }
-    say_field(t, record, s.first, s, m);
+    say_field(out, t, record, s.first, s, m)
 }
 
-pub(crate) fn say_span(t: &[u8], record: &[u8], s: Span, m: Manner)
+pub(crate) fn say_span(
+    out: &impl Print,
+    t: &[u8],
+    record: &[u8],
+    s: Span,
+    m: Manner,
+) -> io::Result<()>
     requires { Valid t.now }
 {
     if s.first < tables::count(t) {
-        say_span_meant(t, record, span_meant(t, record, s, m), m);
+        say_span_meant(out, t, record, span_meant(t, record, s, m), m)?;
     }
+    Ok(())
 }
 
 // The count of entry i in the occurrence that is meant.
-pub(crate) fn say_count_meant(t: &[u8], record: &[u8], i: usize, o: usize, m: Manner)
+pub(crate) fn say_count_meant(
+    out: &impl Print,
+    t: &[u8],
+    record: &[u8],
+    i: usize,
+    o: usize,
+    m: Manner,
+) -> io::Result<()>
     requires { Valid t.now }
 {
     if i < tables::count(t) {
-        listing::say_count(t, record, i, upto_meant(t, record, i, o, o, m), m);
+        listing::say_count(out, t, record, i, upto_meant(t, record, i, o, o, m), m)?;
     }
+    Ok(())
 }

@@ -3,80 +3,70 @@ ghost use Rattle.std.specs.Prelude.{◌<◌, length};
 ghost use Rattle.tables.specs.Entries.{Valid, entries_of};
 
 use crate::{letters, plain};
+use std::io;
 
 // The name of a format.
-fn say_letter(format: usize) {
+fn say_letter(out: &impl Print, format: usize) -> io::Result<()> {
     match format {
-        value_formats::ALPHA => {
-            plain::say(b"alphanumeric, ");
-        }
-        value_formats::BINARY => {
-            plain::say(b"binary, ");
-        }
-        value_formats::FIXED => {
-            plain::say(b"fixed point, ");
-        }
-        value_formats::PACKED => {
-            plain::say(b"packed, ");
-        }
-        _ => {
-            plain::say(b"unpacked, ");
-        }
+        value_formats::ALPHA => plain::say(out, b"alphanumeric, "),
+        value_formats::BINARY => plain::say(out, b"binary, "),
+        value_formats::FIXED => plain::say(out, b"fixed point, "),
+        value_formats::PACKED => plain::say(out, b"packed, "),
+        _ => plain::say(out, b"unpacked, "),
     }
 }
 
-pub(crate) fn say_format(format: usize, size: usize) {
-    say_letter(format);
+pub(crate) fn say_format(out: &impl Print, format: usize, size: usize) -> io::Result<()> {
+    say_letter(out, format)?;
     if size == 0 {
-        plain::say(b"variable length");
-        return;
+        return plain::say(out, b"variable length");
     }
-    plain::say_counted(size, b"byte");
+    plain::say_counted(out, size, b"byte")
 }
 
 // What an entry is.
-fn say_what(t: &[u8], i: usize)
+fn say_what(out: &impl Print, t: &[u8], i: usize) -> io::Result<()>
     requires { Valid t.now × (i < length (entries_of t.now)) }
 {
     if tables::periodic_at(t, i) {
-        plain::say(b"periodic group\n");
-        return;
+        return plain::say(out, b"periodic group\n");
     }
     if tables::group_at(t, i) {
-        plain::say(b"group\n");
-        return;
+        return plain::say(out, b"group\n");
     }
     let e = tables::entry_at(t, i);
-    say_format(e.format as usize, e.size as usize);
+    say_format(out, e.format as usize, e.size as usize)?;
     if e.multiple {
-        plain::say(b", multiple-value field");
+        plain::say(out, b", multiple-value field")?;
     }
-    plain::say(b"\n");
+    plain::say(out, b"\n")
 }
 
-fn say_entry(t: &[u8], i: usize)
+fn say_entry(out: &impl Print, t: &[u8], i: usize) -> io::Result<()>
     requires { Valid t.now × (i < length (entries_of t.now)) }
 {
     let e = tables::entry_at(t, i);
-    plain::indent(e.level);
-    plain::say_number(e.level as usize);
-    plain::say(b" ");
-    letters::say_name(e.name);
-    plain::say(b"  ");
-    say_what(t, i);
+    plain::indent(out, e.level)?;
+    plain::say_number(out, e.level as usize)?;
+    plain::say(out, b" ")?;
+    letters::say_name(out, e.name)?;
+    plain::say(out, b"  ")?;
+    say_what(out, t, i)
 }
 
-fn say_table(t: &[u8])
+fn say_table(out: &impl Print, t: &[u8]) -> io::Result<()>
     requires { Valid t.now }
 {
     let n = tables::count(t);
     for i in 0..n {
-        say_entry(t, i);
+        say_entry(out, t, i)?;
     }
+    Ok(())
 }
 
-pub(crate) fn show(t: &[u8]) {
+pub(crate) fn show(out: &impl Print, t: &[u8]) -> io::Result<()> {
     if tables::valid(t) {
-        say_table(t);
+        say_table(out, t)?;
     }
+    Ok(())
 }

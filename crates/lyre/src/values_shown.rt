@@ -4,6 +4,7 @@ ghost use Rattle.tables.specs.Entries.{Valid, entries_of};
 
 use crate::elements::SIZE;
 use crate::{asking, elements, hexadecimal, letters, plain};
+use std::io;
 
 // Room for the longest value, with its length byte.
 const ROOM: usize = 256;
@@ -77,70 +78,81 @@ fn first_digit(digits: &[u8], last: usize) -> usize
     i
 }
 
-fn say_digit(b: u8) {
-    plain::say(&[b'0' + b % 16]);
+fn say_digit(out: &impl Print, b: u8) -> io::Result<()> {
+    plain::say(out, &[b'0' + b % 16])
 }
 
-fn say_digits(digits: &[u8]) {
+fn say_digits(out: &impl Print, digits: &[u8]) -> io::Result<()> {
     for i in 0..digits.len() {
-        say_digit(digits[i]);
+        say_digit(out, digits[i])?;
     }
+    Ok(())
 }
 
 // Unpacked digits, without leading zeros. The sign is in the high half of the last.
-fn say_unpacked(digits: &[u8]) {
+fn say_unpacked(out: &impl Print, digits: &[u8]) -> io::Result<()> {
     let n = digits.len();
     if n == 0 {
-        return;
+        return Ok(());
     }
     let last = n - 1;
     if digits[last] / 16 == MINUS {
-        plain::say(b"-");
+        plain::say(out, b"-")?;
     }
     let first = first_digit(digits, last);
-    say_digits(&digits[first..]);
+    say_digits(out, &digits[first..])
 }
 
-fn say_text(t: &[u8], record: &[u8], f: [u8; SIZE]) {
+fn say_text(out: &impl Print, t: &[u8], record: &[u8], f: [u8; SIZE]) -> io::Result<()> {
     let f = elements::variable(f);
     let mut room = [0u8; ROOM];
     let a = asking::read(t, record, &f, &mut room);
     let used = a.used;
     if 0 < used {
-        letters::say_quoted(&room[1..used]);
+        letters::say_quoted(out, &room[1..used])?;
     }
+    Ok(())
 }
 
-fn say_stored(t: &[u8], record: &[u8], f: [u8; SIZE]) {
+fn say_stored(out: &impl Print, t: &[u8], record: &[u8], f: [u8; SIZE]) -> io::Result<()> {
     let mut room = [0u8; ROOM];
     let a = asking::read(t, record, &f, &mut room);
     let used = a.used;
-    plain::say(b"hexadecimal ");
-    hexadecimal::say_bytes(&room[..used]);
+    plain::say(out, b"hexadecimal ")?;
+    hexadecimal::say_bytes(out, &room[..used])
 }
 
 // A number; one that does not convert, as it is stored.
-fn say_number(t: &[u8], record: &[u8], f: [u8; SIZE]) {
+fn say_number(out: &impl Print, t: &[u8], record: &[u8], f: [u8; SIZE]) -> io::Result<()> {
     let digits = elements::unpacked(f);
     let mut room = [0u8; ROOM];
     let a = asking::read(t, record, &digits, &mut room);
     let used = a.used;
     if a.number == 0 {
-        say_unpacked(&room[..used]);
+        say_unpacked(out, &room[..used])?;
     } else {
-        say_stored(t, record, f);
+        say_stored(out, t, record, f)?;
     }
+    Ok(())
 }
 
 // Value k of entry i in occurrence o.
-pub(crate) fn say_value(t: &[u8], record: &[u8], i: usize, o: usize, k: usize)
+pub(crate) fn say_value(
+    out: &impl Print,
+    t: &[u8],
+    record: &[u8],
+    i: usize,
+    o: usize,
+    k: usize,
+) -> io::Result<()>
     requires { Valid t.now × (i < length (entries_of t.now)) }
 {
     let e = tables::entry_at(t, i);
     let f = occurrence(t, i, o, k);
     if e.format as usize == value_formats::ALPHA {
-        say_text(t, record, f);
+        say_text(out, t, record, f)?;
     } else {
-        say_number(t, record, f);
+        say_number(out, t, record, f)?;
     }
+    Ok(())
 }

@@ -1,11 +1,17 @@
 // The words of the command line, and the files that they name, each into an area.
-ghost use Rattle.io.specs.Counts.{IsPrefixLen};
-ghost use Rattle.std.specs.Prelude.{◌≤◌, length};
+ghost use Rattle.std.specs.Prelude.{◌≤◌, length, IfOk};
 
 use crate::{hexadecimal, letters, plain};
+use std::env::FillError;
+use std::io::{ErrorKind, Read};
+use std::rt::{Env, Files};
+use std::{fs, io, str};
 
 // The first byte of a table and of a record.
 const HEAD: u8 = 0xE5;
+
+// The longest name of a file that is taken.
+pub const PATH: usize = 4096;
 
 // What a word gave: the bytes at the front of an area. Where it gave nothing good, a message has said so.
 #[derive(Clone, Copy)]
@@ -22,38 +28,58 @@ pub(crate) fn same(word: &[u8], text: &[u8]) -> bool {
     false
 }
 
+// How many words the command line has, the program's own name among them.
+pub(crate) fn count(env: &impl Env) -> usize {
+    for i in 0..usize::MAX {
+        if let Err(FillError::NotPresent) = env.arg(i, &mut []) {
+            return i;
+        }
+    }
+    usize::MAX
+}
+
+// Word i to an area, and its length; 0 where there is none, or where it is longer than the area.
+pub(crate) fn short(env: &impl Env, i: usize, area: &mut [u8]) -> usize
+    ensures { result ≤ length area.new }
+{
+    match env.arg(i, area) {
+        Ok(used) => used,
+        Err(_) => 0,
+    }
+}
+
 // Whether word i is this one.
-pub(crate) fn is(i: usize, text: &[u8]) -> bool {
+pub(crate) fn is(env: &impl Env, i: usize, text: &[u8]) -> bool {
     let mut area = [0u8; 8];
-    let used = os::arg(i, &mut area);
+    let used = short(env, i, &mut area);
     same(&area[..used], text)
 }
 
 // No bytes: none were asked for, or a message has said what is wrong.
 pub(crate) fn nothing(area: &[u8], good: bool) -> Input
-    ensures { IsPrefixLen result.used area.now }
+    ensures { result.used ≤ length area.now }
 {
     Input { good, used: 0 }
 }
 
 // Word i, as it is.
-pub(crate) fn word(i: usize, area: &mut [u8]) -> Input
-    ensures { IsPrefixLen result.used area.new }
+pub(crate) fn word(env: &impl Env, err: &impl Print, i: usize, area: &mut [u8]) -> io::Result<Input>
+    ensures { IfOk result (λ given. given.used ≤ length area.new) }
 {
-    let used = os::arg(i, area);
-    if os::errno() == 0 {
-        return Input { good: true, used };
+    if let Ok(used) = env.arg(i, area) {
+        return Ok(Input { good: true, used });
     }
     plain::complain(
+        err,
         b"a word is too long: a format has up to 8,192 characters, the values up to 131,072",
-    );
-    nothing(area, false)
+    )?;
+    Ok(nothing(area, false))
 }
 
 // Each character of a format in EBCDIC, in its place.
 fn translate(area: &mut [u8], used: usize) -> bool
     requires { used ≤ length area.old }
-    ensures { IsPrefixLen used area.new }
+    ensures { used ≤ length area.new }
 {
     for i in 0..used {
         let code = letters::ebcdic_of(area[i]);
@@ -66,73 +92,126 @@ fn translate(area: &mut [u8], used: usize) -> bool
 }
 
 // Word i, a format.
-pub(crate) fn format(i: usize, area: &mut [u8]) -> Input
-    ensures { IsPrefixLen result.used area.new }
+pub(crate) fn format(
+    env: &impl Env,
+    err: &impl Print,
+    i: usize,
+    area: &mut [u8],
+) -> io::Result<Input>
+    ensures { IfOk result (λ given. given.used ≤ length area.new) }
 {
-    let given = word(i, area);
+    let given = word(env, err, i, area)?;
     let used = given.used;
     if !given.good {
-        return nothing(area, false);
+        return Ok(nothing(area, false));
     }
     if translate(area, used) {
-        return Input { good: true, used };
+        return Ok(Input { good: true, used });
     }
     plain::complain(
+        err,
         b"the format has a character that EBCDIC 037 does not print: use printable ASCII",
-    );
-    nothing(area, false)
+    )?;
+    Ok(nothing(area, false))
 }
 
 // Word i, bytes in hexadecimal.
-pub(crate) fn bytes(i: usize, area: &mut [u8]) -> Input
-    ensures { IsPrefixLen result.used area.new }
+pub(crate) fn bytes(
+    env: &impl Env,
+    err: &impl Print,
+    i: usize,
+    area: &mut [u8],
+) -> io::Result<Input>
+    ensures { IfOk result (λ given. given.used ≤ length area.new) }
 {
-    let given = word(i, area);
+    let given = word(env, err, i, area)?;
     let used = given.used;
     if !given.good {
-        return nothing(area, false);
+        return Ok(nothing(area, false));
     }
     let bytes = hexadecimal::decode(area, used);
     if !bytes.good {
         plain::complain(
+            err,
             b"the values are not hexadecimal: use pairs of digits, as in 'F5F0 00150F'",
-        );
+        )?;
     }
-    bytes
+    Ok(bytes)
 }
 
-// A file by its name, or standard input by `-`.
-fn open(path: &[u8]) -> i32 {
-    if same(path, b"-") {
-        return libc::STDIN_FILENO;
+// The name of a file as text, which the system's calls take.
+pub(crate) fn name(path: &[u8]) -> io::Result<&str> {
+    match str::from_utf8(path) {
+        Ok(text) => Ok(text),
+        Err(_) => Err(io::Error::new(ErrorKind::InvalidFilename, "The name is not UTF-8")),
     }
-    os::open_read(path)
 }
 
-// What a file holds, as it is.
-fn load(path: &[u8], area: &mut [u8]) -> Input
-    ensures { IsPrefixLen result.used area.new }
+// A file by its name.
+fn open<R: Files>(rt: &R, path: &[u8]) -> io::Result<R::File> {
+    fs::open(rt, name(path)?)
+}
+
+// Reads to the front of an area, until it is full or nothing more comes; how many bytes came.
+fn read_full(source: &mut impl Read, area: &mut [u8]) -> io::Result<usize>
+    ensures { IfOk result (λ used. used ≤ length area.new) }
 {
-    let fd = open(path);
-    if fd < 0 {
-        os::fail(path);
-        plain::complain_of(
-            path,
-            b" cannot be opened: name a file, or - for standard input",
-        );
-        return nothing(area, false);
+    let mut done = 0;
+    while done < area.len() {
+        let got = source.read(&mut area[done..])?;
+        if got == 0 {
+            break;
+        }
+        done += got;
     }
-    let used = io::read_full(fd, area);
-    libc::close(fd);
+    Ok(done)
+}
+
+// What was read of a file. One that fills the area may be longer.
+fn loaded(err: &impl Print, path: &[u8], area: &[u8], read: io::Result<usize>) -> io::Result<Input>
+    requires { IfOk read (λ used. used ≤ length area.now) }
+    ensures { IfOk result (λ given. given.used ≤ length area.now) }
+{
+    let used = read.unwrap_or(0);
     if used == 0 {
-        plain::complain_of(path, b" is empty or cannot be read");
-        return nothing(area, false);
+        plain::complain_of(err, path, b" is empty or cannot be read")?;
+        return Ok(nothing(area, false));
     }
     if used == area.len() {
-        plain::complain_of(path, b" is too long: a file has up to 65,535 bytes");
-        return nothing(area, false);
+        plain::complain_of(err, path, b" is too long: a file has up to 65,535 bytes")?;
+        return Ok(nothing(area, false));
     }
-    Input { good: true, used }
+    Ok(Input { good: true, used })
+}
+
+// What a file holds by its name, or standard input by `-`, as it is.
+fn load(
+    rt: &(impl Files + io::Input),
+    err: &impl Print,
+    path: &[u8],
+    area: &mut [u8],
+) -> io::Result<Input>
+    ensures { IfOk result (λ given. given.used ≤ length area.new) }
+{
+    if same(path, b"-") {
+        let read = read_full(&mut rt.reader(), area);
+        return loaded(err, path, area, read);
+    }
+    match open(rt, path) {
+        Ok(mut file) => {
+            let read = read_full(&mut file, area);
+            loaded(err, path, area, read)
+        }
+        Err(why) => {
+            plain::fail(err, path, why)?;
+            plain::complain_of(
+                err,
+                path,
+                b" cannot be opened: name a file, or - for standard input",
+            )?;
+            Ok(nothing(area, false))
+        }
+    }
 }
 
 fn is_binary(bytes: &[u8]) -> bool {
@@ -143,30 +222,36 @@ fn is_binary(bytes: &[u8]) -> bool {
 }
 
 // Word i, a file with a table or a record, in binary or in hexadecimal.
-pub(crate) fn file(i: usize, area: &mut [u8]) -> Input
-    ensures { IsPrefixLen result.used area.new }
+pub(crate) fn file(
+    rt: &(impl Env + Files + io::Input),
+    err: &impl Print,
+    i: usize,
+    area: &mut [u8],
+) -> io::Result<Input>
+    ensures { IfOk result (λ given. given.used ≤ length area.new) }
 {
-    let mut name = io::buffer();
-    let given = word(i, &mut name);
+    let mut name = [0u8; PATH];
+    let given = word(rt, err, i, &mut name)?;
     let end = given.used;
     if !given.good {
-        return nothing(area, false);
+        return Ok(nothing(area, false));
     }
     let path = &name[..end];
-    let given = load(path, area);
+    let given = load(rt, err, path, area)?;
     let used = given.used;
     if !given.good {
-        return given;
+        return Ok(given);
     }
     if is_binary(area) {
-        return given;
+        return Ok(given);
     }
     let bytes = hexadecimal::decode(area, used);
     if !bytes.good {
         plain::complain_of(
+            err,
             path,
             b" is neither binary, with E5 first, nor hexadecimal digits in pairs",
-        );
+        )?;
     }
-    bytes
+    Ok(bytes)
 }
