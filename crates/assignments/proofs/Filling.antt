@@ -10,7 +10,7 @@ use lib.Seq.{get_or-set_same, get_or-set_other}
 use Rattle.rules.specs.Outcome.{done}
 use Rattle.rules.specs.Lists.{Bytes, join, run}
 use Rattle.rules.specs.Values.{Format}
-use Rattle.rules.specs.Table.{field, Entry}
+use Rattle.rules.specs.Table.{Entry}
 use Rattle.rules.specs.Record.{times, stored_value}
 use Rattle.rules.specs.Use.{Place}
 use Rattle.rules.specs.Update.{Assignment}

@@ -10,7 +10,7 @@ use lib.Seq.{drop-append_seam}
 use Rattle.rules.specs.Outcome.{done, ◌>>=◌, is_done}
 use Rattle.rules.specs.Lists.{Bytes, bytes_of, run, join, cut}
 use Rattle.rules.specs.Values.{Format, allowed, first_value, converted_bytes}
-use Rattle.rules.specs.Table.{field, Field, Entry}
+use Rattle.rules.specs.Table.{Field, Entry}
 use Rattle.rules.specs.Use.{Item, blanks_item, text_item, group_count, value_count, value_item, Asked, as_stored, items_of, items, value_items}
 use Rattle.rules.specs.Update.{Assignment}
 use Rattle.rules.proofs.Steps.{from_bind, from_done, by_test}

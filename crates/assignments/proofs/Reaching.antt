@@ -2,7 +2,6 @@
 use mathlib.Core.Path.{◌≡◌, sym, ap, ◌∙◌}
 use mathlib.Core.Bool.{false}
 use mathlib.Core.List.{List, []}
-use mathlib.Core.Option.{none}
 use Prim.Native.Nat.{ℕ, zero, suc, ◌+◌, ◌-◌, ◌≤◌, ◌<◌, max}
 use native.Mathlib.Omega.{arith}
 use lib.ListN.{length, get_or, take, drop_of_length-le}
@@ -16,7 +15,7 @@ use Rattle.buffer.proofs.Cases.{by_order}
 use Rattle.tables.specs.Entries.{blank, is_group}
 use Rattle.tables.specs.Groups.{fields_in}
 use Rattle.uses.specs.Kept.{use_at}
-use Rattle.assignments.specs.Notes.{chains, highest_noted, use_reach, Indexed}
+use Rattle.assignments.specs.Notes.{highest_noted, use_reach, Indexed}
 use Rattle.assignments.proofs.Heights.{maximum_within, maximum_met, height, to_name, height_within, height_above, among, fields_height, no_height, first_field_height, first_group_height, part_height}
 use Rattle.assignments.proofs.UseNames.{use_small, use_met}
 use Rattle.assignments.proofs.Cells.{none_given, none_above, given_some}

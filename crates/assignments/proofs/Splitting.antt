@@ -24,7 +24,6 @@ use Rattle.tables.proofs.Climbs.{Climb, climb_start, climb_up, climb_home}
 use Rattle.uses.specs.Meant.{fields_from, asked_of, use_meant, GoodSpan}
 use Rattle.uses.specs.Kept.{use_at, uses_kept}
 use Rattle.uses.specs.declared.Span.{Span}
-use Rattle.uses.specs.declared.Use.{Use}
 use Rattle.uses.proofs.SpanFields.{asked_one, asked_stored, no_entry, field_entry, group_entry}
 use Rattle.assignments.proofs.Given.{AllowedFields}
 

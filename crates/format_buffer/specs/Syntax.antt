@@ -9,7 +9,6 @@ use Rattle.rules.specs.Format.{texts, settled, completed, assembled}
 use Rattle.format_buffer.specs.Elements.{element_of, named_of, sound, shortest_element}
 use Rattle.format_buffer.specs.Texts.{rest}
 use Rattle.format_buffer.specs.declared.Named.{Named}
-use Rattle.format_buffer.specs.declared.Element.{Element}
 use Rattle.format_buffer.specs.declared.syntax.Step.{Step}
 use Rattle.format_buffer.specs.declared.syntax.Step.TheVariants.{At, Bad}
 

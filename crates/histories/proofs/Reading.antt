@@ -1,7 +1,7 @@
 -- A read of one item: a value at its standard length and format reads as it is stored, and a count as a byte.
 use mathlib.Core.Path.{◌≡◌, refl}
 use mathlib.Core.List.{List, [], ◌∷◌, ◌++◌, append-nil}
-use Prim.Native.Nat.{ℕ, zero, suc, ◌-◌, ◌≤◌, min}
+use Prim.Native.Nat.{ℕ, zero, suc, ◌≤◌, min}
 use lib.Dec.{leb, le→leb}
 use lib.ListN.{length}
 use Rattle.rules.specs.Outcome.{done}

@@ -10,7 +10,7 @@ use borrow.Author.Tests.{ne_eqb}
 use lib.Dec.{T, eqb}
 use Rattle.rules.specs.Outcome.{done}
 use Rattle.rules.specs.Lists.{absent, all, filter, join, look_up}
-use Rattle.rules.specs.Table.{field, group, Entry, Field, Part, differ, names, fields_below, parts, member, part_named, part_holding}
+use Rattle.rules.specs.Table.{Entry, Field, Part, differ, names, fields_below, parts, member, part_named, part_holding}
 use Rattle.rules.specs.Format.{Range, Indexing, these, the_last, up_to_the_last, Element, blanks, quoted, named, count, count_in_last, series}
 use Rattle.rules.specs.Use.{Item, blanks_item, text_item, group_count, value_count, value_item, Asked, Use, one, values, over, value_items, items_of, items, find, in_order, just, Spread, spread, Indexes, indexes_after, plain, use_of_group, use_of_field, use_of, ranges_of, is_N, has_N, uses}
 use Rattle.rules.specs.Last.{Scope, as_written, last_alone, up_to_last, scope_of, resolved, Meaning, lies_inside, scoped, Lasts, after_N, is_last, lasts_by, in_full, meaning_of, meanings, Counts, occurrences_stored, item_resolved, use_resolved, items_read}

@@ -1,5 +1,5 @@
 -- Document 01, "The stored record". Every refusal here is 2.
-use Rattle.std.specs.Prelude.{Bool, true, false, List, [], ◌∷◌, ◌++◌, map, ℕ, zero, suc, pred, ◌+◌, eqb, leb, length, take, drop, get_or}
+use Rattle.std.specs.Prelude.{Bool, true, false, List, [], ◌∷◌, ◌++◌, map, ℕ, zero, suc, pred, eqb, leb, length, take, drop, get_or}
 use Rattle.std.proofs.Math.Option.{none, some}
 use Rattle.rules.specs.Outcome.{Outcome, done, refused, by, ◌>>=◌, need, refused_as}
 use Rattle.rules.specs.Limits.{greatest_count, longest_record, record_head_size}

@@ -13,7 +13,7 @@ use lib.Seq.{drop-drop}
 use Rattle.rules.specs.Outcome.{Outcome, done, refused, ◌>>=◌, need, is_done}
 use Rattle.rules.specs.Limits.{entry_size}
 use Rattle.rules.specs.Lists.{Bytes, look_up}
-use Rattle.rules.specs.Characters.{space, letter}
+use Rattle.rules.specs.Characters.{space}
 use Rattle.rules.specs.Values.{Format, allowed}
 use Rattle.rules.specs.Table.{What, field, group, Entry, format_of, format_letters, is_name, name_of, what_of, entries}
 use Rattle.rules.proofs.Steps.{from_bind, from_need, done_inj, not_done, by_test, by_option, T_true, and_left, and_right}

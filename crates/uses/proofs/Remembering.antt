@@ -10,7 +10,7 @@ use lib.ListN.{length, get_or, set, replicate, length-set}
 use lib.Seq.{get_or-set_same, get_or-set_other}
 use Rattle.rules.specs.Limits.{highest_index}
 use Rattle.rules.specs.Lists.{Bytes, filter, look_up}
-use Rattle.rules.specs.Table.{field, Entry}
+use Rattle.rules.specs.Table.{Entry}
 use Rattle.rules.specs.Use.{Asked, Indexes, last_index, indexes_after}
 use Rattle.rules.specs.Last.{Scope, Lasts, after_N, is_last, lasts_by}
 use Rattle.rules.proofs.Steps.{by_test}

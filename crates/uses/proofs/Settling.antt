@@ -13,7 +13,6 @@ use Rattle.rules.specs.Limits.{formats}
 use Rattle.rules.specs.Numbers.{refusal}
 use Rattle.rules.specs.declared.Refusal.TheVariants.{UseRule}
 use Rattle.rules.specs.Lists.{Bytes, absent, all}
-use Rattle.rules.specs.Values.{allowed, converts}
 use Rattle.rules.specs.Table.{What, field, group, Field, Entry, fields_below}
 use Rattle.rules.specs.Format.{Range}
 use Rattle.rules.specs.Use as rules

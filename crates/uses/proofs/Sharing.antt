@@ -7,7 +7,7 @@ use native.Mathlib.Omega.{arith}
 use lib.Dec.{eqb, eqb→eq}
 use lib.ListN.{length, get_or}
 use Rattle.rules.specs.Lists.{Bytes, any}
-use Rattle.rules.specs.Table.{field, Entry}
+use Rattle.rules.specs.Table.{Entry}
 use Rattle.rules.specs.Use.{Asked, as_stored}
 use Rattle.rules.specs.Use as rules
 use Rattle.rules.specs.Update.{meet, share, name_alike}

@@ -55,24 +55,24 @@ loop-n-preserved c =
     let r₁ = naming c.loop-n.highest c.loop-n.bare in
     let turn : (length c.if-names.by ≡ highest_index + 1) × Tallying a.kept.now a.list.now a.stage.now a.chain a.i a.o a.size a.by.now r₀ c.if-names.by (naming c.if-names.highest c.if-names.bare) (next_noted a.list.now (c.loop-n.n - 1)) = elim c.if-names.branch [
       | then-names+then-not-s w ↦
-            turn_in a.kept.now a.list.now a.stage.now a.chain a.i a.o a.size c.requires.0 a.by.now r₀ c.loop-n.by r₁ c.loop-n.n c.loop-n.invariant.2 c.loop-n-test.true c.requires.2.4 c.loop-n.invariant.1
-            (e ∙ w.if-names.true) w.span_at-s.result w.span_at-s.ensures w.cell_start-at.result w.cell_start-at.ensures w.fill.ensures c.if-names.by w.by-is (naming c.if-names.highest c.if-names.bare)
-            (w.highest-is ∙ higher c.loop-n.highest w.span_at-s.result.value_upto w.if-highest-s.highest (elim w.if-highest-s.branch [
-              | then-highest-s u ↦ inl (u.if-highest-s.true, u.highest-is)
-              | else-highest-s u ↦ inr (u.if-highest-s.false, u.highest-is)
-            ]))
-            (w.bare-is ∙ bare_other c.loop-n.bare w.span_at-s.result.bare w.if-not-s.true)
+          turn_in a.kept.now a.list.now a.stage.now a.chain a.i a.o a.size c.requires.0 a.by.now r₀ c.loop-n.by r₁ c.loop-n.n c.loop-n.invariant.2 c.loop-n-test.true c.requires.2.4 c.loop-n.invariant.1
+          (e ∙ w.if-names.true) w.span_at-s.result w.span_at-s.ensures w.cell_start-at.result w.cell_start-at.ensures w.fill.ensures c.if-names.by w.by-is (naming c.if-names.highest c.if-names.bare)
+          (w.highest-is ∙ higher c.loop-n.highest w.span_at-s.result.value_upto w.if-highest-s.highest (elim w.if-highest-s.branch [
+            | then-highest-s u ↦ inl (u.if-highest-s.true, u.highest-is)
+            | else-highest-s u ↦ inr (u.if-highest-s.false, u.highest-is)
+          ]))
+          (w.bare-is ∙ bare_other c.loop-n.bare w.span_at-s.result.bare w.if-not-s.true)
       | then-names+else-not-s w ↦
-            turn_in a.kept.now a.list.now a.stage.now a.chain a.i a.o a.size c.requires.0 a.by.now r₀ c.loop-n.by r₁ c.loop-n.n c.loop-n.invariant.2 c.loop-n-test.true c.requires.2.4 c.loop-n.invariant.1
-            (e ∙ w.if-names.true) w.span_at-s.result w.span_at-s.ensures w.cell_start-at.result w.cell_start-at.ensures w.fill.ensures c.if-names.by w.by-is (naming c.if-names.highest c.if-names.bare)
-            (w.highest-is ∙ higher c.loop-n.highest w.span_at-s.result.value_upto w.if-highest-s.highest (elim w.if-highest-s.branch [
-              | then-highest-s u ↦ inl (u.if-highest-s.true, u.highest-is)
-              | else-highest-s u ↦ inr (u.if-highest-s.false, u.highest-is)
-            ]))
-            (w.bare-is ∙ bare_still c.loop-n.bare w.span_at-s.result.bare w.if-not-s.false)
+          turn_in a.kept.now a.list.now a.stage.now a.chain a.i a.o a.size c.requires.0 a.by.now r₀ c.loop-n.by r₁ c.loop-n.n c.loop-n.invariant.2 c.loop-n-test.true c.requires.2.4 c.loop-n.invariant.1
+          (e ∙ w.if-names.true) w.span_at-s.result w.span_at-s.ensures w.cell_start-at.result w.cell_start-at.ensures w.fill.ensures c.if-names.by w.by-is (naming c.if-names.highest c.if-names.bare)
+          (w.highest-is ∙ higher c.loop-n.highest w.span_at-s.result.value_upto w.if-highest-s.highest (elim w.if-highest-s.branch [
+            | then-highest-s u ↦ inl (u.if-highest-s.true, u.highest-is)
+            | else-highest-s u ↦ inr (u.if-highest-s.false, u.highest-is)
+          ]))
+          (w.bare-is ∙ bare_still c.loop-n.bare w.span_at-s.result.bare w.if-not-s.false)
       | else-names w ↦
-            turn_out a.kept.now a.list.now a.stage.now a.chain a.i a.o a.size c.requires.0 a.by.now r₀ c.loop-n.by r₁ c.loop-n.n c.loop-n.invariant.2 c.loop-n-test.true c.loop-n.invariant.1
-            (e ∙ w.if-names.false) c.if-names.by w.by-is (naming c.if-names.highest c.if-names.bare) (naming_as w.highest-is w.bare-is)
+          turn_out a.kept.now a.list.now a.stage.now a.chain a.i a.o a.size c.requires.0 a.by.now r₀ c.loop-n.by r₁ c.loop-n.n c.loop-n.invariant.2 c.loop-n-test.true c.loop-n.invariant.1
+          (e ∙ w.if-names.false) c.if-names.by w.by-is (naming c.if-names.highest c.if-names.bare) (naming_as w.highest-is w.bare-is)
     ] in
     (walk_room c.requires.2.4.indexed c.requires.0 (turn.1 c.requires.2.0 c.requires.2.1 c.requires.2.2 c.requires.2.3 [] c.requires.2.4).0, turn.0, turn.1)
 

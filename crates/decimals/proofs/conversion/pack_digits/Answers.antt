@@ -1,5 +1,4 @@
 use mathlib.Core.Path.{refl}
-use mathlib.Core.Bool.{true, false}
 use native.Mathlib.Omega.{arith}
 use Rattle.decimals.specs.Decimals.{places, byte_base}
 use Rattle.decimals.proofs.FirstDigits.{unpacked_but_one, first_two_less}

@@ -1,5 +1,4 @@
 use mathlib.Core.Path.{sym}
-use mathlib.Core.Bool.{true}
 use native.Mathlib.Omega.{arith}
 use Rattle.decimals.specs.Decimals.{places}
 use Rattle.decimals.proofs.Spelling.{spelling_start, packed_zero, packed_more, packed_half, spelling_fits}

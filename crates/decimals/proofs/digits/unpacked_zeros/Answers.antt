@@ -1,5 +1,4 @@
 use mathlib.Core.Path.{sym, ◌∙◌}
-use mathlib.Core.Bool.{false}
 use native.Mathlib.Omega.{arith}
 use Rattle.decimals.specs.Decimals.{places}
 use Rattle.decimals.proofs.Halves.{unpacked_at}

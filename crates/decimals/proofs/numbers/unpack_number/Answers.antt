@@ -1,5 +1,4 @@
 use mathlib.Core.Path.{refl}
-use mathlib.Core.Bool.{false}
 use Rattle.decimals.specs.Decimals.{byte_base, inner_written}
 use Rattle.decimals.proofs.Written.{writing_start, writing_turn, writing_end}
 use Rattle.decimals.proofs.numbers.unpack_number.Goals as goal

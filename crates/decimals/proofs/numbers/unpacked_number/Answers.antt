@@ -1,4 +1,3 @@
-use mathlib.Core.Bool.{false}
 use native.Mathlib.Omega.{arith}
 use Rattle.decimals.specs.Decimals.{places}
 use Rattle.decimals.proofs.Spelling.{spelling_start, unpacked_turn, spelling_end}

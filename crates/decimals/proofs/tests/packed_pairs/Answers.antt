@@ -1,4 +1,3 @@
-use mathlib.Core.Bool.{true}
 use native.Mathlib.Omega.{arith}
 use Rattle.buffer.proofs.Loops.{scan_start, scan_turn, scan_stop, scan_end}
 use Rattle.decimals.proofs.Meanings.{pair_digits, pair_high, pair_low}

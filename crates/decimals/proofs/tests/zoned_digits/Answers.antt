@@ -1,4 +1,3 @@
-use mathlib.Core.Bool.{false}
 use Rattle.buffer.proofs.Loops.{scan_start, scan_turn, scan_stop, scan_end}
 use Rattle.decimals.proofs.Meanings.{zone_digit, zone_below, zone_above}
 use Rattle.decimals.proofs.tests.zoned_digits.Goals as goal

@@ -1,6 +1,6 @@
 use mathlib.Core.Path.{sym, ap, ◌∙◌}
 use native.Mathlib.Omega.{arith}
-use Rattle.rules.specs.Values.{would_hold, first_up, smallest_length}
+use Rattle.rules.specs.Values.{first_up, smallest_length}
 use Rattle.rules.proofs.Lengths.{longest_below}
 use Rattle.value_formats.specs.Formats.{format_at}
 use Rattle.filling.proofs.Smallest.{search_start, search_found, search_on, search_over}

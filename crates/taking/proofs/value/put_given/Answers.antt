@@ -22,8 +22,7 @@ returns-then-as_stored c =
 
 pub put_value-requires : goal.put_value-requires
 put_value-requires c =
-    let a = c.args in
-    (
+    let a = c.args in (
       value_asked a.buffer.now a.g a.at a.from a.next c.requires.1 c.requires.0.1 (sym c.is_value.ensures ∙ c.if-is_value.true),
       c.requires.0.1.converts,
       (c.requires.2, omega arith),

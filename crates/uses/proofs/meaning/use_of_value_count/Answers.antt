@@ -3,7 +3,6 @@ use mathlib.Core.Path.{refl, sym, ◌∙◌}
 use mathlib.Core.Bool.{true≢false}
 use native.Mathlib.Omega.{arith}
 use Rattle.format_buffer.specs.Elements.{range}
-use Rattle.rules.specs.Use.{in_order}
 use Rattle.uses.proofs.Spreading.{ordered_within}
 use Rattle.uses.proofs.Settling.{refuse, count_outside, count_outside_indexed, count_inside, count_inside_bare, count_inside_broken}
 use Rattle.uses.proofs.meaning.use_of_value_count.Goals as goal
