@@ -3,7 +3,7 @@ ghost use Rattle.std.specs.Prelude.{◌≤◌, length, IfOk};
 
 use crate::asking::Service;
 use crate::plain::Ended;
-use crate::saving::Given;
+use crate::saving::Saved;
 use crate::words::same;
 use crate::{
     asking, explaining, help, hexadecimal, listing, refusals, saving, tables_shown, words,
@@ -103,12 +103,12 @@ fn say_answer(
             explaining::say_format(out, t, record, f, true)?;
         }
         Service::Update => match saving::give(rt, out, err, answer, UPDATE)? {
-            Given::Told => explaining::say_format(out, t, answer, f, true)?,
-            Given::Over(ended) => return Ok(ended),
+            Saved::Told => explaining::say_format(out, t, answer, f, true)?,
+            Saved::Over(ended) => return Ok(ended),
         },
         Service::Empty => match saving::give(rt, out, err, answer, EMPTY)? {
-            Given::Told => listing::show(out, t, answer)?,
-            Given::Over(ended) => return Ok(ended),
+            Saved::Told => listing::show(out, t, answer)?,
+            Saved::Over(ended) => return Ok(ended),
         },
         Service::Explain => explaining::say_format(out, t, record, f, false)?,
         Service::Table => tables_shown::show(out, t)?,

@@ -14,7 +14,7 @@ const PATH: usize = 4000;
 
 // What became of a new record: words about it may follow, or the call has ended.
 #[derive(Clone, Copy)]
-pub enum Given {
+pub enum Saved {
     Told,
     Over(Ended),
 }
@@ -129,15 +129,15 @@ fn give_to(
     err: &impl Print,
     path: &[u8],
     record: &[u8],
-) -> io::Result<Given> {
+) -> io::Result<Saved> {
     if words::same(path, b"-") {
         plain::say(out, record)?;
-        return Ok(Given::Over(Ended::Done));
+        return Ok(Saved::Over(Ended::Done));
     }
     if save(rt, out, err, path, record)? {
-        return Ok(Given::Told);
+        return Ok(Saved::Told);
     }
-    Ok(Given::Over(Ended::Wrong))
+    Ok(Saved::Over(Ended::Wrong))
 }
 
 // Hexadecimal to standard output; or, where word i is `-o`, to what the next word names.
@@ -147,10 +147,10 @@ pub(crate) fn give(
     err: &impl Print,
     record: &[u8],
     i: usize,
-) -> io::Result<Given> {
+) -> io::Result<Saved> {
     if words::count(rt) <= i {
         hexadecimal::say_line(out, record)?;
-        return Ok(Given::Told);
+        return Ok(Saved::Told);
     }
     let mut name = [0u8; words::PATH];
     let given = words::word(rt, err, i + 1, &mut name)?;
@@ -158,5 +158,5 @@ pub(crate) fn give(
     if given.good {
         return give_to(rt, out, err, &name[..used], record);
     }
-    Ok(Given::Over(Ended::Wrong))
+    Ok(Saved::Over(Ended::Wrong))
 }
