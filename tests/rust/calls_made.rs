@@ -21,6 +21,7 @@ pub struct Call {
 /// What is lent to a call, and what the call is named. In `place` the record stands where it is updated.
 #[derive(Clone)]
 pub struct Lent {
+    #[allow(dead_code)] // Not every program names its calls.
     pub row: String,
     pub table: Vec<u8>,
     pub stored: Vec<u8>,
@@ -86,17 +87,17 @@ pub fn made(lent: &mut Lent) -> Vec<Call> {
     let slice = |bytes: &[u8]| vec![bytes.as_ptr() as usize, bytes.len()];
     let (table, stored, format) = (slice(&lent.table), slice(&lent.stored), slice(&lent.format));
     let room = vec![lent.room.as_mut_ptr() as usize, lent.room.len(), &mut lent.used as *mut usize as usize];
-    let mut calls = vec![call("lyrecanyon_empty", exports::lyrecanyon_empty as usize, &[&table, &room])];
+    let mut calls = vec![call("lyrecanyon_empty", exports::lyrecanyon_empty as *const () as usize, &[&table, &room])];
     if let Some(buffer) = &lent.buffer {
         let parts = [&table, &stored, &format, &slice(buffer), &room];
-        calls.push(call("lyrecanyon_update", exports::lyrecanyon_update as usize, &parts));
+        calls.push(call("lyrecanyon_update", exports::lyrecanyon_update as *const () as usize, &parts));
         let place = vec![lent.place.as_mut_ptr() as usize, lent.place.len(), &mut lent.length as *mut usize as usize];
         let parts = [&table, &place, &format, &slice(buffer)];
-        calls.push(call("lyrecanyon_apply", exports::lyrecanyon_apply as usize, &parts));
+        calls.push(call("lyrecanyon_apply", exports::lyrecanyon_apply as *const () as usize, &parts));
     } else {
-        calls.push(call("lyrecanyon_read", exports::lyrecanyon_read as usize, &[&table, &stored, &format, &room]));
+        calls.push(call("lyrecanyon_read", exports::lyrecanyon_read as *const () as usize, &[&table, &stored, &format, &room]));
         let parts = [&table, &stored, &format, &room, &vec![&mut lent.needed as *mut usize as usize]];
-        calls.push(call("lyrecanyon_read_needing", exports::lyrecanyon_read_needing as usize, &parts));
+        calls.push(call("lyrecanyon_read_needing", exports::lyrecanyon_read_needing as *const () as usize, &parts));
     }
     calls
 }

@@ -93,7 +93,7 @@ pub fn see_that_they_guard() {
     let last = area.lend(&[0], Place::BeforePage);
     let first = area.lend(&[0], Place::AfterPage);
     for &beyond in &[last.wrapping_add(1), first.wrapping_sub(1)] {
-        assert!(ends_by_signal(|| drop(unsafe { ptr::read_volatile(beyond) })), "a byte beyond a slice was read");
+        assert!(ends_by_signal(|| { let _ = unsafe { ptr::read_volatile(beyond) }; }), "a byte beyond a slice was read");
         assert!(ends_by_signal(|| unsafe { ptr::write_volatile(beyond, 0) }), "a byte beyond a slice was written");
     }
     assert!(!ends_by_signal(|| unsafe { ptr::write_volatile(last, 0) }), "a byte of a slice was not written");
