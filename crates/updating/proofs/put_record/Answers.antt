@@ -38,7 +38,7 @@ first c w r =
     let es = entries_of c.args.t.now in
     let old = group_count_at (parts es) r in
     let e = get_or es c.loop-i.i blank in
-    entry_turn w old c.loop-i.inside es c.loop-i.i blank ((omega (arith, c.loop-i-test.true, c.count-n.ensures)))
+    entry_turn w old c.loop-i.inside es c.loop-i.i blank (omega (arith, c.loop-i-test.true, c.count-n.ensures))
     ∙ ap (λ inside. entry_laid w old inside e.name e.what (drop (c.loop-i.i + 1) es) ++ laid_from w old inside (drop (c.loop-i.i + 1) es)) (sym c.inside_next-inside.ensures)
 
 pub count-n-requires : goal.count-n-requires

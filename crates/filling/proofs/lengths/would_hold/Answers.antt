@@ -21,9 +21,9 @@ asked : (c : Else-not-allowed) → Convertible c.args.own c.args.format c.args.n
 asked c = record { source = c.requires.0.1.source; target = c.requires.0.1.target; size = c.requires.0.1.size; length_there = has_length c; value = c.requires.0.1.value }
 
 -- It is held as it is converted.
-holds : (c : Else-not-allowed) → is_done ((let a = c.args in converted_bytes (format_at a.own) (format_at a.format) a.n a.s.now)) ≡ would_hold (format_at c.args.own) (format_at c.args.format) c.args.s.now c.args.n
+holds : (c : Else-not-allowed) → is_done (let a = c.args in converted_bytes (format_at a.own) (format_at a.format) a.n a.s.now) ≡ would_hold (format_at c.args.own) (format_at c.args.format) c.args.s.now c.args.n
 unfolding would_hold
-holds c = sym (ap (λ t. t && is_done ((let a = c.args in converted_bytes (format_at a.own) (format_at a.format) a.n a.s.now))) (has_length c))
+holds c = sym (ap (λ t. t && is_done (let a = c.args in converted_bytes (format_at a.own) (format_at a.format) a.n a.s.now)) (has_length c))
 
 pub allowed-requires : goal.allowed-requires
 allowed-requires c = c.requires.0.1.target
@@ -36,7 +36,7 @@ pub put_value-requires : goal.put_value-requires
 put_value-requires c = (asked (goal.at.put_value-requires c).Else-not-allowed, c.requires.1, (omega arith, omega arith))
 
 pub returns-in-At : goal.returns-in-At
-returns-in-At c = sym (placed_done (suc longest_alpha) 0 _ ((let a = c.args in converted_bytes (format_at a.own) (format_at a.format) a.n a.s.now)) (ap ended (sym c.in-At.is) ∙ c.put_value.ensures.answer)) ∙ holds (goal.at.returns-in-At c).Else-not-allowed
+returns-in-At c = sym (placed_done (suc longest_alpha) 0 _ (let a = c.args in converted_bytes (format_at a.own) (format_at a.format) a.n a.s.now) (ap ended (sym c.in-At.is) ∙ c.put_value.ensures.answer)) ∙ holds (goal.at.returns-in-At c).Else-not-allowed
 
 pub returns-in-Refused : goal.returns-in-Refused
 returns-in-Refused c = sym (most_refused (asked (goal.at.returns-in-Refused c).Else-not-allowed) 0 _ (ap ended (sym c.in-Refused.is) ∙ c.put_value.ensures.answer)) ∙ holds (goal.at.returns-in-Refused c).Else-not-allowed

@@ -23,15 +23,15 @@ told : (c : In-Number) → word_of (value_of (meaning (format_at c.args.own) c.a
 told c = sym c.to_word-word.ensures ∙ c.in-Number.is
 
 -- Whether it fits.
-answer : (c : After-word_fits) → c.word_fits.result ≡ is_done ((converted_bytes (format_at c.args.own) (format_at c.args.format) c.args.size c.args.s.now))
+answer : (c : After-word_fits) → c.word_fits.result ≡ is_done (converted_bytes (format_at c.args.own) (format_at c.args.format) c.args.size c.args.s.now)
 answer c =
-    c.word_fits.ensures ∙ word_done c.requires.0 c.args.natural c.requires.1 ((sym c.to_word-word.ensures ∙ c.in-Number.is))
+    c.word_fits.ensures ∙ word_done c.requires.0 c.args.natural c.requires.1 (sym c.to_word-word.ensures ∙ c.in-Number.is)
 
-fits : (c : Else-not-word_fits) → is_done ((converted_bytes (format_at c.args.own) (format_at c.args.format) c.args.size c.args.s.now)) ≡ true
+fits : (c : Else-not-word_fits) → is_done (converted_bytes (format_at c.args.own) (format_at c.args.format) c.args.size c.args.s.now) ≡ true
 fits c = sym (answer (goal.at.overflow_sub-end c).After-word_fits) ∙ not-false c.word_fits.result (ap not c.if-not-word_fits.false)
 
 -- How long its bytes are, which are the word's.
-sized : (c : Else-not-word_fits) → Long ((converted_bytes (format_at c.args.own) (format_at c.args.format) c.args.size c.args.s.now)) c.args.size
+sized : (c : Else-not-word_fits) → Long (converted_bytes (format_at c.args.own) (format_at c.args.format) c.args.size c.args.s.now) c.args.size
 sized c =
     asked_number c.requires.0 (word_asked c.requires.0 c.args.natural c.requires.1 (told (goal.at.overflow_sub-end c).In-Number)).1 (fits c)
 
@@ -48,12 +48,12 @@ word_fits-requires c = word_asked c.requires.0 c.args.natural c.requires.1 (told
 pub returns-then-not-word_fits : goal.returns-then-not-word_fits
 returns-then-not-word_fits c =
     let a = c.args in
-    value_refused ((converted_bytes (format_at c.args.own) (format_at c.args.format) c.args.size c.args.s.now)) (a.end - a.at) a.at a.out.now a.write (OutOfRange 0) (asked_refused c.requires.0 (sym (answer (goal.at.returns-then-not-word_fits c).After-word_fits) ∙ not-true c.word_fits.result (ap not c.if-not-word_fits.true)))
+    value_refused (converted_bytes (format_at c.args.own) (format_at c.args.format) c.args.size c.args.s.now) (a.end - a.at) a.at a.out.now a.write (OutOfRange 0) (asked_refused c.requires.0 (sym (answer (goal.at.returns-then-not-word_fits c).After-word_fits) ∙ not-true c.word_fits.result (ap not c.if-not-word_fits.true)))
 
 pub returns-then-end-at : goal.returns-then-end-at
 returns-then-end-at c =
     let a = c.args in
-    value_beyond ((converted_bytes (format_at c.args.own) (format_at c.args.format) c.args.size c.args.s.now)) (a.end - a.at) a.at a.out.now a.write _ (sized (goal.at.returns-then-end-at c).Else-not-word_fits) c.if-end-at.true
+    value_beyond (converted_bytes (format_at c.args.own) (format_at c.args.format) c.args.size c.args.s.now) (a.end - a.at) a.at a.out.now a.write _ (sized (goal.at.returns-then-end-at c).Else-not-word_fits) c.if-end-at.true
 
 pub write_word-requires : goal.write_word-requires
 write_word-requires c =
@@ -63,19 +63,19 @@ write_word-requires c =
 pub returns-then-write : goal.returns-then-write
 returns-then-write c =
     let a = c.args in
-    value_written ((converted_bytes (format_at c.args.own) (format_at c.args.format) c.args.size c.args.s.now)) (a.end - a.at) a.at a.out.now a.write _ (sized (goal.at.returns-then-write c).Else-not-word_fits) c.if-write.true (omega (arith, c.if-end-at.false)) (omega (arith, c.if-end-at.false))
+    value_written (converted_bytes (format_at c.args.own) (format_at c.args.format) c.args.size c.args.s.now) (a.end - a.at) a.at a.out.now a.write _ (sized (goal.at.returns-then-write c).Else-not-word_fits) c.if-write.true (omega (arith, c.if-end-at.false)) (omega (arith, c.if-end-at.false))
     (c.write_word.ensures ∙ ap (λ o. splice a.at (bytes_of o) a.out.now) (sym (written (goal.at.returns-then-write c).Else-not-word_fits)))
 
 pub returns-in-Outside : goal.returns-in-Outside
 returns-in-Outside c =
     let a = c.args in
-    value_refused ((converted_bytes (format_at c.args.own) (format_at c.args.format) c.args.size c.args.s.now)) (a.end - a.at) a.at a.out.now a.write (OutOfRange 0)
+    value_refused (converted_bytes (format_at c.args.own) (format_at c.args.format) c.args.size c.args.s.now) (a.end - a.at) a.at a.out.now a.write (OutOfRange 0)
     (asked_refused c.requires.0 (word_beyond c.requires.0 a.natural c.requires.1 (sym c.to_word-word.ensures ∙ c.in-Outside.is)))
 
 pub returns-else-write : goal.returns-else-write
 returns-else-write c =
     let a = c.args in
-    value_tested ((converted_bytes (format_at c.args.own) (format_at c.args.format) c.args.size c.args.s.now)) (a.end - a.at) a.at a.out.now a.write _ (sized (goal.at.returns-else-write c).Else-not-word_fits) c.if-write.false (omega (arith, c.if-end-at.false))
+    value_tested (converted_bytes (format_at c.args.own) (format_at c.args.format) c.args.size c.args.s.now) (a.end - a.at) a.at a.out.now a.write _ (sized (goal.at.returns-else-write c).Else-not-word_fits) c.if-write.false (omega (arith, c.if-end-at.false))
 
 pub overflow_sub-end : goal.overflow_sub-end
 overflow_sub-end c = search rules

@@ -15,8 +15,8 @@ use Rattle.lyrecanyon.proofs.making.make_decoded.Goals as goal
 use Rattle.lyrecanyon.proofs.making.make_decoded.Goals.{After-decode, Else-named_twice, In-Uses}
 
 known : (c : In-Uses) → let es = entries_of c.args.table.now in
-    (uses_of es c.args.format.now ≡ done (uses_kept es c.args.format.now ((c.decode.new.kept)) ((c.in-Uses.n)))) × GoodUses es c.args.format.now ((c.decode.new.kept)) ((c.in-Uses.n)) × (numbers_kept * (c.in-Uses.n) ≤ length ((c.decode.new.kept)))
-known c = subst (Decodes (entries_of c.args.table.now) c.args.format.now ((c.decode.new.kept))) c.in-Uses.is c.decode.ensures.0
+    (uses_of es c.args.format.now ≡ done (uses_kept es c.args.format.now c.decode.new.kept c.in-Uses.n)) × GoodUses es c.args.format.now c.decode.new.kept c.in-Uses.n × (numbers_kept * c.in-Uses.n ≤ length c.decode.new.kept)
+known c = subst (Decodes (entries_of c.args.table.now) c.args.format.now c.decode.new.kept) c.in-Uses.is c.decode.ensures.0
 
 pub named_twice-requires : goal.named_twice-requires
 named_twice-requires c =
@@ -31,19 +31,19 @@ returns-then-named_twice c r held =
     (named_refused es c.args.format.now c.args.buffer.now _ k.0 (sym (c.named_twice.ensures c.args.format.now k.1) ∙ c.if-named_twice.true))
 
 -- No two uses name an occurrence in common.
-apart : (c : Else-named_twice) → Apart (entries_of c.args.table.now) c.args.format.now ((c.decode.new.kept)) ((c.in-Uses.n))
+apart : (c : Else-named_twice) → Apart (entries_of c.args.table.now) c.args.format.now c.decode.new.kept c.in-Uses.n
 apart c =
-    let k = (subst (Decodes (entries_of c.args.table.now) c.args.format.now ((c.decode.new.kept))) c.in-Uses.is c.decode.ensures.0) in
+    let k = (subst (Decodes (entries_of c.args.table.now) c.args.format.now c.decode.new.kept) c.in-Uses.is c.decode.ensures.0) in
     record { meant = k.0; good = k.1; room = k.2; once = sym (c.named_twice.ensures c.args.format.now k.1) ∙ c.if-named_twice.false }
 
 pub make_limited-requires : goal.make_limited-requires
-make_limited-requires c = (c.requires.0, c.requires.1, (c.args.format.now, apart (goal.at.make_limited-requires c).Else-named_twice), c.requires.3 ((c.in-Uses.n)) (omega (arith, (apart (goal.at.make_limited-requires c).Else-named_twice).room, c.decode.ensures.1)), c.requires.4)
+make_limited-requires c = (c.requires.0, c.requires.1, (c.args.format.now, apart (goal.at.make_limited-requires c).Else-named_twice), c.requires.3 c.in-Uses.n (omega (arith, (apart (goal.at.make_limited-requires c).Else-named_twice).room, c.decode.ensures.1)), c.requires.4)
 
 pub returns-in-Refused : goal.returns-in-Refused
 returns-in-Refused c r held =
     let es = entries_of c.args.table.now in
     ap (λ (z : Outcome (List Assignment)). z >>= new_record es r)
-    (uses_refused es c.args.format.now c.args.buffer.now _ (subst (Decodes es c.args.format.now ((c.decode.new.kept))) c.in-Refused.is c.decode.ensures.0))
+    (uses_refused es c.args.format.now c.args.buffer.now _ (subst (Decodes es c.args.format.now c.decode.new.kept) c.in-Refused.is c.decode.ensures.0))
 
 pub returns-else-named_twice : goal.returns-else-named_twice
 returns-else-named_twice c r held =

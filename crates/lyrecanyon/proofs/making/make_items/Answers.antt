@@ -23,12 +23,12 @@ use Rattle.lyrecanyon.proofs.making.make_items.Goals.{After-stage-in-At-1, After
 
 gave : (c : In-At) (f : Bytes) → Apart (entries_of c.args.table.now) f c.args.kept.now c.args.count
     → (ws : List Assignment) × (given (entries_of c.args.table.now) f c.args.kept.now c.args.count c.args.buffer.now ≡ done ws)
-    × (((c.in-At.s)).full ≡ true → longest_new_record < length (bytes_given ws))
-    × (((c.in-At.s)).full ≡ false → Listed (entries_of c.args.table.now) f c.args.kept.now c.args.count ((c.take.new.list)) ((c.take.new.stage)) ws)
-    × Unindexed ((c.take.new.list))
+    × ((c.in-At.s).full ≡ true → longest_new_record < length (bytes_given ws))
+    × ((c.in-At.s).full ≡ false → Listed (entries_of c.args.table.now) f c.args.kept.now c.args.count c.take.new.list c.take.new.stage ws)
+    × Unindexed c.take.new.list
 gave c f a =
     let es = entries_of c.args.table.now in
-    subst (Gave es f c.args.buffer.now c.args.kept.now c.args.count ((c.take.new.list)) ((c.take.new.stage))) c.in-At.is (c.take.ensures f a.good)
+    subst (Gave es f c.args.buffer.now c.args.kept.now c.args.count c.take.new.list c.take.new.stage) c.in-At.is (c.take.ensures f a.good)
 
 pub take-requires : goal.take-requires
 take-requires c =
@@ -44,15 +44,15 @@ returns-then-s c f a r held =
 pub index-requires : goal.index-requires
 index-requires c =
     let g = gave (goal.at.index-requires c).In-At c.requires.2.0 c.requires.2.1 in
-    (c.requires.0, g.4, (c.requires.2.0, (c.take.new.stage), g.0, g.3 c.if-s.false))
+    (c.requires.0, g.4, (c.requires.2.0, c.take.new.stage, g.0, g.3 c.if-s.false))
 
 -- The list can be searched then.
 indexed : (c : After-stage-in-At-1) (f : Bytes) → (a : Apart (entries_of c.args.table.now) f c.args.kept.now c.args.count)
-    → Assigns (entries_of c.args.table.now) c.args.kept.now c.index.new.list ((c.take.new.stage)) (gave (goal.at.slice_bounds-make_record-end c).In-At f a).0
+    → Assigns (entries_of c.args.table.now) c.args.kept.now c.index.new.list c.take.new.stage (gave (goal.at.slice_bounds-make_record-end c).In-At f a).0
 indexed c f a =
     let g = gave (goal.at.slice_bounds-make_record-end c).In-At f a in
     assigns c.args.table.now c.requires.0 a c.args.buffer.now g.1
-    (c.index.ensures f ((c.take.new.stage)) g.0 (g.3 c.if-s.false) (record { apart = true_T (valid_names c.args.table.now c.requires.0); once = a.once }))
+    (c.index.ensures f c.take.new.stage g.0 (g.3 c.if-s.false) (record { apart = true_T (valid_names c.args.table.now c.requires.0); once = a.once }))
 
 pub make_record-requires : goal.make_record-requires
 make_record-requires c = (c.requires.0, (c.requires.1, ((gave (goal.at.make_record-requires c).In-At c.requires.2.0 c.requires.2.1).0, indexed (goal.at.make_record-requires c).After-stage-in-At-1 c.requires.2.0 c.requires.2.1)), c.requires.4)
@@ -61,7 +61,7 @@ pub returns-in-Refused : goal.returns-in-Refused
 returns-in-Refused c f a r held =
     let es = entries_of c.args.table.now in
     ap (λ (z : Outcome (List Assignment)). z >>= new_record es r)
-    (subst (Gave es f c.args.buffer.now c.args.kept.now c.args.count ((c.take.new.list)) ((c.take.new.stage))) c.in-Refused.is (c.take.ensures f a.good))
+    (subst (Gave es f c.args.buffer.now c.args.kept.now c.args.count c.take.new.list c.take.new.stage) c.in-Refused.is (c.take.ensures f a.good))
 
 pub returns-else-s : goal.returns-else-s
 returns-else-s c f a r held =

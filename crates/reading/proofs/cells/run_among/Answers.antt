@@ -22,10 +22,10 @@ module _ (c : After-resolved_upto-last) {vs : List Bytes} (x : (CellHolds c.args
   count : c.count_at-n.result ≡ length vs
   count = let a = c.args in c.count_at-n.ensures.0 ∙ (cell_many a.w a.b.now vs a.cell x).1
 
-  meant : range ((c.resolved_from-first.result)) ((c.resolved_upto-last.result)) ≡ values_meant c.args.w (length vs)
+  meant : range c.resolved_from-first.result c.resolved_upto-last.result ≡ values_meant c.args.w (length vs)
   meant = meant_by c.args.w count c.resolved_from-first.ensures c.resolved_upto-last.ensures
 
-  lies : Lies (range ((c.resolved_from-first.result)) ((c.resolved_upto-last.result)))
+  lies : Lies (range c.resolved_from-first.result c.resolved_upto-last.result)
   lies = let a = c.args in within a.w a.b.now vs meant c.requires.0 (cell_many a.w a.b.now vs a.cell x).2
 
 pub count_at-n-requires : goal.count_at-n-requires
@@ -50,10 +50,10 @@ overflow_sub-first c = (lies (goal.at.overflow_sub-first c).After-resolved_upto-
 
 -- The first of the values meant is there.
 module _ (c : Else-n-first) {vs : List Bytes} (x : (CellHolds c.args.b.now (format_at c.args.w.own) c.args.w.standard true vs (Stands c.args.cell))) where
-  there : (c.resolved_from-first.result) ≤ length vs
+  there : c.resolved_from-first.result ≤ length vs
   there = omega (arith, count (goal.at.after_count-from-requires c).After-resolved_upto-last x, c.if-n-first.false)
 
-  ahead : Ends ((let a = c.args in rest_of (times ((c.resolved_from-first.result) - 1) (stored_value (format_at a.w.own) a.w.standard) (drop (a.cell + count_size) a.b.now))))
+  ahead : Ends ((let a = c.args in rest_of (times (c.resolved_from-first.result - 1) (stored_value (format_at a.w.own) a.w.standard) (drop (a.cell + count_size) a.b.now))))
   ahead = let a = c.args in before_first a.w a.b.now vs a.cell x (meant (goal.at.after_count-from-requires c).After-resolved_upto-last x) (lies (goal.at.after_count-from-requires c).After-resolved_upto-last x).first there
 
 pub values_end-at-requires : goal.values_end-at-requires
@@ -65,7 +65,7 @@ pub returns-then-n-last : goal.returns-then-n-last
 returns-then-n-last c vs x =
     let a = c.args in
     exist_short a.w a.b.now vs a.cell x (meant (goal.at.returns-then-n-last c).After-resolved_upto-last x) (lies (goal.at.returns-then-n-last c).After-resolved_upto-last x).first (there (goal.at.returns-then-n-last c).Else-n-first x) c.values_end-at.result ((rw c.after_count-from.ensures at c.values_end-at.ensures (format_at c.args.w.own) (ahead (goal.at.returns-then-n-last c).Else-n-first x))) _ _
-    (omega (arith, count (goal.at.returns-then-n-last c).After-resolved_upto-last x, c.if-n-last.true)) (ap (λ (k : ℕ). k + 1 - (c.resolved_from-first.result)) (count (goal.at.returns-then-n-last c).After-resolved_upto-last x)) (ap (λ (k : ℕ). (c.resolved_upto-last.result) - k) (count (goal.at.returns-then-n-last c).After-resolved_upto-last x))
+    (omega (arith, count (goal.at.returns-then-n-last c).After-resolved_upto-last x, c.if-n-last.true)) (ap (λ (k : ℕ). k + 1 - c.resolved_from-first.result) (count (goal.at.returns-then-n-last c).After-resolved_upto-last x)) (ap (λ (k : ℕ). c.resolved_upto-last.result - k) (count (goal.at.returns-then-n-last c).After-resolved_upto-last x))
 
 pub overflow_sub-result-2 : goal.overflow_sub-result-2
 overflow_sub-result-2 c = (lies (goal.at.overflow_sub-result-2 c).After-resolved_upto-last c.requires.1.1).ordered

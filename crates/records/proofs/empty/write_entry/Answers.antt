@@ -43,7 +43,7 @@ returns-then-n-eq0 c =
 count_there : (c : Else-n-eq0) → empty_entry c.args.inside (get_or (entries_of c.args.t.now) c.args.i blank).what ≡ count_bytes 0
 count_there c =
     let a = c.args in
-    count_added a.inside (get_or (entries_of a.t.now) a.i blank) ((ap (null_entry c.args.inside) (sym c.entry_at-e.ensures) ∙ sym c.adds_null.ensures ∙ c.if-adds_null.false)) (λ z. c.if-n-eq0.false (c.empty_size-n.ensures.0 ∙ z))
+    count_added a.inside (get_or (entries_of a.t.now) a.i blank) (ap (null_entry c.args.inside) (sym c.entry_at-e.ensures) ∙ sym c.adds_null.ensures ∙ c.if-adds_null.false) (λ z. c.if-n-eq0.false (c.empty_size-n.ensures.0 ∙ z))
 
 pub put_count-requires : goal.put_count-requires
 unfolding count_bytes

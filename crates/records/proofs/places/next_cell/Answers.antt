@@ -15,7 +15,7 @@ use Rattle.records.proofs.places.next_cell.Goals.{In-At}
 -- The entry that stands at that place.
 stands : (c : In-At) {places : List ℕ} {g o : ℕ} {r : Record}
     → MemberEntered (entries_of c.args.t.now) c.args.b.now places g c.args.i o r c.args.cell
-    → MemberEntered (entries_of c.args.t.now) c.args.b.now places g c.args.i o r (At ((c.in-At.q)))
+    → MemberEntered (entries_of c.args.t.now) c.args.b.now places g c.args.i o r (At c.in-At.q)
 stands c {places} {g} {o} {r} m =
     subst (MemberEntered (entries_of c.args.t.now) c.args.b.now places g c.args.i o r) c.in-At.is m
 

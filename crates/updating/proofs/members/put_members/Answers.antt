@@ -40,8 +40,8 @@ shape_of-out-in-Refused c = omega (arith, lay_same c.loop-i.invariant.1, (c.put_
 
 pub returns-in-Refused : goal.returns-in-Refused
 returns-in-Refused c =
-    lay_off c.loop-i.invariant.1 ((λ (w : Plan) (r : Record). let e = get_or (entries_of c.args.t.now) c.loop-i.i blank in
-    member_laid w c.args.o e.name e.what)) ((λ (w : Plan) (r : Record). members_laid w c.args.o (entries_of c.args.t.now) (c.loop-i.i + 1) (c.args.last - (c.loop-i.i + 1)))) (first (goal.at.returns-in-Refused c).In-loop-i) (λ r ws p a. c.put_member.ensures r ws (cell (goal.at.returns-in-Refused c).In-loop-i r p) a) _ c.in-Refused.is
+    lay_off c.loop-i.invariant.1 (λ (w : Plan) (r : Record). let e = get_or (entries_of c.args.t.now) c.loop-i.i blank in
+    member_laid w c.args.o e.name e.what) ((λ (w : Plan) (r : Record). members_laid w c.args.o (entries_of c.args.t.now) (c.loop-i.i + 1) (c.args.last - (c.loop-i.i + 1)))) (first (goal.at.returns-in-Refused c).In-loop-i) (λ r ws p a. c.put_member.ensures r ws (cell (goal.at.returns-in-Refused c).In-loop-i r p) a) _ c.in-Refused.is
 
 pub overflow_add-i : goal.overflow_add-i
 overflow_add-i c = omega (arith, less (goal.at.overflow_add-i c).In-loop-i, valid_most c.args.t.now c.requires.0)
@@ -75,8 +75,8 @@ left c r held more =
 pub loop-i-preserved : goal.loop-i-preserved
 loop-i-preserved c = (
   left c,
-  lay_on c.loop-i.invariant.1 ((λ (w : Plan) (r : Record). let e = get_or (entries_of c.args.t.now) c.loop-i.i blank in
-      member_laid w c.args.o e.name e.what)) ((λ (w : Plan) (r : Record). members_laid w c.args.o (entries_of c.args.t.now) (c.loop-i.i + 1) (c.args.last - (c.loop-i.i + 1)))) (first (goal.at.loop-i-preserved c).In-loop-i) (λ r ws p a. c.put_member.ensures r ws (cell (goal.at.loop-i-preserved c).In-loop-i r p) a) _ c.in-At.is,
+  lay_on c.loop-i.invariant.1 (λ (w : Plan) (r : Record). let e = get_or (entries_of c.args.t.now) c.loop-i.i blank in
+      member_laid w c.args.o e.name e.what) ((λ (w : Plan) (r : Record). members_laid w c.args.o (entries_of c.args.t.now) (c.loop-i.i + 1) (c.args.last - (c.loop-i.i + 1)))) (first (goal.at.loop-i-preserved c).In-loop-i) (λ r ws p a. c.put_member.ensures r ws (cell (goal.at.loop-i-preserved c).In-loop-i r p) a) _ c.in-At.is,
 )
 
 pub shape_of-out : goal.shape_of-out
