@@ -10,12 +10,14 @@ use lib.ListN.{length, take, get_or}
 use lib.Seq.{take_at}
 use borrow.Author.Tests.{lt-ltb, le-ltb, eqb-true, eqb-false, eq-eqb, ne_eqb}
 use Rattle.rules.specs.Lists.{Bytes, all, digits}
+use Rattle.rules.specs.Outcome.{is_done}
+use Rattle.rules.specs.Values.{meaning, accepted_minus}
 use Rattle.rules.proofs.Steps.{by_test}
 use Rattle.rules.proofs.Digits.{spelled_below, own_digits, all_none, all_last}
 use Rattle.buffer.proofs.Cases.{by_order}
-use Rattle.decimals.specs.Decimals.{digits_of, sign_half, magnitude_of, Readable, places, byte_base, inner_written, front, last_written}
+use Rattle.decimals.specs.Decimals.{decimal_format, digits_of, sign_half, magnitude_of, is_negative, Readable, places, byte_base, inner_written, front, last_written}
 use Rattle.decimals.proofs.Halves.{length_digits_of, high_at, unpacked_at}
-use Rattle.decimals.proofs.Sound.{Sound, below_ten}
+use Rattle.decimals.proofs.Sound.{Sound, sound, below_ten}
 use Rattle.decimals.proofs.Written.{length_front, front_none, front_more, base_some, encoded_front}
 use Rattle.decimals.proofs.FirstDigits.{last_digit_of}
 
@@ -86,6 +88,17 @@ module _ {p : Bool} {s : Bytes} (v : Sound p s) where
       let g : r ≡ eqb (x / 10) 0 = f ∙ rw (before_last v) (all_zeros p (length s - 1) (x / 10) (before_small v)) in
       by_order 0 x (λ k. rw (g, ne_eqb (x / 10) 0 (λ z. omega arith)) (sym (lt-ltb 0 x k)))
       (λ k. rw (g, eq-eqb (x / 10) 0 (omega arith)) (sym (le-ltb 0 x k)))
+
+-- Whether a value is below zero, by its sign, its last digit and those before it.
+module _ (p : Bool) (s : Bytes) (good : is_done (meaning (decimal_format p) s) ≡ true) (minus : accepted_minus (sign_half p s) ≡ true) where
+  pub negative_by_last : (magnitude_of p s % 10 ≡ 0 → ⊥) → is_negative p s ≡ true
+  unfolding is_negative
+  negative_by_last h = rw minus (above_zero (sound p s good) h)
+
+  pub negative_before_last : (r : Bool) → magnitude_of p s % 10 ≡ 0 → r ≡ all (λ b. eqb b (inner_written p 0)) (take (length s - 1) s)
+      → is_negative p s ≡ not r
+  unfolding is_negative
+  negative_before_last r e f = rw minus (sym (zero_or_not (sound p s good) e f))
 
 -- ---- the last digit
 

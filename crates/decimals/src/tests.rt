@@ -76,6 +76,7 @@ pub fn sign(s: &[u8], packed: bool) -> u8
 }
 
 // Whether the value s is below zero: zero is not, whatever its sign.
+#[tactic(auto, using(crate::proofs::Before::negative_by_last, crate::proofs::Before::negative_before_last))]
 pub fn negative(s: &[u8], packed: bool) -> bool
     requires { (is_done (meaning (decimal_format packed) s.now) ≡ true) × (length s.now ≤ longest_alpha) }
     ensures { result ≡ is_negative packed s.now }

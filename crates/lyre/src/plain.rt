@@ -91,12 +91,12 @@ pub(crate) fn complain_of(err: &impl Print, path: &[u8], text: &[u8]) -> io::Res
     complain_after(err, text)
 }
 
-// Where the system's own number of an error begins, ` (os error 2)`, or the end of the text.
+// Where the system's own number of an error begins, ` (os error 2)`, or the end of the text, which zeros follow.
 fn reason_end(text: &[u8]) -> usize
     ensures { result ≤ length text.now }
 {
     for i in 0..text.len() {
-        if text[i..].starts_with(b" (os error ") {
+        if text[i] == 0 || text[i..].starts_with(b" (os error ") {
             return i;
         }
     }

@@ -5,7 +5,7 @@ use Rattle.rules.specs.Lists.{Bytes}
 use Rattle.rules.specs.Numbers.{refusal}
 use Rattle.rules.specs.Table.{Entry}
 use Rattle.rules.specs.Format as rules
-use Rattle.rules.specs.Use as rules-use
+use Rattle.rules.specs.Use as rules_use
 use Rattle.rules.specs.Use.{Indexes, uses}
 use Rattle.format_buffer.specs.Elements.{element_of, sound}
 use Rattle.format_buffer.specs.Syntax.{element_before}
@@ -22,7 +22,7 @@ uses_so_far (Refused x) = 0
 
 -- What is left, by the elements that are left: their uses after those kept; after an element that is refused whether their syntax is
 -- bad, since that comes before it.
-unfoldable pub uses_left : List Entry → Bytes → Indexes → Outcome (List rules.Element) → List ℕ → Decoded → Outcome (List rules-use.Use)
+unfoldable pub uses_left : List Entry → Bytes → Indexes → Outcome (List rules.Element) → List ℕ → Decoded → Outcome (List rules_use.Use)
 uses_left es f ls xs kept (Uses n) = xs >>= uses es ls >>= λ us. done (uses_kept es f kept n ++ us)
 uses_left es f ls xs kept (Refused x) = xs >>= λ ys. refused (refusal x)
 

@@ -2,7 +2,7 @@
 use Rattle.std.specs.Prelude.{◌≡◌, Bool, List, map, ℕ, ◌<◌}
 use Rattle.rules.specs.Lists.{Bytes, any}
 use Rattle.rules.specs.Table.{Entry}
-use Rattle.rules.specs.Use as rules-use
+use Rattle.rules.specs.Use as rules_use
 use Rattle.rules.specs.Use.{Asked, as_stored}
 use Rattle.rules.specs.Update.{name_alike, named_twice}
 use Rattle.uses.specs.Meant.{fields_from, use_meant, GoodSpanOf}
@@ -18,7 +18,7 @@ abbrev pub GoodSpans : List Entry → List ℕ → ℕ → Type 0
 GoodSpans es kept count = (i : ℕ) → i < count → GoodSpanOf es (use_at kept i)
 
 -- Whether one of some uses names an occurrence that a use after them names.
-unfoldable pub met_by : List rules-use.Use → rules-use.Use → Bool
+unfoldable pub met_by : List rules_use.Use → rules_use.Use → Bool
 met_by us u = any (λ v. name_alike v u) us
 
 -- The answers of the code, whatever the format.

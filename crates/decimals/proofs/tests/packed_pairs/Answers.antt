@@ -13,7 +13,7 @@ pub returns-then-b-gt9 : goal.returns-then-b-gt9
 returns-then-b-gt9 c = scan_stop c.loop-i.invariant c.loop-i-test.true (pair_low _ (omega arith))
 
 pub loop-i-preserved : goal.loop-i-preserved
-loop-i-preserved c = scan_turn c.loop-i.invariant c.loop-i-test.true (pair_digits _ c.if-b-gt153.false c.if-b-gt9.false)
+loop-i-preserved c = scan_turn c.loop-i.invariant c.loop-i-test.true (pair_digits _ (omega arith) (omega arith))
 
 pub returns : goal.returns
 returns c = scan_end c.loop-i.invariant c.loop-i-test.false
