@@ -24,6 +24,7 @@ pub enum Spreads {
 }
 
 // Whether indexes lie in their bounds, and the range does not descend.
+#[tactic(auto, unfolding(rules::specs::Use::in_order))]
 pub fn in_order(from: usize, upto: usize) -> bool
     ensures { result ≡ in_order (range from upto) }
 {
