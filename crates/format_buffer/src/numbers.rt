@@ -23,6 +23,7 @@ pub fn digit_of(b: u8) -> u16
     (b - DIGIT_0) as u16
 }
 
+#[tactic(auto, using(crate::proofs::Digits::read_many))]
 pub fn number_first(f: &[u8], at: usize, upto: usize) -> Number
     requires { (at ≤ upto) × (upto ≤ length f.now) }
     ensures { Numbered f.now at upto (number_first (part f.now at upto)) result }

@@ -46,6 +46,7 @@ fn parenthesis(f: &[u8], at: usize, upto: usize) -> Bracket
     }
 }
 
+#[tactic(auto, using(crate::proofs::Indexes::all_bracketless, crate::proofs::Names::after_range_all))]
 fn after_range(f: &[u8], at: usize, upto: usize, name: u16, x: Indexing) -> Piece
     requires { (at ≤ upto) × (upto ≤ length f.now) × SmallIndexing x }
     ensures { Pieced f.now (as_piece (after_range name (indexing_of x) (part f.now at upto))) result }
@@ -130,6 +131,7 @@ fn after_name(f: &[u8], at: usize, upto: usize, name: u16) -> Piece
     after_index(f, p, upto, name, x)
 }
 
+#[tactic(auto, using(crate::proofs::PieceLaws::number_zero))]
 fn after_number(f: &[u8], at: usize, upto: usize, n: u16) -> Piece
     requires { (at ≤ upto) × (upto ≤ length f.now) }
     ensures { Pieced f.now (after_number n (part f.now at upto)) result }

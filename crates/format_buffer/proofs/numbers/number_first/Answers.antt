@@ -2,7 +2,7 @@ use mathlib.Core.Bool.{not}
 use mathlib.Core.Path.{sym, ◌∙◌, ap}
 use native.Mathlib.Omega.{arith}
 use borrow.Author.Tests.{not-true, not-false}
-use Rattle.format_buffer.proofs.Digits.{read_first, read_turn, read_stop, read_many, read_end, read_value, read_nothing, read_none}
+use Rattle.format_buffer.proofs.Digits.{read_first, read_turn, read_stop, read_end, read_value, read_nothing, read_none}
 use Rattle.format_buffer.proofs.numbers.number_first.Goals as goal
 
 pub returns-then-at-upto : goal.returns-then-at-upto
@@ -36,13 +36,6 @@ returns-then-not-is_digit-2 c =
       place = (omega arith, omega arith, read_value c.loop-i.invariant);
     }
 
-pub returns-then-i-at-eq-MOST_DIGITS : goal.returns-then-i-at-eq-MOST_DIGITS
-returns-then-i-at-eq-MOST_DIGITS c =
-    record {
-      answer = read_many c.loop-i.invariant c.loop-i-test.true (sym c.is_digit-in-loop-i.ensures ∙ not-false c.is_digit-in-loop-i.result (ap not c.if-not-is_digit-2.false)) (omega arith);
-      place = tt;
-    }
-
 pub overflow_mul-n : goal.overflow_mul-n
 overflow_mul-n c = omega (arith, read_value c.loop-i.invariant)
 
@@ -55,7 +48,7 @@ overflow_add-n c = omega (arith, c.digit_of.ensures.1, read_value c.loop-i.invar
 pub loop-i-preserved : goal.loop-i-preserved
 loop-i-preserved c =
     read_turn c.loop-i.invariant c.loop-i-test.true
-    (sym c.is_digit-in-loop-i.ensures ∙ not-false c.is_digit-in-loop-i.result (ap not c.if-not-is_digit-2.false)) c.if-i-at-eq-MOST_DIGITS.false c.digit_of.ensures.0 c.digit_of.ensures.1
+    (sym c.is_digit-in-loop-i.ensures ∙ not-false c.is_digit-in-loop-i.result (ap not c.if-not-is_digit-2.false)) (λ e. omega arith) c.digit_of.ensures.0 c.digit_of.ensures.1
 
 pub returns : goal.returns
 returns c = record { answer = read_end c.loop-i.invariant c.loop-i-test.false; place = (omega arith, omega arith, read_value c.loop-i.invariant) }

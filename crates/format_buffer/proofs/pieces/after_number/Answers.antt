@@ -1,7 +1,7 @@
 -- `format_buffer::pieces::after_number` meets its contract: a length, blanks, or neither.
 use mathlib.Core.Path.{sym, ◌∙◌}
 use native.Mathlib.Omega.{arith}
-use Rattle.format_buffer.proofs.PieceLaws.{number_length, number_large, number_zero, number_long, number_blanks, number_other}
+use Rattle.format_buffer.proofs.PieceLaws.{number_length, number_large, number_long, number_blanks, number_other}
 use Rattle.format_buffer.proofs.Answers.{pieced_bad}
 use Rattle.format_buffer.proofs.pieces.after_number.Goals as goal
 
@@ -14,11 +14,6 @@ pub returns-then-at-upto : goal.returns-then-at-upto
 returns-then-at-upto c =
     let a = c.args in
     record { answer = number_length a.n a.f.now a.at a.upto c.if-at-upto.true (omega arith); sound = omega arith }
-
-pub returns-then-n-eq0 : goal.returns-then-n-eq0
-returns-then-n-eq0 c =
-    let a = c.args in
-    pieced_bad (number_zero a.n a.f.now a.at a.upto (omega arith) (omega arith) c.if-n-eq0.true)
 
 pub returns-then-n-gt-LONGEST_BLANKS : goal.returns-then-n-gt-LONGEST_BLANKS
 returns-then-n-gt-LONGEST_BLANKS c =

@@ -5,8 +5,8 @@ use native.Mathlib.Omega.{arith}
 use Rattle.rules.specs.Format.{takes_parenthesis}
 use Rattle.format_buffer.specs.Elements.{indexing_of, bare_name, with_occurrences, with_values}
 use Rattle.format_buffer.specs.declared.Element.TheVariants as code
-use Rattle.format_buffer.proofs.Indexes.{all_bracketless, others_bracketed}
-use Rattle.format_buffer.proofs.Names.{after_range_nothing, after_range_all, after_range_none, after_range_open}
+use Rattle.format_buffer.proofs.Indexes.{others_bracketed}
+use Rattle.format_buffer.proofs.Names.{after_range_nothing, after_range_none, after_range_open}
 use Rattle.format_buffer.proofs.Answers.{bracketed_values, bracketed_bad, element_bad, element_is, small_bare, small_occurrences, small_values}
 use Rattle.format_buffer.proofs.pieces.after_range.Goals as goal
 use Rattle.format_buffer.proofs.pieces.after_range.Goals.{After-parenthesis, After-with_occurrences-n}
@@ -15,8 +15,7 @@ occurring : (c : After-with_occurrences-n) → c.with_occurrences-n.result ≡ w
 occurring c = c.with_occurrences-n.ensures ∙ ap (λ n. with_occurrences n c.args.x) c.bare.ensures
 
 bracketed : (c : After-parenthesis) → takes_parenthesis (indexing_of c.args.x) ≡ true
-bracketed c =
-    others_bracketed c.args.x c.requires.2.known c.if-x-eq-UP_TO_LAST.false
+bracketed c = others_bracketed c.args.x c.requires.2.known (λ e. omega arith)
 
 pub returns-then-at-upto : goal.returns-then-at-upto
 returns-then-at-upto c =
@@ -25,11 +24,6 @@ returns-then-at-upto c =
     (after_range_nothing a.name (indexing_of a.x) a.f.now a.at a.upto c.if-at-upto.true)
     (small_occurrences (small_bare a.name) c.requires.2)
     (refl, refl)
-
-pub returns-then-x-eq-UP_TO_LAST : goal.returns-then-x-eq-UP_TO_LAST
-returns-then-x-eq-UP_TO_LAST c =
-    let a = c.args in
-    element_bad (after_range_all a.name (indexing_of a.x) a.f.now a.at a.upto (omega arith) (omega arith) (all_bracketless a.x c.if-x-eq-UP_TO_LAST.true))
 
 pub returns-then-f-at-ne-OPEN : goal.returns-then-f-at-ne-OPEN
 returns-then-f-at-ne-OPEN c =
