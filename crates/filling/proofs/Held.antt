@@ -4,7 +4,7 @@ use mathlib.Core.Path.{◌≡◌, refl, sym, ◌∙◌, ap, subst}
 use mathlib.Core.Bool.{Bool, true, false}
 use Prim.Native.Nat.{ℕ, zero, suc, ◌≤◌}
 use native.Mathlib.Omega.{arith}
-use borrow.Author.Tests.{le-leb}
+use borrow.Author.Tests.{eq-eqb, ne_eqb, le-leb}
 use lib.Dec.{leb}
 use lib.ListN.{length}
 use Rattle.rules.specs.Outcome.{Outcome, done, refused, need, with_needed, needing, is_done, ◌>>=◌}
@@ -12,8 +12,9 @@ use Rattle.rules.specs.Outcome as outcome
 use Rattle.rules.specs.Limits.{longest_alpha}
 use Rattle.rules.specs.Lists.{Bytes, bytes_of}
 use Rattle.rules.specs.Values.{Format, converted_bytes, smallest_length, read_value}
-use Rattle.rules.specs.Numbers.{refusal}
+use Rattle.rules.specs.Numbers.{refusal_number, refusal}
 use Rattle.rules.specs.declared.Refusal.{Refusal}
+use Rattle.rules.specs.declared.Refusal.TheVariants.{OutOfRange}
 use Rattle.rules.proofs.Steps.{not_done, not_both}
 use Rattle.rules.proofs.Lengths.{strip_length}
 use Rattle.value_formats.specs.Formats.{format_at}
@@ -87,6 +88,13 @@ said n room at {write} {entry} {exit} o {r} s e f = subst (λ (p : Outcome Bytes
       same = f.same;
       bytes = λ m. f.bytes (needing_matters n write (in_room room o) m) ∙ sym (needing_left n at write (in_room room o) entry);
     })
+
+-- The refusal with a length: 9 has it, the others stay.
+pub nine_needed : (n : ℕ) (x : Refusal) → refusal_number x ≡ 9 → refusal (OutOfRange n) ≡ with_needed n (refusal x)
+nine_needed n x e = rw (eq-eqb (refusal_number x) 9 e, with_needed) refl
+
+pub others_needed : (n : ℕ) (x : Refusal) → (refusal_number x ≡ 9 → ⊥) → refusal x ≡ with_needed n (refusal x)
+others_needed n x e = rw (ne_eqb (refusal_number x) 9 e, with_needed) refl
 
 module _ (f g : Format) (n : ℕ) (v : Bytes) (room at : ℕ) {write : Bool} {entry exit : Bytes} {r : Next} (q : Filling (in_room room (converted_bytes f g n v)) at write entry exit r) where
   pub read_at : {p : ℕ} → r ≡ next.At p → Filling (in_room room (read_value f g n v)) at write entry exit (next.At p)
