@@ -55,5 +55,5 @@ returns c =
     let z = size_is (goal.at.returns c).After-empty_length-size in
     let w = ap (take c.empty_length-size.result) c.write_empty.ensures ∙ take_splice (empty_bytes a.table.now) _ c.empty_length-size.result z in
     settled_done _ (empty_bytes a.table.now) a.room.now _ _
-    (empty_done a.table.now (length a.room.now) (is_table (goal.at.returns c).Else-not-valid) (omega (arith, z, c.if-size-gt-LONGEST_NEW_RECORD.false)) (omega (arith, z, c.if-room-size.false))) z
+    (empty_done a.table.now (length a.room.now) (is_table (goal.at.returns c).Else-not-valid) (omega (arith, z)) (omega (arith, z))) z
     (c.put.ensures.1 ∙ ap (λ bs. splice 0 bs a.room.now) w)

@@ -15,13 +15,13 @@ made c = (subst (Makes c.requires.0 c.args.made.now) c.in-Done.is c.requires.1).
 pub returns-then-room-n : goal.returns-then-room-n
 returns-then-room-n c o m =
     let a = c.args in
-    lent_over a.made.now c.in-Done.n (subst (Makes o a.made.now) c.in-Done.is m) a.room.now c.if-room-n.true
+    lent_over a.made.now c.in-Done.n (subst (Makes o a.made.now) c.in-Done.is m) a.room.now (omega arith)
 
 pub slice_bounds-put-end : goal.slice_bounds-put-end
 slice_bounds-put-end c = sym (length-take-le _ c.args.made.now (made (goal.at.slice_bounds-put-end c).In-Done))
 
 pub put-requires : goal.put-requires
-put-requires c = omega (arith, slice_bounds-put-end (goal.at.put-requires c).Else-room-n, c.if-room-n.false)
+put-requires c = omega (arith, slice_bounds-put-end (goal.at.put-requires c).Else-room-n)
 
 pub returns-in-Refused : goal.returns-in-Refused
 returns-in-Refused c o m =
@@ -31,4 +31,4 @@ returns-in-Refused c o m =
 pub returns-else-room-n : goal.returns-else-room-n
 returns-else-room-n c o m =
     let a = c.args in
-    lent_done a.made.now c.in-Done.n (subst (Makes o a.made.now) c.in-Done.is m) a.room.now _ (omega (arith, c.if-room-n.false)) c.put.ensures.1
+    lent_done a.made.now c.in-Done.n (subst (Makes o a.made.now) c.in-Done.is m) a.room.now _ (omega arith) c.put.ensures.1
