@@ -6,6 +6,7 @@ use native.Mathlib.Omega.{arith}
 use lib.ListN.{length}
 use Rattle.rules.specs.Outcome.{Outcome, done, ◌>>=◌}
 use Rattle.rules.specs.Update.{Assignment}
+use Rattle.rules.proofs.Steps.{by_test}
 use Rattle.tables.specs.Entries.{entries_of}
 use Rattle.uses.specs.Meant.{uses_of}
 use Rattle.uses.specs.Kept.{numbers_kept, uses_kept, GoodUses, Decodes}
@@ -28,13 +29,13 @@ returns-then-named_twice c r held =
     let es = entries_of c.args.table.now in
     let k = known (goal.at.returns-then-named_twice c).In-Uses in
     ap (λ (z : Outcome (List Assignment)). z >>= new_record es r)
-    (named_refused es c.args.format.now c.args.buffer.now _ k.0 (sym (c.named_twice.ensures c.args.format.now k.1) ∙ c.if-named_twice.true))
+    (named_refused es c.args.format.now c.args.buffer.now _ k.0 (sym (c.named_twice.ensures c.args.format.now k.1) ∙ (by_test c.named_twice.result (λ t. t) (λ t. let z = rw t at c.if-named_twice.true in cc))))
 
 -- No two uses name an occurrence in common.
 apart : (c : Else-named_twice) → Apart (entries_of c.args.table.now) c.args.format.now c.decode.new.kept c.in-Uses.n
 apart c =
     let k = (subst (Decodes (entries_of c.args.table.now) c.args.format.now c.decode.new.kept) c.in-Uses.is c.decode.ensures.0) in
-    record { meant = k.0; good = k.1; room = k.2; once = sym (c.named_twice.ensures c.args.format.now k.1) ∙ c.if-named_twice.false }
+    record { meant = k.0; good = k.1; room = k.2; once = sym (c.named_twice.ensures c.args.format.now k.1) ∙ (by_test c.named_twice.result (λ t. let z = rw t at c.if-named_twice.false in cc) (λ t. t)) }
 
 pub make_limited-requires : goal.make_limited-requires
 make_limited-requires c = (c.requires.0, c.requires.1, (c.args.format.now, apart (goal.at.make_limited-requires c).Else-named_twice), c.requires.3 c.in-Uses.n (omega (arith, (apart (goal.at.make_limited-requires c).Else-named_twice).room, c.decode.ensures.1)), c.requires.4)

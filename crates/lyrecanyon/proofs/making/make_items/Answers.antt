@@ -10,7 +10,7 @@ use Rattle.rules.specs.Outcome.{Outcome, done, ◌>>=◌}
 use Rattle.rules.specs.Lists.{Bytes}
 use Rattle.rules.specs.Update.{Assignment}
 use Rattle.tables.specs.Entries.{entries_of}
-use Rattle.rules.proofs.Steps.{true_T}
+use Rattle.rules.proofs.Steps.{by_test, true_T}
 use Rattle.tables.proofs.Tables.{valid_names}
 use Rattle.assignments.specs.Notes.{bytes_given, Unindexed, Listed}
 use Rattle.taking.specs.Taking.{Gave}
@@ -39,12 +39,12 @@ pub returns-then-s : goal.returns-then-s
 returns-then-s c f a r held =
     let g = gave (goal.at.returns-then-s c).In-At f a in
     ap (λ (z : Outcome (List Assignment)). z >>= new_record (entries_of c.args.table.now) r) g.1
-    ∙ stage_over c.args.table.now c.requires.0 a c.args.buffer.now g.1 (g.2 c.if-s.true) r
+    ∙ stage_over c.args.table.now c.requires.0 a c.args.buffer.now g.1 (g.2 (by_test c.in-At.s.full (λ t. t) (λ t. let z = rw t at c.if-s.true in cc))) r
 
 pub index-requires : goal.index-requires
 index-requires c =
     let g = gave (goal.at.index-requires c).In-At c.requires.2.0 c.requires.2.1 in
-    (c.requires.0, g.4, (c.requires.2.0, c.take.new.stage, g.0, g.3 c.if-s.false))
+    (c.requires.0, g.4, (c.requires.2.0, c.take.new.stage, g.0, g.3 (by_test c.in-At.s.full (λ t. let z = rw t at c.if-s.false in cc) (λ t. t))))
 
 -- The list can be searched then.
 indexed : (c : After-stage-in-At-1) (f : Bytes) → (a : Apart (entries_of c.args.table.now) f c.args.kept.now c.args.count)
@@ -52,7 +52,7 @@ indexed : (c : After-stage-in-At-1) (f : Bytes) → (a : Apart (entries_of c.arg
 indexed c f a =
     let g = gave (goal.at.slice_bounds-make_record-end c).In-At f a in
     assigns c.args.table.now c.requires.0 a c.args.buffer.now g.1
-    (c.index.ensures f c.take.new.stage g.0 (g.3 c.if-s.false) (record { apart = true_T (valid_names c.args.table.now c.requires.0); once = a.once }))
+    (c.index.ensures f c.take.new.stage g.0 (g.3 (by_test c.in-At.s.full (λ t. let z = rw t at c.if-s.false in cc) (λ t. t))) (record { apart = true_T (valid_names c.args.table.now c.requires.0); once = a.once }))
 
 pub make_record-requires : goal.make_record-requires
 make_record-requires c = (c.requires.0, (c.requires.1, ((gave (goal.at.make_record-requires c).In-At c.requires.2.0 c.requires.2.1).0, indexed (goal.at.make_record-requires c).After-stage-in-At-1 c.requires.2.0 c.requires.2.1)), c.requires.4)

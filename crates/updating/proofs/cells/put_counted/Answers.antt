@@ -10,6 +10,7 @@ use Rattle.rules.specs.Table.{parts}
 use Rattle.rules.specs.Record.{Record, count_bytes}
 use Rattle.rules.specs.Update.{Assignment, assigned, update_plan}
 use Rattle.value_formats.specs.Formats.{format_at}
+use Rattle.rules.proofs.Steps.{by_test}
 use Rattle.tables.specs.Entries.{entries_of, blank, decoded, is_group}
 use Rattle.tables.specs.Groups.{field_at}
 use Rattle.tables.proofs.Known.{read_apart, apart_decoded}
@@ -68,11 +69,11 @@ count c r ws x a =
     let k = names c ws a in
     elim c.if-named.branch [
       | then-named w ↦ (
-        count_bare (entries_of c.args.t.now) c.args.i (what (goal.at.put_count-requires c).After-named-named) ((read_apart (get_or (entries_of c.args.t.now) c.args.i blank) c.format_at-format.result c.size_at-size.result)) (entry_is (goal.at.put_count-requires c).After-size_at-size) r c.args.o c.args.b.now c.requires.2 ws c.named-named.new.by c.named-named.result k a.bare w.if-named.true ∙ sym w.n-is,
+        count_bare (entries_of c.args.t.now) c.args.i (what (goal.at.put_count-requires c).After-named-named) ((read_apart (get_or (entries_of c.args.t.now) c.args.i blank) c.format_at-format.result c.size_at-size.result)) (entry_is (goal.at.put_count-requires c).After-size_at-size) r c.args.o c.args.b.now c.requires.2 ws c.named-named.new.by c.named-named.result k a.bare (by_test c.named-named.result.bare (λ t. t) (λ t. let z = rw t at w.if-named.true in cc)) ∙ sym w.n-is,
         omega (arith, w.n-is, k.most),
       )
       | else-named w ↦ (
-        count_larger (entries_of c.args.t.now) c.args.i (what (goal.at.put_count-requires c).After-named-named) ((read_apart (get_or (entries_of c.args.t.now) c.args.i blank) c.format_at-format.result c.size_at-size.result)) (entry_is (goal.at.put_count-requires c).After-size_at-size) r c.args.o c.args.b.now c.requires.2 ws c.named-named.new.by c.named-named.result k w.if-named.false
+        count_larger (entries_of c.args.t.now) c.args.i (what (goal.at.put_count-requires c).After-named-named) ((read_apart (get_or (entries_of c.args.t.now) c.args.i blank) c.format_at-format.result c.size_at-size.result)) (entry_is (goal.at.put_count-requires c).After-size_at-size) r c.args.o c.args.b.now c.requires.2 ws c.named-named.new.by c.named-named.result k (by_test c.named-named.result.bare (λ t. let z = rw t at w.if-named.false in cc) (λ t. t))
             ∙ ap (λ (m : ℕ). max m c.named-named.result.highest) (sym o.many) ∙ sym (w.n-is ∙ w.larger-n.ensures),
         omega (arith, w.n-is, w.larger-n.ensures, larger_index c.old_values-old.result.count c.named-named.result.highest o.most k.most),
       )
