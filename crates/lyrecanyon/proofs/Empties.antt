@@ -47,3 +47,7 @@ empty_cramped t room v h = valid_empty t room v ∙ rw (lt-leb (length (empty_by
 pub empty_done : (t : Bytes) (room : ℕ) → Valid t → length (empty_bytes t) ≤ longest_new_record → length (empty_bytes t) ≤ room → empty t room ≡ done (empty_bytes t)
 unfolding fitting
 empty_done t room v h k = valid_empty t room v ∙ rw (le-leb (length (empty_bytes t)) (min room longest_new_record) (omega arith)) refl
+
+-- The same of the length by its entries.
+pub over_settled : (t : Bytes) (room : ℕ) → Valid t → longest_new_record < 5 + length (empty_from false (entries_of t)) → empty t room ≡ refused (by 10)
+over_settled t room v h = empty_over t room v (omega (arith, empty_size t))

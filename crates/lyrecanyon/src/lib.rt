@@ -178,6 +178,7 @@ pub fn apply(table: &[u8], stored: &mut [u8], used: usize, format: &[u8], buffer
 }
 
 // The empty record of a table, to the front of the room. It is built by itself first, so that a refusal changes nothing.
+#[tactic(auto, using(crate::proofs::Empties::over_settled), unfolding(rules::specs::Lists::bytes_of))]
 pub fn empty(table: &[u8], room: &mut [u8]) -> Answer
     ensures { Settled (Rules.empty table.now (length room.old)) room.old room.new result }
 {

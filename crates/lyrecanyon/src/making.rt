@@ -172,6 +172,7 @@ pub fn make(table: &[u8], stored: &[u8], format: &[u8], buffer: &[u8], made: &mu
 }
 
 // A record that was made, to the front of the room that is lent for it, if it has room enough.
+#[tactic(auto, using(crate::proofs::Updates::lending), unfolding(rules::specs::Lists::bytes_of, buffer::specs::Splice::splice))]
 pub fn lend(answer: Answer, made: &[u8], room: &mut [u8]) -> Answer
     requires { (o : Outcome Bytes) × Makes o made.now answer }
     ensures { (o : Outcome Bytes) → Makes o made.now answer → Settled (in_lent (length room.old) o) room.old room.new result }

@@ -10,7 +10,7 @@ use Rattle.buffer.proofs.Laws.{take_splice}
 use Rattle.tables.specs.Entries.{Valid}
 use Rattle.rules.specs.declared.Refusal.TheVariants.{BadTable, NoRoom}
 use Rattle.lyrecanyon.proofs.Settling.{settled_refused, settled_done}
-use Rattle.lyrecanyon.proofs.Empties.{empty_bytes, empty_size, empty_refused, empty_over, empty_cramped, empty_done}
+use Rattle.lyrecanyon.proofs.Empties.{empty_bytes, empty_size, empty_refused, empty_cramped, empty_done}
 use Rattle.lyrecanyon.proofs.empty.Goals as goal
 use Rattle.lyrecanyon.proofs.empty.Goals.{After-empty_length-size, After-record-3-1, Else-not-valid}
 
@@ -28,11 +28,6 @@ returns-then-not-valid c =
 
 pub empty_length-size-requires : goal.empty_length-size-requires
 empty_length-size-requires c = is_table c
-
-pub returns-then-size-gt-LONGEST_NEW_RECORD : goal.returns-then-size-gt-LONGEST_NEW_RECORD
-returns-then-size-gt-LONGEST_NEW_RECORD c =
-    let a = c.args in
-    settled_refused _ a.room.now NoRoom (empty_over a.table.now (length a.room.now) (is_table (goal.at.returns-then-size-gt-LONGEST_NEW_RECORD c).Else-not-valid) (omega (arith, size_is (goal.at.returns-then-size-gt-LONGEST_NEW_RECORD c).After-empty_length-size)))
 
 pub returns-then-room-size : goal.returns-then-room-size
 returns-then-room-size c =

@@ -5,30 +5,20 @@ use Prim.Native.Nat.{◌≤◌}
 use lib.ListN.{length}
 use lib.Seq.{length-take-le}
 use Rattle.lyrecanyon.specs.Making.{Makes}
-use Rattle.lyrecanyon.proofs.Updates.{lent_refused, lent_over, lent_done}
+use Rattle.lyrecanyon.proofs.Updates.{lent_refused}
 use Rattle.lyrecanyon.proofs.making.lend.Goals as goal
-use Rattle.lyrecanyon.proofs.making.lend.Goals.{Else-room-n, In-Done}
+use Rattle.lyrecanyon.proofs.making.lend.Goals.{In-Done}
 
 made : (c : In-Done) → c.in-Done.n ≤ length c.args.made.now
 made c = (subst (Makes c.requires.0 c.args.made.now) c.in-Done.is c.requires.1).0
-
-pub returns-then-room-n : goal.returns-then-room-n
-returns-then-room-n c o m =
-    let a = c.args in
-    lent_over a.made.now c.in-Done.n (subst (Makes o a.made.now) c.in-Done.is m) a.room.now (omega arith)
 
 pub slice_bounds-put-end : goal.slice_bounds-put-end
 slice_bounds-put-end c = sym (length-take-le _ c.args.made.now (made (goal.at.slice_bounds-put-end c).In-Done))
 
 pub put-requires : goal.put-requires
-put-requires c = omega (arith, slice_bounds-put-end (goal.at.put-requires c).Else-room-n)
+put-requires c = omega (arith, length-take-le _ c.args.made.now (made (goal.at.put-requires c).In-Done))
 
 pub returns-in-Refused : goal.returns-in-Refused
 returns-in-Refused c o m =
     let a = c.args in
     lent_refused a.made.now a.room.now c.in-Refused.x (subst (Makes o a.made.now) c.in-Refused.is m)
-
-pub returns-else-room-n : goal.returns-else-room-n
-returns-else-room-n c o m =
-    let a = c.args in
-    lent_done a.made.now c.in-Done.n (subst (Makes o a.made.now) c.in-Done.is m) a.room.now _ (omega arith) c.put.ensures.1
