@@ -3,7 +3,7 @@
 use mathlib.Core.Path.{◌≡◌, refl, sym, ◌∙◌, ap, subst}
 use mathlib.Core.Bool.{true, false, not}
 use mathlib.Core.List.{List, [], ◌++◌}
-use Prim.Native.Nat.{ℕ, zero, suc, ◌-◌, ◌≤◌, ◌<◌, min}
+use Prim.Native.Nat.{ℕ, zero, suc, ◌-◌, ◌*◌, ◌≤◌, ◌<◌, min}
 use native.Mathlib.Omega.{arith}
 use borrow.Author.Tests.{leb-false, lt-leb}
 use lib.Dec.{leb, leb→le}
@@ -29,7 +29,7 @@ use Rattle.buffer.proofs.Laws.{take_splice}
 use Rattle.buffer.proofs.Cases.{by_order}
 use Rattle.tables.specs.Entries.{Valid, entries_of}
 use Rattle.uses.specs.Meant.{uses_of}
-use Rattle.uses.specs.Kept.{uses_kept}
+use Rattle.uses.specs.Kept.{uses_kept, GoodUses, numbers_kept}
 use Rattle.assignments.specs.Notes.{Indexed}
 use Rattle.filling.specs.Filling.{in_room, Filling}
 use Rattle.filling.specs.declared.Next.{Next}
@@ -142,3 +142,8 @@ module _ (es : List Entry) (f buffer : Bytes) where
 -- What is made by an outcome is made by one that is the same.
 pub makes_by : (es : List Entry) (r : Record) {o p : Outcome (List Assignment)} (made : Bytes) (n : Answer) → o ≡ p → Makes (p >>= new_record es r) made n → Makes (o >>= new_record es r) made n
 makes_by es r made n e m = subst (λ (z : Outcome (List Assignment)). Makes (z >>= new_record es r) made n) (sym e) m
+
+-- What is known of uses in which no occurrence is named twice.
+pub are_apart : (es : List Entry) (f : Bytes) (kept : List ℕ) (n : ℕ) → uses_of es f ≡ done (uses_kept es f kept n) → GoodUses es f kept n → numbers_kept * n ≤ length kept
+    → named_twice (uses_kept es f kept n) ≡ false → Apart es f kept n
+are_apart es f kept n m g r o = record { meant = m; good = g; room = r; once = o }

@@ -103,6 +103,7 @@ fn make_limited(
 }
 
 // The same, by the format, whose uses are decoded once.
+#[tactic(auto, using(crate::proofs::Makings::named_refused, crate::proofs::Makings::items_given, crate::proofs::Makings::are_apart))]
 fn make_decoded(
     table: &[u8],
     stored: &[u8],
