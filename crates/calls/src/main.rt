@@ -222,7 +222,7 @@ fn answer_line<W: Write>(
     lines::write(writer, out, end)
 }
 
-// Answers the next line of the input, if there is one. After an error no further line can be asked for.
+// Answers the next line of the input, if there is one. After an error the areas have their lengths, and no further line can be asked for.
 fn answer_next<R: Read, W: Write>(
     reader: &mut R,
     writer: &mut W,
@@ -233,7 +233,8 @@ fn answer_next<R: Read, W: Write>(
     out: &mut [u8],
 ) -> io::Result<Line>
     requires { Areas input.old bytes.old room.old out.old × Placed (length input.old) l × (0 < l.more) }
-    ensures { IfOk result (λ next. Placed (length input.old) next × (next.more < l.more)) }
+    ensures placed { IfOk result (λ next. Placed (length input.old) next × (next.more < l.more)) }
+    ensures areas { Areas input.new bytes.new room.new out.new }
 {
     let next = lines::next(reader, input, l)?;
     let start = next.start;

@@ -1,10 +1,10 @@
 // The lines of an input, one at a time, in an area that is lent, and the answers to an output.
 #![tactic(auto)]
 
-ghost use Rattle.std.specs.Prelude.{◌≡◌, ◌-◌, ◌≤◌, ◌<◌, length, take, drop, IfOk, OnOk};
-ghost use Rattle.std.specs.Io.KnownBytes.{Appends};
+ghost use Rattle.std.specs.Prelude.{◌≡◌, ◌-◌, ◌≤◌, ◌<◌, length, take, drop, IfOk, OnOk, OnErr};
+ghost use Rattle.std.specs.Io.KnownBytes.{Appends, Keeps};
 ghost use Rattle.buffer.specs.Splice.{splice};
-ghost use Rattle.lines.specs.Placed.{Placed, Begun};
+ghost use Rattle.lines.specs.Placed.{Placed, Begun, Held};
 
 use std::io;
 use std::io::{Read, Write};
@@ -73,19 +73,25 @@ fn move_front(s: &mut [u8], from: usize, to: usize) -> usize
     n
 }
 
-// One read, to the input from held on; the place after what came, which is held itself if nothing more comes.
+// One read, to the input from held on; the place after what came, which is held itself if nothing more comes. A read that fails takes
+// nothing from the reader.
 fn read_more<R: Read>(reader: &mut R, input: &mut [u8], held: usize) -> io::Result<usize>
     requires { held ≤ length input.old }
-    ensures { IfOk result (λ end. (held ≤ end) × (end ≤ length input.old)) }
+    ensures read { IfOk result (λ end. (held ≤ end) × (end ≤ length input.old)) }
+    ensures before { take held input.new ≡ take held input.old }
+    ensures failed { OnErr result (Keeps (R.remaining reader.old) (R.remaining reader.new)) }
 {
     let got = reader.read(&mut input[held..])?;
     Ok(held + got)
 }
 
-// One read after the bytes that have no newline. If nothing comes, these are the last line, unless there are none.
+// One read after the bytes that have no newline, which come to the front. If nothing comes, these are the last line, unless there are none.
+#[tactic(auto, using(crate::proofs::Holding::held_first))]
 fn fill<R: Read>(reader: &mut R, input: &mut [u8], l: Line) -> io::Result<Line>
     requires { Placed (length input.old) l × (0 < l.more) × (l.filled - l.next < length input.old) }
-    ensures { IfOk result (λ next. Placed (length input.old) next × (next.more < l.more)) }
+    ensures placed { IfOk result (λ next. Placed (length input.old) next × (next.more < l.more)) }
+    ensures held { Held l input.old input.new }
+    ensures failed { OnErr result (Keeps (R.remaining reader.old) (R.remaining reader.new)) }
 {
     let held = move_front(input, l.next, l.filled);
     let filled = read_more(reader, input, held)?;
@@ -123,11 +129,13 @@ fn find_end(input: &[u8], l: Line) -> usize
 }
 
 // The next line, if it stands in the input area already; else one read. A line that fills the area is too long: it is found as an
-// empty one, and the rest of it skipped. After an error the bytes that were held may have been moved, so that l no longer says where they
-// stand: the line is lost.
+// empty one, and the rest of it skipped. After an error the bytes that were still to be looked at stand at the front of the area, so that l
+// no longer says where they are, and the reader has what it had.
 pub fn next<R: Read>(reader: &mut R, input: &mut [u8], l: Line) -> io::Result<Line>
     requires { Placed (length input.old) l × (0 < l.more) }
-    ensures { IfOk result (λ next. Placed (length input.old) next × (next.more < l.more)) }
+    ensures placed { IfOk result (λ next. Placed (length input.old) next × (next.more < l.more)) }
+    ensures held { OnErr result (Held l input.old input.new) }
+    ensures failed { OnErr result (Keeps (R.remaining reader.old) (R.remaining reader.new)) }
 {
     let end = find_end(input, l);
     if end < l.filled {
@@ -158,7 +166,7 @@ pub fn next<R: Read>(reader: &mut R, input: &mut [u8], l: Line) -> io::Result<Li
 }
 
 // Writes the first `used` bytes of out, which a writer that says what it holds has after what it held. After an error some of them may
-// have been written.
+// have been written; what is written from is lent to be read alone, so it stays.
 pub fn write<W: Write>(writer: &mut W, out: &[u8], used: usize) -> io::Result<()>
     requires { used ≤ length out.now }
     ensures within { used ≤ length out.now }

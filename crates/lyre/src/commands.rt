@@ -1,5 +1,5 @@
 // What each command does: the words are taken, the service is asked, and its answer is said.
-ghost use Rattle.std.specs.Prelude.{◌≤◌, length, IfOk};
+ghost use Rattle.std.specs.Prelude.{◌≡◌, ◌≤◌, length, IfOk};
 
 use crate::asking::Service;
 use crate::plain::Ended;
@@ -44,7 +44,8 @@ fn take_record(
     service: Service,
     area: &mut [u8],
 ) -> io::Result<words::Input>
-    ensures { IfOk result (λ given. given.used ≤ length area.new) }
+    ensures given { IfOk result (λ given. given.used ≤ length area.new) }
+    ensures kept { length area.new ≡ length area.old }
 {
     match service {
         Service::Read => words::file(rt, err, 3, area),
@@ -61,7 +62,8 @@ fn take_format(
     service: Service,
     area: &mut [u8],
 ) -> io::Result<words::Input>
-    ensures { IfOk result (λ given. given.used ≤ length area.new) }
+    ensures given { IfOk result (λ given. given.used ≤ length area.new) }
+    ensures kept { length area.new ≡ length area.old }
 {
     match service {
         Service::Read => words::format(env, err, 4, area),
@@ -78,7 +80,8 @@ fn take_values(
     service: Service,
     area: &mut [u8],
 ) -> io::Result<words::Input>
-    ensures { IfOk result (λ given. given.used ≤ length area.new) }
+    ensures given { IfOk result (λ given. given.used ≤ length area.new) }
+    ensures kept { length area.new ≡ length area.old }
 {
     match service {
         Service::Update => words::bytes(env, err, 5, area),

@@ -1,5 +1,6 @@
-// The words of the command line, and the files that they name, each into an area.
-ghost use Rattle.std.specs.Prelude.{◌≤◌, length, IfOk};
+// The words of the command line, and the files that they name, each into an area, which keeps its length. Where a read or a message fails
+// the area may hold any bytes.
+ghost use Rattle.std.specs.Prelude.{◌≡◌, ◌≤◌, length, IfOk};
 
 use crate::{hexadecimal, letters, plain};
 use std::env::FillError;
@@ -64,7 +65,8 @@ pub(crate) fn nothing(area: &[u8], good: bool) -> Input
 
 // Word i, as it is.
 pub(crate) fn word(env: &impl Env, err: &impl Print, i: usize, area: &mut [u8]) -> io::Result<Input>
-    ensures { IfOk result (λ given. given.used ≤ length area.new) }
+    ensures given { IfOk result (λ given. given.used ≤ length area.new) }
+    ensures kept { length area.new ≡ length area.old }
 {
     if let Ok(used) = env.arg(i, area) {
         return Ok(Input { good: true, used });
@@ -98,7 +100,8 @@ pub(crate) fn format(
     i: usize,
     area: &mut [u8],
 ) -> io::Result<Input>
-    ensures { IfOk result (λ given. given.used ≤ length area.new) }
+    ensures given { IfOk result (λ given. given.used ≤ length area.new) }
+    ensures kept { length area.new ≡ length area.old }
 {
     let given = word(env, err, i, area)?;
     let used = given.used;
@@ -122,7 +125,8 @@ pub(crate) fn bytes(
     i: usize,
     area: &mut [u8],
 ) -> io::Result<Input>
-    ensures { IfOk result (λ given. given.used ≤ length area.new) }
+    ensures given { IfOk result (λ given. given.used ≤ length area.new) }
+    ensures kept { length area.new ≡ length area.old }
 {
     let given = word(env, err, i, area)?;
     let used = given.used;
@@ -154,7 +158,8 @@ fn open<R: Files>(rt: &R, path: &[u8]) -> io::Result<R::File> {
 
 // Reads to the front of an area, until it is full or nothing more comes; how many bytes came.
 fn read_full(source: &mut impl Read, area: &mut [u8]) -> io::Result<usize>
-    ensures { IfOk result (λ used. used ≤ length area.new) }
+    ensures read { IfOk result (λ used. used ≤ length area.new) }
+    ensures kept { length area.new ≡ length area.old }
 {
     let mut done = 0;
     while done < area.len() {
@@ -191,7 +196,8 @@ fn load(
     path: &[u8],
     area: &mut [u8],
 ) -> io::Result<Input>
-    ensures { IfOk result (λ given. given.used ≤ length area.new) }
+    ensures given { IfOk result (λ given. given.used ≤ length area.new) }
+    ensures kept { length area.new ≡ length area.old }
 {
     if same(path, b"-") {
         let read = read_full(&mut rt.reader(), area);
@@ -228,7 +234,8 @@ pub(crate) fn file(
     i: usize,
     area: &mut [u8],
 ) -> io::Result<Input>
-    ensures { IfOk result (λ given. given.used ≤ length area.new) }
+    ensures given { IfOk result (λ given. given.used ≤ length area.new) }
+    ensures kept { length area.new ≡ length area.old }
 {
     let mut name = [0u8; PATH];
     let given = word(rt, err, i, &mut name)?;
