@@ -70,6 +70,7 @@ pub fn is_name(a: u8, b: u8) -> bool
 }
 
 // Whether a byte is one of the formats that may follow a name: A, B, F, G, P, U or W.
+#[tactic(auto, unfolding(rules::specs::Format::is_override, rules::specs::Format::override_letters, rules::specs::Lists::any))]
 pub fn is_override(b: u8) -> bool
     ensures { result ≡ is_override b }
 {

@@ -17,7 +17,7 @@ pub const LAST_ALONE: u8 = 1;
 
 pub const UP_TO_LAST: u8 = 2;
 
-// The indexes of a name: from_upto, and how far they reach. The use rules take N as they take 1, so it is 1 here.
+// The indexes of a name: from-upto, and how far they reach. The use rules take N as they take 1, so it is 1 here.
 #[derive(Clone, Copy)]
 pub struct Indexing {
     pub from: u16,
@@ -25,7 +25,7 @@ pub struct Indexing {
     pub scope: u8,
 }
 
-// A name with what may follow it: occurrences from_upto, values (first_last), how far each of the two reaches, a length and a format
+// A name with what may follow it: occurrences from-upto, values (first-last), how far each of the two reaches, a length and a format
 // letter. A number that is not given is 0.
 #[derive(Clone, Copy)]
 pub struct Named {

@@ -37,7 +37,7 @@ unfolding content with_length_byte
 content_back zero c = refl
 content_back (suc n) c = refl
 
--- A value as it is stored, converted_bytes to its own format and length, is itself.
+-- A value as it is stored, converted to its own format and length, is itself.
 pub stored_itself : (f : Field) (v : Bytes) → Stored f v → converted_bytes f.format f.format f.size (content f.size v) ≡ done v
 unfolding stored_value
 stored_itself f v s =

@@ -30,7 +30,7 @@ pub const INDEXES: usize = NEAR + 1;
 // What is kept as the last index of an MU field after N: no number of a format is as large.
 const AFTER_N: Index = 1000;
 
-// The fields of the entries from first up to end, in the occurrences from_upto, and in each the values value_from-value_upto. Where
+// The fields of the entries from first up to end, in the occurrences from-upto, and in each the values value_from-value_upto. Where
 // standard holds, each is at its own format and length; else first is the one field, at the format and the size in effect.
 #[derive(Clone, Copy)]
 pub struct Span {
