@@ -8,11 +8,11 @@ use lib.ListN.{length, take, drop, length-drop}
 use lib.Seq.{length-take-le}
 use Rattle.buffer.specs.Splice.{splice}
 use Rattle.buffer.proofs.Laws.{take_splice}
-use Rattle.lines.specs.Placed.{Held}
+use Rattle.lines.specs.Placed.{HeldAtFront}
 use Rattle.lines.specs.declared.Line.{Line}
 
 pub held_first : (l : Line) (old new moved : List ℕ) (n : ℕ) → l.next ≤ l.filled → l.filled ≤ length old → n ≡ l.filled - l.next
-    → moved ≡ splice 0 (take (l.filled - l.next) (drop l.next old)) old → length new ≡ length old → take n new ≡ take n moved → Held l old new
+    → moved ≡ splice 0 (take (l.filled - l.next) (drop l.next old)) old → length new ≡ length old → take n new ≡ take n moved → HeldAtFront l old new
 held_first l old new moved n o w e m s t =
     let k = l.filled - l.next in
     let d = length-drop l.next old in

@@ -16,5 +16,5 @@ abbrev pub Begun : Line → Type 0
 Begun l = (n : ℕ) → 0 < n → Placed n l
 
 -- After a read that failed the area has its length, and at its front the bytes that were still to be looked at.
-abbrev pub Held : Line → List ℕ → List ℕ → Type 0
-Held l old new = (length new ≡ length old) × (take (l.filled - l.next) new ≡ take (l.filled - l.next) (drop l.next old))
+abbrev pub HeldAtFront : Line → List ℕ → List ℕ → Type 0
+HeldAtFront l old new = (length new ≡ length old) × (take (l.filled - l.next) new ≡ take (l.filled - l.next) (drop l.next old))

@@ -4,7 +4,7 @@
 ghost use Rattle.std.specs.Prelude.{◌≡◌, ◌-◌, ◌≤◌, ◌<◌, length, take, drop, IfOk, OnOk, OnErr};
 ghost use Rattle.std.specs.Io.KnownBytes.{Appends, Keeps};
 ghost use Rattle.buffer.specs.Splice.{splice};
-ghost use Rattle.lines.specs.Placed.{Placed, Begun, Held};
+ghost use Rattle.lines.specs.Placed.{Placed, Begun, HeldAtFront};
 
 use std::io;
 use std::io::{Read, Write};
@@ -90,7 +90,7 @@ fn read_more<R: Read>(reader: &mut R, input: &mut [u8], held: usize) -> io::Resu
 fn fill<R: Read>(reader: &mut R, input: &mut [u8], l: Line) -> io::Result<Line>
     requires { Placed (length input.old) l × (0 < l.more) × (l.filled - l.next < length input.old) }
     ensures placed { IfOk result (λ next. Placed (length input.old) next × (next.more < l.more)) }
-    ensures held { Held l input.old input.new }
+    ensures held { HeldAtFront l input.old input.new }
     ensures failed { OnErr result (Keeps (R.remaining reader.old) (R.remaining reader.new)) }
 {
     let held = move_front(input, l.next, l.filled);
@@ -134,7 +134,7 @@ fn find_end(input: &[u8], l: Line) -> usize
 pub fn next<R: Read>(reader: &mut R, input: &mut [u8], l: Line) -> io::Result<Line>
     requires { Placed (length input.old) l × (0 < l.more) }
     ensures placed { IfOk result (λ next. Placed (length input.old) next × (next.more < l.more)) }
-    ensures held { OnErr result (Held l input.old input.new) }
+    ensures held { OnErr result (HeldAtFront l input.old input.new) }
     ensures failed { OnErr result (Keeps (R.remaining reader.old) (R.remaining reader.new)) }
 {
     let end = find_end(input, l);
