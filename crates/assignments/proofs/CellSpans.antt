@@ -1,9 +1,10 @@
 -- The span of a use that names a cell: its bounds, and what stands where its block begins.
+use Rattle.std.specs.Prelude.{None, Some}
 use mathlib.Core.Path.{◌≡◌, refl, sym, ap, subst, ◌∙◌}
 use mathlib.Core.Bool.{true, false, true≢false}
 use mathlib.Core.Logic.{inl}
 use mathlib.Core.List.{List}
-use Prim.Native.Nat.{ℕ, zero, suc, ◌+◌, ◌-◌, ◌*◌, ◌≤◌, ◌<◌}
+use Prim.Native.Nat.{ℕ, ◌+◌, ◌-◌, ◌*◌, ◌≤◌, ◌<◌}
 use native.Mathlib.Nat.{mul-le-mul}
 use native.Mathlib.Omega.{arith}
 use native.Mathlib.Numerals.{add-one}
@@ -18,11 +19,11 @@ use Rattle.rules.proofs.Steps.{by_test}
 use Rattle.tables.specs.Entries.{blank, is_group, is_multiple, size_of}
 use Rattle.tables.specs.Groups.{field_by, field_at}
 use Rattle.records.specs.Walk.{rest_of, Ends, EndsAt}
-use Rattle.uses.specs.Kept.{numbers_kept, span_at, use_at}
+use Rattle.uses.specs.Kept.{numbers_kept, span_at}
 use Rattle.uses.specs.declared.Span.{Span}
 use Rattle.uses.proofs.Spreading.{ordered_within}
 use borrow.Author.Tests.{ltb-true, ltb-false}
-use Rattle.assignments.specs.Notes.{note_bound, first_noted, width_noted, start_noted, place_at, use_names, TakesAt, Indexed, width_before}
+use Rattle.assignments.specs.Notes.{note_bound, first_noted, width_noted, start_noted, place_at, TakesAt, Indexed, width_before}
 use Rattle.assignments.specs.Answers.{FoundIn, Block, NamedBy}
 use Rattle.assignments.proofs.Giving.{places_once, takes_there}
 use Rattle.assignments.proofs.CellParts.{values_before}
@@ -122,13 +123,6 @@ module _ {es : List Entry} {f : Bytes} {kept : List ℕ} {count : ℕ} {list : L
   block_takes e = subst (λ (m : ℕ). TakesAt ws (place_at es i o 1) m) (sym (add-one r))
       (takes_there (places_once b.indexed) first_next.stands (first_next.place ∙ ap (place_at es i o) e))
 
--- The use that was found.
-found_known : (kept : List ℕ) (count i o n : ℕ) → FoundIn kept count (λ m. true) i o n → (n ≡ 0 → ⊥) → (n - 1 < count) × (use_names (use_at kept (n - 1)) i o ≡ true)
-found_known kept count i o zero f d = absurd (d refl)
-found_known kept count i o (suc m) f d =
-    let e : suc m - 1 ≡ m = omega arith in
-    subst (λ (k : ℕ). (k < count) × (use_names (use_at kept k) i o ≡ true)) (sym e) f
-
 size_by : (n : ℕ) (w : What) → is_group w ≡ false → size_of w ≡ (field_by n w).size
 unfolding field_by
 size_by n (field f s m) e = refl
@@ -141,30 +135,23 @@ standard_length es i g = size_by (get_or es i blank).name (get_or es i blank).wh
 -- Entry i, a field that is not MU, in an occurrence above the first.
 module _ {es : List Entry} {f : Bytes} {kept : List ℕ} {count : ℕ} {list : List ℕ} {stage : Bytes} {ws : List Assignment} (ix : Indexed es f kept count list stage ws)
     (i o : ℕ) (h : i < length es) (g : is_group (get_or es i blank).what ≡ false) where
-  pub found_named : (n size : ℕ) → FoundIn kept count (λ m. true) i o n → (n ≡ 0 → ⊥) → 1 ≤ o → (o ≡ 1 → ⊥) → size ≡ size_of (get_or es i blank).what
-      → NamedBy es f kept count list stage ws (n - 1) i o size
-  found_named n size d z l k e =
-      let x = found_known kept count i o n d z in
-      record {
-        indexed = ix;
-        known = x.0;
-        names = x.1;
-        entry = h;
-        field = g;
-        size_is = e ∙ standard_length es i g;
-        inside = inl (above_one o l k);
-      }
-    where
-      above_one : (o : ℕ) → 1 ≤ o → (o ≡ 1 → ⊥) → 2 ≤ o
-      above_one o l k = by_test (ltb 1 o) (λ t. ltb-true 1 o t) (λ t. let m = ltb-false 1 o t in absurd (k (omega arith)))
+  pub found_named : (n size : ℕ) → FoundIn kept count (λ m. true) i o (Some n) → 1 ≤ o → (o ≡ 1 → ⊥) → size ≡ size_of (get_or es i blank).what
+      → NamedBy es f kept count list stage ws n i o size
+  found_named n size d l k e = record {
+    indexed = ix;
+    known = d.0;
+    names = d.1;
+    entry = h;
+    field = g;
+    size_is = e ∙ standard_length es i g;
+    inside = inl (omega arith);
+  }
 
   pub first_takes : o ≡ 1 → TakesAt ws (place_at es i o 1) (first_noted list i)
   first_takes e = subst (λ (q : ℕ). TakesAt ws (place_at es i q 1) (first_noted list i)) (sym e) (ix.listed.firsts i h g)
 
-  pub none_takes : (n : ℕ) → FoundIn kept count (λ m. true) i o n → n ≡ 0 → TakesAt ws (place_at es i o 1) 0
-  none_takes n d e =
-      let q : FoundIn kept count (λ m. true) i o 0 = subst (λ (m : ℕ). FoundIn kept count (λ k. true) i o m) e d in
-      none_assigned ix i o 1 h g (λ m l. q m l refl)
+  pub none_takes : FoundIn kept count (λ m. true) i o None → TakesAt ws (place_at es i o 1) 0
+  none_takes d = none_assigned ix i o 1 h g (λ m l. d m l refl)
 
 -- A field that is not MU has value 1 alone.
 multiple_by : (n : ℕ) (w : What) → is_group w ≡ false → is_multiple w ≡ false → (field_by n w).multiple ≡ false

@@ -1,6 +1,5 @@
 -- The highest of some numbers, met one after the other.
 use mathlib.Core.Path.{◌≡◌, refl}
-use mathlib.Core.Logic.{◌⊎◌, ⊎_elim}
 use Prim.Native.Nat.{ℕ, suc, ◌+◌, ◌-◌, ◌≤◌, ◌<◌, max}
 use native.Mathlib.Omega.{arith}
 use native.Mathlib.Numerals.{add-one}
@@ -36,6 +35,3 @@ module _ (g : ℕ → ℕ) (first end : ℕ) where
 
     pub climb_end : end ≤ i → highest ≡ maximum (run g first (end - first))
     climb_end h = let q = run_none g i (end - i) (omega arith) in omega (arith, c)
-
-pub higher : (highest v r : ℕ) → ((highest < v) × (r ≡ v)) ⊎ ((v ≤ highest) × (r ≡ highest)) → r ≡ max highest v
-higher highest v r w = ⊎_elim (λ u. omega (arith, u.0, u.1)) (λ u. omega (arith, u.0, u.1)) w

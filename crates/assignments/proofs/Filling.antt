@@ -126,9 +126,6 @@ Fills stage at s size by by' p k = (es : List Entry) (ws : List Assignment) (i o
     → ValuesLeft es ws i o s.value_upto k p × Partly es ws i o s k by by'
 
 module _ (stage : Bytes) (at : ℕ) (s : Span) (size : ℕ) (by : List ℕ) where
-  pub fills_start : Fills stage at s size by by at s.value_from
-  fills_start es ws i o c = (block_left c.block, record { inside = λ j h l. absurd (omega arith); below = λ j h. refl; above = λ j h. refl })
-
   module _ (by' : List ℕ) (p k : ℕ) (f : Fills stage at s size by by' p k) where
     pub fills_next : {es : List Entry} {ws : List Assignment} {i o : ℕ} → CanFill es ws stage i o s at size → k ≤ s.value_upto → ValueNext es ws i o s.value_upto k p
     fills_next {es} {ws} {i} {o} c h = value_next h (f es ws i o c).0

@@ -168,10 +168,17 @@ put_linked (code.Text from upto) c l = put_nothing (code.Text from upto) refl (�
 put_linked (code.GroupCount i) c l = put_nothing (code.GroupCount i) refl (λ i. refl) l
 put_linked (code.ValueCount i k) c l = put_nothing (code.ValueCount i k) refl (λ i. refl) l
 
--- The list as the code puts it, by the chain that it was told; and a use as it was told.
+-- The list as the code puts it, by the chain that it was told; and a use as it was told, which is one of values or not.
 pub marked_linked : {es : List Entry} {s : Span} {after : List ℕ} (n : ℕ) (list : List ℕ) (chain : ℕ) → chain ≡ span_chain s
     → Marked es s (set (set list (note_place n + 1) (get_or list chain 0)) chain (n + 1)) after → Marked es s (linked n s list) after
 marked_linked {es} {s} {after} n list chain e m = subst (λ (x : ℕ). Marked es s (set (set list (note_place n + 1) (get_or list x 0)) x (n + 1)) after) e m
 
 pub links_as : (es : List Entry) (n : ℕ) (list after : List ℕ) {r u : Use} (v : Use) → r ≡ u → r ≡ v → Links es n v list after → Links es n u list after
 links_as es n list after v e h l = subst (λ (w : Use). Links es n w list after) (sym h ∙ e) l
+
+pub links_other : (es : List Entry) (n : ℕ) (list : List ℕ) {r u : Use} → r ≡ u → ((s : Span) → r ≡ code.Values s → ⊥) → Links es n u list list
+links_other es n list {u = code.Values s} e d = absurd (d s e)
+links_other es n list {u = code.Blanks m} e d = refl
+links_other es n list {u = code.Text from upto} e d = refl
+links_other es n list {u = code.GroupCount i} e d = refl
+links_other es n list {u = code.ValueCount i k} e d = refl

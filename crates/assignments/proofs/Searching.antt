@@ -1,10 +1,11 @@
 -- Chains gone over: what is left of a chain answers as the whole, and each number of a chain is that of a use of values that belongs to it.
+use Rattle.std.specs.Prelude.{Option, None, Some}
 use mathlib.Core.Path.{◌≡◌, refl, sym, ap, subst, ◌∙◌}
 use mathlib.Core.Bool.{Bool, true, false, cond, ◌||◌, true≢false}
 use mathlib.Core.List.{List, [], ◌∷◌}
 use Prim.Native.Nat.{ℕ, zero, suc, ◌+◌, ◌-◌, ◌*◌, ◌≤◌, ◌<◌}
 use native.Mathlib.Omega.{arith}
-use lib.Dec.{eqb, leb, ltb}
+use lib.Dec.{eqb, ltb}
 use lib.ListN.{length, get_or}
 use Rattle.rules.specs.Limits.{most_entries}
 use Rattle.rules.specs.Lists.{Bytes, filter, all, any, run}
@@ -14,60 +15,15 @@ use Rattle.rules.proofs.Steps.{by_test, eqb_same}
 use Rattle.rules.proofs.Bools.{and_both}
 use Rattle.tables.specs.Entries.{blank, is_group}
 use Rattle.uses.specs.Kept.{numbers_kept, span_at, use_at}
-use Rattle.uses.specs.declared.Span.{Span}
 use Rattle.uses.specs.declared.Use.{Use}
 use Rattle.uses.specs.declared.Use.TheVariants as code
 use Rattle.uses.proofs.Numbers.{use_blanks, use_text, use_group_count, use_value_count, use_values}
-use borrow.Author.Tests.{eqb-true, ltb-true, ltb-false, eq-eqb, ne_eqb, le-leb, lt-leb}
-use Rattle.assignments.specs.Notes.{note_bound, chains, cell_chains, field_chains, group_chain, note_place, highest_noted, next_noted, cell_chain, use_chain, use_names, names_cell, chained, Indexed}
-use Rattle.assignments.specs.Answers.{OfEach, FoundIn, chain_at, chains_for}
+use borrow.Author.Tests.{lt-ltb, le-ltb, eqb-true, ltb-true, ltb-false, eq-eqb}
+use Rattle.assignments.specs.Notes.{note_bound, chains, field_chains, group_chain, note_place, highest_noted, next_noted, cell_chain, use_chain, use_names, names_cell, chained, Indexed}
+use Rattle.assignments.specs.Answers.{OfEach, FoundIn, chain_at, chains_for, HasChains}
 use Rattle.assignments.proofs.Cells.{none_above, in_chains}
+use Rattle.assignments.proofs.PutBefore.{cell_low}
 use Rattle.assignments.proofs.Chained.{chained_end, chained_more, belongs_to, all_filter, none_of, chained_alike, none_below}
-
--- A span names a cell by four tests.
-pub names_as : {s x : Span} (i o : ℕ) → s ≡ x → names_cell s i o ≡ names_cell x i o
-names_as i o e = ap (λ (y : Span). names_cell y i o) e
-
-module _ (s : Span) (i o : ℕ) where
-  pub before_from : o < s.from → false ≡ names_cell s i o
-  unfolding names_cell
-  before_from h = rw (lt-leb s.from o h)
-
-  pub after_upto : s.upto < o → false ≡ names_cell s i o
-  unfolding names_cell
-  after_upto h = by_test (leb s.from o) (λ e. rw (e, lt-leb o s.upto h)) (λ e. rw e)
-
-  pub before_first : i < s.first → false ≡ names_cell s i o
-  unfolding names_cell
-  before_first h = by_test (leb s.from o)
-      (λ e. by_test (leb o s.upto) (λ e₂. rw (e, e₂, lt-leb s.first i h)) (λ e₂. rw (e, e₂)))
-      (λ e. rw e)
-
-  pub in_span : s.from ≤ o → o ≤ s.upto → s.first ≤ i → ltb i s.end ≡ names_cell s i o
-  unfolding names_cell
-  in_span h k l = rw (le-leb s.from o h, le-leb o s.upto k, le-leb s.first i l)
-
--- The three chains of a cell.
-pub cell_head : (i o : ℕ) → cell_chain i o < cell_chains
-unfolding cell_chain
-cell_head i o = omega arith
-
-module _ (x i o : ℕ) where
-  pub chain_first : x ≡ 0 → cell_chain i o ≡ chain_at x i o
-  unfolding chain_at
-  chain_first e = rw e
-
-  pub chain_second : x ≡ 1 → field_chains + i ≡ chain_at x i o
-  unfolding chain_at
-  chain_second e = rw e
-
-  pub chain_third : (x ≡ 0 → ⊥) → (x ≡ 1 → ⊥) → group_chain ≡ chain_at x i o
-  unfolding chain_at
-  chain_third d e = rw (ne_eqb x 0 d, ne_eqb x 1 e)
-
--- Of a number that is kept for a use, the number of the use.
-pub number_less : (n : ℕ) → 0 < n → n ≡ suc (n - 1)
-number_less n h = omega arith
 
 -- How many turns may be left, where the use with one number less comes next.
 unfoldable pub turns_left : ℕ → ℕ
@@ -178,7 +134,7 @@ abbrev pub Seeking : List ℕ → List ℕ → ℕ → ℕ → ℕ → ℕ → T
 Seeking kept list x i o n = OfEach kept list (λ es f count stage ws. (w : Walk kept list x count n)
     × (any (names_at kept i o) (left w) ≡ any (names_at kept i o) (chained list count (get_or list x 0))))
 
-abbrev pub Found : List ℕ → List ℕ → ℕ → ℕ → ℕ → ℕ → Type 0
+abbrev pub Found : List ℕ → List ℕ → ℕ → ℕ → ℕ → Option ℕ → Type 0
 Found kept list x i o r = OfEach kept list (λ es f count stage ws. FoundIn kept count (λ n. eqb (use_chain (use_at kept n)) x) i o r)
 
 module _ (kept list : List ℕ) (x i o : ℕ) (c : x < chains) where
@@ -186,7 +142,7 @@ module _ (kept list : List ℕ) (x i o : ℕ) (c : x < chains) where
   seek_start es f count stage ws ix = (walk_start ix c, ap (any (names_at kept i o)) (left_start ix c))
 
   module _ (n : ℕ) (s : Seeking kept list x i o n) where
-    pub seek_end : n ≤ 0 → Found kept list x i o 0
+    pub seek_end : n ≤ 0 → Found kept list x i o None
     unfolding any
     seek_end h es f count stage ws ix m l t =
         let (w, e) = s es f count stage ws ix in
@@ -195,11 +151,8 @@ module _ (kept list : List ℕ) (x i o : ℕ) (c : x < chains) where
         none_of (names_at kept i o) (belongs_to kept x) 0 (count - 0) z m (omega arith) (omega arith) t
 
     module _ (h : 0 < n) where
-      pub seek_found : names_cell (span_at kept (numbers_kept * (n - 1))) i o ≡ true → Found kept list x i o n
-      seek_found t es f count stage ws ix =
-          let w = (s es f count stage ws ix).0 in
-          subst (λ (r : ℕ). FoundIn kept count (λ n. eqb (use_chain (use_at kept n)) x) i o r) (sym (number_less n h))
-          (omega (arith, w.few), walk_names ix c w h i o ∙ t)
+      pub seek_found : names_cell (span_at kept (numbers_kept * (n - 1))) i o ≡ true → Found kept list x i o (Some (n - 1))
+      seek_found t es f count stage ws ix = let w = (s es f count stage ws ix).0 in (omega (arith, w.few), walk_names ix c w h i o ∙ t)
 
       pub seek_on : names_cell (span_at kept (numbers_kept * (n - 1))) i o ≡ false → Seeking kept list x i o (next_noted list (n - 1))
       unfolding any
@@ -223,41 +176,47 @@ known_both {kept = kept} {count = count} {count' = count'} {list = list} ix ix' 
 pub chain_small : (x i o : ℕ) → i < most_entries → chain_at x i o < chains
 unfolding chain_at
 chain_small x i o h = by_test (eqb x 0)
-    (λ e. rw e (omega (arith, cell_head i o)))
+    (λ e. rw e (omega (arith, cell_low i o)))
     (λ e. by_test (eqb x 1) (λ e₂. rw (e, e₂) (omega arith)) (λ e₂. rw (e, e₂) (omega arith)))
+
+-- They are found by the highest occurrence that is noted.
+module _ (list : List ℕ) (i o : ℕ) where
+  pub no_chains : highest_noted list i < o → HasChains list i o None
+  unfolding chains_for
+  no_chains h = rw (lt-ltb (highest_noted list i) o h)
+
+  pub three_chains : o ≤ highest_noted list i → i < most_entries → (c : ℕ) → c ≡ cell_chain i o → HasChains list i o (Some (c ∷ (field_chains + i) ∷ group_chain ∷ []))
+  unfolding chains_for chain_at
+  three_chains h k c e = (rw (le-ltb (highest_noted list i) o h), each)
+    where
+      each : (x : ℕ) → x < 3 → (get_or (c ∷ (field_chains + i) ∷ group_chain ∷ []) x 0 ≡ chain_at x i o) × (get_or (c ∷ (field_chains + i) ∷ group_chain ∷ []) x 0 < chains)
+      each zero l = (e, omega (arith, cell_low i o))
+      each (suc zero) l = (refl, omega arith)
+      each (suc (suc zero)) l = (refl, omega arith)
+      each (suc (suc (suc x))) l = absurd (omega arith)
 
 -- The chains of a cell are searched one after the other.
 abbrev pub Searched : List ℕ → List ℕ → ℕ → ℕ → ℕ → Type 0
 Searched kept list i o x = OfEach kept list (λ es f count stage ws. (y : ℕ) → y < x → (n : ℕ) → n < count → belongs_to kept (chain_at y i o) n ≡ true → names_at kept i o n ≡ false)
 
-abbrev pub FoundAny : List ℕ → List ℕ → ℕ → ℕ → ℕ → Type 0
+abbrev pub FoundAny : List ℕ → List ℕ → ℕ → ℕ → Option ℕ → Type 0
 FoundAny kept list i o r = OfEach kept list (λ es f count stage ws. FoundIn kept count (λ n. true) i o r)
-
-found_one : (kept : List ℕ) (count : ℕ) (p q : ℕ → Bool) (i o r : ℕ) → 0 < r → FoundIn kept count p i o r → FoundIn kept count q i o r
-found_one kept count p q i o zero h f = absurd (omega arith)
-found_one kept count p q i o (suc n) h f = f
 
 module _ (kept list : List ℕ) (i o : ℕ) where
   pub searched_start : Searched kept list i o 0
   searched_start es f count stage ws ix y h = absurd (omega arith)
 
-  module _ (x z r : ℕ) (e : z ≡ chain_at x i o) (d : Found kept list z i o r) where
-    pub searched_found : 0 < r → FoundAny kept list i o r
-    searched_found h es f count stage ws ix = found_one kept count (belongs_to kept z) (λ n. true) i o r h (d es f count stage ws ix)
-
-    pub searched_on : Searched kept list i o x → r ≤ 0 → Searched kept list i o (x + 1)
-    searched_on s h es f count stage ws ix y k n l t =
-        by_test (ltb y x)
-        (λ j. s es f count stage ws ix y (ltb-true y x j) n l t)
-        (λ j.
-        let m = ltb-false y x j in
-        let q : y ≡ x = omega arith in
-        let w : r ≡ 0 = omega arith in
-        let g : FoundIn kept count (belongs_to kept z) i o 0 = subst (λ (v : ℕ). FoundIn kept count (belongs_to kept z) i o v) w (d es f count stage ws ix) in
-        g n l (ap (λ v. belongs_to kept v n) (e ∙ ap (λ v. chain_at v i o) (sym q)) ∙ t))
+  pub searched_on : (x z : ℕ) → z ≡ chain_at x i o → Found kept list z i o None → Searched kept list i o x → Searched kept list i o (x + 1)
+  searched_on x z e d s es f count stage ws ix y k n l t =
+      by_test (ltb y x)
+      (λ j. s es f count stage ws ix y (ltb-true y x j) n l t)
+      (λ j.
+      let m = ltb-false y x j in
+      let q : y ≡ x = omega arith in
+      d es f count stage ws ix n l (ap (λ v. belongs_to kept v n) (e ∙ ap (λ v. chain_at v i o) (sym q)) ∙ t))
 
   pub searched_end : {es : List Entry} {f : Bytes} {count : ℕ} {stage : Bytes} {ws : List Assignment} → Indexed es f kept count list stage ws → i < length es
-      → is_group (get_or es i blank).what ≡ false → (x : ℕ) → chains_for list i o ≤ x → Searched kept list i o x → FoundAny kept list i o 0
+      → is_group (get_or es i blank).what ≡ false → (x : ℕ) → chains_for list i o ≤ x → Searched kept list i o x → FoundAny kept list i o None
   unfolding chains_for
   searched_end ix h g x k s es' f' count' stage' ws' ix' n l t = by_test (names_at kept i o n)
       (λ e.

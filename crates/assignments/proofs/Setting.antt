@@ -7,39 +7,23 @@ use native.Mathlib.Omega.{arith}
 use native.Mathlib.Numerals.{add-one}
 use lib.Dec.{eqb}
 use lib.ListN.{length, get_or, set, length-set}
-use lib.Seq.{get_or-set_same, get_or-set_other, set-get_or}
-use borrow.Author.Tests.{eqb-true, eqb-false, eq-eqb, ne_eqb}
+use lib.Seq.{get_or-set_same, get_or-set_other}
+use borrow.Author.Tests.{eqb-true, eqb-false}
 use Rattle.rules.specs.Limits.{most_entries}
 use Rattle.rules.specs.Table.{Entry}
 use Rattle.rules.proofs.Steps.{by_test}
 use Rattle.tables.specs.Entries.{blank, is_group, size_of}
 use Rattle.uses.specs.declared.Span.{Span}
-use Rattle.assignments.specs.Notes.{highest_from, widths_from, uses_from, note_place, first_noted, firsts_from, width_noted, width_before}
-use Rattle.assignments.specs.Answers.{first_put, entry_marked, Marked, Widened}
-
--- The first place of an entry is noted, or was noted before.
-module _ (list : List ℕ) (i at : ℕ) where
-  pub put_first : first_noted list i ≡ 0 → set list (firsts_from + i) (at + 1) ≡ first_put list i at
-  unfolding first_put
-  put_first e = rw (eq-eqb (first_noted list i) 0 e)
-
-  pub put_before : (first_noted list i ≡ 0 → ⊥) → list ≡ first_put list i at
-  unfolding first_put
-  put_before d = rw (ne_eqb (first_noted list i) 0 d)
+use Rattle.assignments.specs.Notes.{highest_from, widths_from, uses_from, note_place, width_noted, width_before}
+use Rattle.assignments.specs.Answers.{entry_marked, Marked, Widened}
 
 -- One entry is marked.
 module _ (es : List Entry) (list : List ℕ) (i upto : ℕ) where
-  pub marked_group : is_group (get_or es i blank).what ≡ true → list ≡ entry_marked es list i upto
+  marked_group : is_group (get_or es i blank).what ≡ true → list ≡ entry_marked es list i upto
   unfolding entry_marked
   marked_group g = rw g
 
-  pub marked_higher : is_group (get_or es i blank).what ≡ false → get_or list (highest_from + i) 0 < upto → set list (highest_from + i) upto ≡ entry_marked es list i upto
-  unfolding entry_marked
-  marked_higher g h =
-      let q : max (get_or list (highest_from + i) 0) upto ≡ upto = omega arith in
-      rw (g, q)
-
-  pub marked_field : is_group (get_or es i blank).what ≡ false → entry_marked es list i upto ≡ set list (highest_from + i) (max (get_or list (highest_from + i) 0) upto)
+  marked_field : is_group (get_or es i blank).what ≡ false → entry_marked es list i upto ≡ set list (highest_from + i) (max (get_or list (highest_from + i) 0) upto)
   unfolding entry_marked
   marked_field g = rw g
 
@@ -58,12 +42,6 @@ module _ (es : List Entry) (list : List ℕ) (i upto : ℕ) where
   marked_elsewhere j d = by_test (is_group (get_or es i blank).what)
       (λ g. ap (λ l. get_or l j 0) (sym (marked_group g)))
       (λ g. ap (λ l. get_or l j 0) (marked_field g) ∙ get_or-set_other list (highest_from + i) j (max (get_or list (highest_from + i) 0) upto) 0 (d g))
-
--- An occurrence that is not higher than the one noted changes nothing.
-pub marked_lower : (es : List Entry) (list : List ℕ) (i upto : ℕ) → is_group (get_or es i blank).what ≡ false → upto ≤ get_or list (highest_from + i) 0 → list ≡ entry_marked es list i upto
-marked_lower es list i upto g h =
-    let q : get_or list (highest_from + i) 0 ≡ max (get_or list (highest_from + i) 0) upto = omega arith in
-    sym (set-get_or list (highest_from + i) 0) ∙ ap (set list (highest_from + i)) q ∙ sym (marked_field es list i upto g)
 
 -- The entries of a span before entry i are marked.
 pub record Marking (es : List Entry) (s : Span) (list after : List ℕ) (i : ℕ) : Type 0 where

@@ -18,7 +18,7 @@ use Rattle.uses.specs.Kept.{numbers_kept, span_at, use_at}
 use Rattle.uses.specs.declared.Span.{Span}
 use Rattle.uses.specs.declared.Use.{Use}
 use Rattle.uses.specs.declared.Use.TheVariants as code
-use borrow.Author.Tests.{ltb-true, ltb-false, lt-leb, not-true, not-false, ne_eqb}
+use borrow.Author.Tests.{ltb-true, ltb-false, lt-leb, ne_eqb}
 use Rattle.assignments.specs.Notes.{chains, next_noted, names_cell, chained}
 use Rattle.assignments.specs.Answers.{NamedBy, Block, BeginsAt, NotedAt, CanFill, Filled, highest_by, bare_by, value_by, NotedBy, Tally, CanName, Tallies, NamesAll, chain_at, chains_for}
 use Rattle.assignments.specs.declared.Naming.{Naming}
@@ -230,16 +230,6 @@ module _ (kept list : List ℕ) (stage : Bytes) (x i o size : ℕ) (few : x < ch
             (subst (λ (v : Naming). Tallying kept list stage x i o size by₀ r₀ by v (next_noted list (n - 1))) (sym k) (tallying_out e)),
       )
 
--- The parts of a turn, as the code makes them.
-pub bare_other : (bare b : Bool) → not b ≡ true → false ≡ (bare && b)
-bare_other bare b e = sym (ap (λ v. bare && v) (not-true b e) ∙ and-false bare)
-
-pub bare_still : (bare b : Bool) → not b ≡ false → bare ≡ (bare && b)
-bare_still bare b e = sym (ap (λ v. bare && v) (not-false b e) ∙ and-true bare)
-
-pub naming_as : {h h' : ℕ} {b b' : Bool} → h ≡ h' → b ≡ b' → naming h b ≡ naming h' b'
-naming_as {h} {h'} {b} {b'} e e' = ap (λ (x : ℕ). naming x b) e ∙ ap (λ (x : Bool). naming h' x) e'
-
 -- The chains of a cell are gone over one after the other.
 abbrev pub Counting : List ℕ → List ℕ → Bytes → ℕ → ℕ → ℕ → List ℕ → Naming → ℕ → Type 0
 Counting kept list stage i o size by r x = (es : List Entry) (f : Bytes) (count : ℕ) (ws : List Assignment) → CanName es f kept count list stage ws i size
@@ -272,7 +262,7 @@ module _ (kept list : List ℕ) (stage : Bytes) (i o size : ℕ) where
       tally_names c by r r' (subst (λ (z : ℕ). Tally kept es ws i o (gone_over list count i o z) by r) e (s es f count ws c)) h b
 
 -- The answer is bare only where something is named.
-pub bare_none : (highest : ℕ) (bare : Bool) → highest ≡ 0 → false ≡ cond (eqb highest 0) false bare
+pub bare_none : (highest : ℕ) (bare : Bool) → highest ≡ 0 → not (eqb highest 0) ≡ cond (eqb highest 0) false bare
 bare_none highest bare e = rw e
 
 pub bare_some : (highest : ℕ) (bare : Bool) → (highest ≡ 0 → ⊥) → bare ≡ cond (eqb highest 0) false bare

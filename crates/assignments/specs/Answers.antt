@@ -1,5 +1,5 @@
 -- What the look-ups answer, in the words of `rules`.
-use Rattle.std.specs.Prelude.{◌≡◌, Bool, true, false, cond, not, ◌&&◌, ◌||◌, ◌⊎◌, List, ◌++◌, map, ℕ, zero, suc, ◌+◌, ◌-◌, ◌*◌, ◌≤◌, ◌<◌, max, T, eqb, leb, ltb, length, get_or, set}
+use Rattle.std.specs.Prelude.{◌≡◌, Bool, true, false, cond, not, ◌&&◌, ◌||◌, ◌⊎◌, List, ◌++◌, map, ℕ, zero, suc, ◌+◌, ◌-◌, ◌*◌, ◌≤◌, ◌<◌, max, T, eqb, leb, ltb, length, get_or, set, Option, None, Some}
 use Rattle.std.proofs.Math.Seq.{slice}
 use Rattle.rules.specs.Outcome.{done}
 use Rattle.rules.specs.Limits.{most_entries, highest_index}
@@ -14,7 +14,7 @@ use Rattle.uses.specs.Kept.{numbers_kept, span_at, use_at, uses_kept}
 use Rattle.uses.specs.declared.Span.{Span}
 use Rattle.uses.specs.declared.Use.{Use}
 use Rattle.uses.specs.declared.Use.TheVariants as code
-use Rattle.assignments.specs.Notes.{note_bound, field_chains, group_chain, highest_from, firsts_from, widths_from, note_place, highest_noted, first_noted, width_noted, next_noted, cell_chain, span_chain, use_names, names_cell, chained, place_at, bytes_given, StandsIn, TakesAt, OnStage, Listed, Chained, Indexed, width_before}
+use Rattle.assignments.specs.Notes.{note_bound, chains, field_chains, group_chain, highest_from, firsts_from, widths_from, note_place, highest_noted, first_noted, width_noted, next_noted, cell_chain, span_chain, use_names, names_cell, chained, place_at, bytes_given, StandsIn, TakesAt, OnStage, Listed, Chained, Indexed, width_before}
 use Rattle.assignments.specs.declared.Naming.{Naming}
 
 -- Value 1 of entry i in occurrence 1 is noted to stand at a place, unless one is noted already.
@@ -89,10 +89,10 @@ HasIndex kept list = (es : List Entry) × (f : Bytes) × (count : ℕ) × (stage
 abbrev pub HasEntries : List ℕ → List ℕ → ℕ → Type 0
 HasEntries kept list end = (es : List Entry) × (f : Bytes) × (count : ℕ) × (stage : Bytes) × (ws : List Assignment) × Indexed es f kept count list stage ws × (end ≤ length es)
 
--- One above the number of a use, among some, that names entry i in occurrence o: 0 where none does.
-abbrev pub FoundIn : List ℕ → ℕ → (ℕ → Bool) → ℕ → ℕ → ℕ → Type 0
-FoundIn kept count among i o zero = (n : ℕ) → n < count → among n ≡ true → use_names (use_at kept n) i o ≡ false
-FoundIn kept count among i o (suc n) = (n < count) × (use_names (use_at kept n) i o ≡ true)
+-- The number of a use, among some, that names entry i in occurrence o: None where none does.
+abbrev pub FoundIn : List ℕ → ℕ → (ℕ → Bool) → ℕ → ℕ → Option ℕ → Type 0
+FoundIn kept count among i o None = (n : ℕ) → n < count → among n ≡ true → use_names (use_at kept n) i o ≡ false
+FoundIn kept count among i o (Some n) = (n < count) × (use_names (use_at kept n) i o ≡ true)
 
 -- The chains in which a use that names entry i in occurrence o may be.
 unfoldable pub chain_at : ℕ → ℕ → ℕ → ℕ
@@ -101,6 +101,11 @@ chain_at x i o = cond (eqb x 0) (cell_chain i o) (cond (eqb x 1) (field_chains +
 -- How many of them have to be searched.
 unfoldable pub chains_for : List ℕ → ℕ → ℕ → ℕ
 chains_for list i o = cond (ltb (highest_noted list i) o) 0 3
+
+-- These are the chains to be searched: None where there are none.
+abbrev pub HasChains : List ℕ → ℕ → ℕ → Option (List ℕ) → Type 0
+HasChains list i o None = chains_for list i o ≡ 0
+HasChains list i o (Some xs) = (chains_for list i o ≡ 3) × ((x : ℕ) → x < 3 → (get_or xs x 0 ≡ chain_at x i o) × (get_or xs x 0 < chains))
 
 -- A value in normal form: it is read back from the front of whatever begins with it.
 abbrev pub ReadsBack : Assignment → Type 0

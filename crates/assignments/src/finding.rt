@@ -8,85 +8,59 @@ ghost use Rattle.tables.specs.Entries.{Valid, entries_of, is_group, is_multiple,
 ghost use Rattle.uses.specs.Kept.{numbers_kept, span_at, use_at};
 ghost use Rattle.uses.specs.declared.Span.{Span};
 ghost use Rattle.assignments.specs.Notes.{chains, uses_from, use_chain, names_cell, place_at, TakesAt, Indexed};
-ghost use Rattle.assignments.specs.Answers.{OfEach, HasIndex, HasEntries, FoundIn, chain_at, HasBlock, BeginsAt, CanFill, Filled, Tallies, NamesAll, chains_for, Highest, CanFind, Nameable};
+ghost use Rattle.assignments.specs.Answers.{OfEach, HasIndex, HasEntries, FoundIn, HasChains, HasBlock, BeginsAt, CanFill, Filled, Tallies, NamesAll, Highest, CanFind, Nameable};
 
 use crate::{CELLS, FIRSTS, GROUPS, HIGHEST, NUMBERS, Naming, USES, VALUES, WIDTHS, chains};
 use uses::{Index, Span};
 
 // Whether use n, which names values, names entry i in occurrence o.
+#[tactic(auto, unfolding(crate::specs::Notes::names_cell))]
 fn names(kept: &[Index], n: usize, i: usize, o: usize) -> bool
     requires { numbers_kept * n + numbers_kept ≤ length kept.now }
     ensures { result ≡ names_cell (span_at kept.now (numbers_kept * n)) i o }
 {
     let s = uses::kept::span_at(kept, uses::kept::NUMBERS * n);
-    if o < s.from {
-        return false;
-    }
-    if s.upto < o {
-        return false;
-    }
-    if i < s.first {
-        return false;
-    }
-    i < s.end
+    s.from <= o && o <= s.upto && s.first <= i && i < s.end
 }
 
-// One above the number of the first use of a chain that names entry i in occurrence o.
-fn in_chain(kept: &[Index], list: &[u16], chain: usize, i: usize, o: usize) -> usize
+// The number of the first use of a chain that names entry i in occurrence o.
+fn in_chain(kept: &[Index], list: &[u16], chain: usize, i: usize, o: usize) -> Option<usize>
     requires { HasIndex kept.now list.now × (chain < chains) }
     ensures { OfEach kept.now list.now (λ es f count stage ws. FoundIn kept.now count (λ n. eqb (use_chain (use_at kept.now n)) chain) i o result) }
 {
     let mut n = list[chain] as usize;
     while 0 < n {
         if names(kept, n - 1, i, o) {
-            return n;
+            return Some(n - 1);
         }
         n = list[USES + NUMBERS * (n - 1) + 1] as usize;
     }
-    0
+    None
 }
 
-// The chains in which a use that names entry i in occurrence o may be.
-fn chain_at(x: usize, i: usize, o: usize) -> usize
-    requires { (i < most_entries) × (o ≤ highest_index) }
-    ensures { (result ≡ chain_at x i o) × (result < chains) }
-{
-    if x == 0 {
-        return chains::cell_chain(i, o);
-    }
-    if x == 1 {
-        return CELLS + i;
-    }
-    GROUPS
-}
-
-// How many of these have to be searched: none where no occurrence from o on is named of entry i.
-fn chains_for(list: &[u16], i: usize, o: usize) -> usize
-    requires { (uses_from ≤ length list.now) × (i < most_entries) }
-    ensures { result ≡ chains_for list.now i o }
+// The chains in which a use that names entry i in occurrence o may be: None where no occurrence from o on is named of entry i.
+#[tactic(auto, using(crate::proofs::Searching::no_chains))]
+fn chains_for(list: &[u16], i: usize, o: usize) -> Option<[usize; 3]>
+    requires { (uses_from ≤ length list.now) × (i < most_entries) × (o ≤ highest_index) }
+    ensures { HasChains list.now i o result }
 {
     if (list[HIGHEST + i] as usize) < o {
-        0
-    } else {
-        3
+        return None;
     }
+    Some([chains::cell_chain(i, o), CELLS + i, GROUPS])
 }
 
-// One above the number of the use that names entry i in occurrence o.
-fn use_of(kept: &[Index], list: &[u16], i: usize, o: usize) -> usize
+// The number of the use that names entry i in occurrence o.
+fn use_of(kept: &[Index], list: &[u16], i: usize, o: usize) -> Option<usize>
     requires { ((es : List Entry) × (f : Bytes) × (count : ℕ) × (stage : Bytes) × (ws : List Assignment) × Indexed es f kept.now count list.now stage ws × (i < length es) × (is_group (what_at es i) ≡ false)) × (1 ≤ o) × (o ≤ highest_index) }
     ensures { OfEach kept.now list.now (λ es f count stage ws. FoundIn kept.now count (λ n. true) i o result) }
 {
-    let end = chains_for(list, i, o);
-    let mut x = 0;
-    while x < end {
-        let n = in_chain(kept, list, chain_at(x, i, o), i, o);
-        if 0 < n {
-            return n;
+    for chain in chains_for(list, i, o)? {
+        if let Some(n) = in_chain(kept, list, chain, i, o) {
+            return Some(n);
         }
-        x += 1;
     }
-    0
+    None
 }
 
 // Where the values that use n gives to entry i, a field of a standard length, in occurrence o begin.
@@ -122,11 +96,10 @@ pub fn assigned(t: &[u8], kept: &[Index], list: &[u16], stage: &[u8], i: usize, 
     if o == 1 {
         return list[FIRSTS + i] as usize;
     }
-    let n = use_of(kept, list, i, o);
-    if n == 0 {
-        return 0;
+    match use_of(kept, list, i, o) {
+        Some(n) => cell_start(kept, list, stage, n, i, o, tables::size_at(t, i)) + 1,
+        None => 0,
     }
-    cell_start(kept, list, stage, n - 1, i, o, tables::size_at(t, i)) + 1
 }
 
 // Notes the places of values, which stand one after the other on the stage.
@@ -135,11 +108,9 @@ fn fill(stage: &[u8], at: usize, s: Span, size: usize, by: &mut [u16; VALUES])
     ensures { (es : List Entry) (ws : List Assignment) (i : ℕ) (o : ℕ) → CanFill es ws stage.now i o s at size → Filled es ws i o s by.old by.new }
 {
     let mut p = at;
-    let mut k = s.value_from;
-    while k <= s.value_upto {
+    for k in s.value_from..=s.value_upto {
         by[k] = (p + 1) as u16;
         p = records::skip::values_end(stage, p, 1, size);
-        k += 1;
     }
 }
 
@@ -158,24 +129,19 @@ fn named_in(
     requires { (chain < chains) × (length by.old ≡ highest_index + 1) × Nameable kept.now list.now stage.now i size }
     ensures { Tallies kept.now list.now stage.now chain i o size by.old by.new so_far result }
 {
-    let mut highest = so_far.highest;
-    let mut bare = so_far.bare;
+    let mut all = so_far;
     let mut n = list[chain] as usize;
     while 0 < n {
         if names(kept, n - 1, i, o) {
             let s = uses::kept::span_at(kept, uses::kept::NUMBERS * (n - 1));
             let at = cell_start(kept, list, stage, n - 1, i, o, size);
             fill(stage, at, s, size, by);
-            if highest < s.value_upto {
-                highest = s.value_upto;
-            }
-            if !s.bare {
-                bare = false;
-            }
+            all.highest = all.highest.max(s.value_upto);
+            all.bare &= s.bare;
         }
         n = list[USES + NUMBERS * (n - 1) + 1] as usize;
     }
-    Naming { highest, bare }
+    all
 }
 
 // What is named of entry i in occurrence o. At each value that is named stands one above the place of what it takes.
@@ -191,19 +157,22 @@ pub fn named(
     requires { (i < most_entries) × (1 ≤ o) × (o ≤ highest_index) × (length by.old ≡ highest_index + 1) × ((k : ℕ) → get_or by.old k 0 ≡ 0) × Nameable kept.now list.now stage.now i size }
     ensures { NamesAll kept.now list.now stage.now i o size by.new result }
 {
+    let Some(chains) = chains_for(list, i, o) else {
+        return Naming {
+            highest: 0,
+            bare: false,
+        };
+    };
     let mut all = Naming {
         highest: 0,
         bare: true,
     };
-    let end = chains_for(list, i, o);
-    let mut x = 0;
-    while x < end {
-        all = named_in(kept, list, stage, chain_at(x, i, o), i, o, size, by, all);
-        x += 1;
+    for chain in chains {
+        all = named_in(kept, list, stage, chain, i, o, size, by, all);
     }
     Naming {
-        highest: all.highest,
-        bare: if all.highest == 0 { false } else { all.bare },
+        bare: all.highest != 0 && all.bare,
+        ..all
     }
 }
 
@@ -212,14 +181,9 @@ pub fn highest_occurrence(kept: &[Index], list: &[u16], first: usize, end: usize
     requires { (first ≤ end) × HasEntries kept.now list.now end }
     ensures { Highest kept.now list.now first end result × (result ≤ highest_index) }
 {
-    let mut highest = 0;
-    let mut i = first;
-    while i < end {
-        let o = list[HIGHEST + i] as usize;
-        if highest < o {
-            highest = o;
-        }
-        i += 1;
+    let mut highest = 0usize;
+    for i in first..end {
+        highest = highest.max(list[HIGHEST + i] as usize);
     }
     highest
 }

@@ -50,6 +50,7 @@ pub fn begin(list: &mut [u16], n: usize, at: usize)
 }
 
 // Value 1 of entry i in occurrence 1 stands at a place of the stage, if it is the first that is given to it.
+#[tactic(auto, unfolding(crate::specs::Answers::first_put))]
 pub fn put(list: &mut [u16], i: usize, at: usize)
     requires { (uses_from ≤ length list.old) × (i < most_entries) × (at + 1 < note_bound) }
     ensures { list.new ≡ first_put list.old i at }

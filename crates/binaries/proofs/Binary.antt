@@ -1,13 +1,18 @@
 -- Format B: a number fits n bytes when all before the last n are zeros, and its bytes are those last n, zeros to the left.
+use Rattle.std.specs.Prelude.{None, Option, Some}
+use Rattle.fixed.specs.declared.Signed.{Signed}
 use mathlib.Core.Path.{◌≡◌, refl, sym, ◌∙◌, ap}
 use mathlib.Core.Bool.{Bool, true, false, false≢true}
 use mathlib.Core.List.{◌++◌}
-use Prim.Native.Nat.{ℕ, zero, suc, ◌+◌, ◌*◌, ◌-◌, ◌^◌, ◌≤◌, ◌<◌}
+use Prim.Native.Nat.{ℕ, zero, suc, ◌+◌, ◌*◌, ◌-◌, ◌%◌, ◌^◌, ◌≤◌, ◌<◌}
 use native.Mathlib.Nat.{pow-le-pow_right, mul-le-mul_right}
 use native.Mathlib.Numerals.{add-one}
 use native.Mathlib.Omega.{arith}
 use lib.Dec.{ltb, leb, lit<}
-use lib.ListN.{length, drop, get_or, replicate, length-drop}
+use lib.ListN.{length, drop, take, get_or, replicate, length-drop}
+use lib.Seq.{length-take-le, get_or-take}
+use Rattle.std.specs.Bool.{MatchBool}
+use Rattle.std.specs.List.{AllWithin, HoldsAt}
 use borrow.Author.Tests.{lt-ltb, le-ltb, ltb-true, le-leb, lt-leb}
 use Rattle.rules.specs.Outcome.{done, is_done}
 use Rattle.rules.specs.Limits.{lowest_word}
@@ -17,8 +22,6 @@ use Rattle.rules.proofs.Done.{is_done_need, done_need, no_length_byte}
 use Rattle.rules.proofs.Digits.{Below, below_drop, spelled_turn, spelled_end, spelled_after, spelled_below, spelled_grows, digits_spelled, own_digits, digits_zero}
 use Rattle.buffer.proofs.Cases.{by_order}
 use Rattle.fixed.specs.Words.{pick, word_of, value_of}
-use Rattle.fixed.specs.declared.Word.{Word}
-use Rattle.fixed.specs.declared.Word.TheVariants.{Number, Outside}
 use Rattle.fixed.proofs.NormalForm.{is_normal_form}
 
 -- Carried from B to B, a value is written as the number that it means.
@@ -43,6 +46,14 @@ pub four_hold : (n x : ℕ) → 4 ≤ n → x < 4294967296 → is_done (normal b
 four_hold n x h l =
     let k : 256 ^ 4 ≤ 256 ^ n = pow-le-pow_right {n = 256} (lit< tt) {i = 4} {j = n} h in
     fits_is n x ∙ lt-ltb x (256 ^ n) (omega arith)
+
+-- The least number that is too large for n bytes, where a word can be.
+pub shifted : (n : ℕ) → n < 4 → 1 * 2 ^ (8 * n) % 4294967296 ≡ 256 ^ n
+shifted zero h = refl
+shifted (suc zero) h = refl
+shifted (suc (suc zero)) h = refl
+shifted (suc (suc (suc zero))) h = refl
+shifted (suc (suc (suc (suc n)))) h = absurd (omega arith)
 
 pub word_bytes : (n : ℕ) (below : Bool) (x : ℕ) → is_done (normal binary n (number below x)) ≡ true
     → digits 256 n x ≡ bytes_of (normal binary n (number below x))
@@ -71,19 +82,9 @@ small s n b h =
     let k : 256 ^ length s ≤ 256 ^ n = pow-le-pow_right {n = 256} (lit< tt) {i = length s} {j = n} h in
     omega (arith, spelled_below 256 s b)
 
--- The answers of the walk.
-module _ (s : Bytes) (n i : ℕ) (same : spelled 256 (drop i s) 0 ≡ spelled 256 s 0) where
-  pub walk_fits : Below 256 s → length s ≤ n + i → is_done (converted_bytes binary binary n s) ≡ true
-  walk_fits b h =
-      converted_fits n s
-      ∙ lt-ltb (spelled 256 s 0) (256 ^ n)
-      (rw same at (small (drop i s) n (below_drop 256 s i b) (rw length-drop (omega arith))))
-
-  pub walk_stops : (get_or s i 0 ≡ 0 → ⊥) → n + i < length s → is_done (converted_bytes binary binary n s) ≡ false
-  walk_stops z h =
-      converted_fits n s
-      ∙ le-ltb (spelled 256 s 0) (256 ^ n)
-      (rw same at (too_large s i (omega arith) n (omega (arith, z)) h))
+-- Every number of so few bytes fits.
+pub fits_short : (s : Bytes) (n : ℕ) → Below 256 s → length s ≤ n → is_done (converted_bytes binary binary n s) ≡ true
+fits_short s n b h = converted_fits n s ∙ lt-ltb (spelled 256 s 0) (256 ^ n) (small s n b h)
 
 -- All before the last n bytes are zeros where the number fits.
 leading : (s : Bytes) (n : ℕ) → spelled 256 s 0 < 256 ^ n → (k : ℕ) → k + n ≤ length s → spelled 256 (drop k s) 0 ≡ spelled 256 s 0
@@ -93,6 +94,35 @@ leading s n h (suc k) l =
     by_order 0 (get_or s k 0)
     (λ p. absurd (omega (arith, too_large s k (omega arith) n p (omega arith))))
     (λ z. rw add-one at (zero_skips s k (omega arith) (omega arith)) ∙ same)
+
+-- The test of the bytes before the last n.
+module _ (s : Bytes) (n : ℕ) where
+  zeros_pass : Below 256 s → (k : ℕ) → length s ≤ n + k → spelled 256 (drop k s) 0 ≡ spelled 256 s 0 → spelled 256 s 0 < 256 ^ n
+  zeros_pass b k h same = rw same at (small (drop k s) n (below_drop 256 s k b) (rw length-drop (omega arith)))
+
+  zeros_skip : (k : ℕ) → k ≤ length s → ((i : ℕ) → i < k → get_or s i 0 ≡ 0) → spelled 256 (drop k s) 0 ≡ spelled 256 s 0
+  zeros_skip zero l z = refl
+  zeros_skip (suc k) l z =
+      rw add-one at (zero_skips s k (omega arith) (z k (omega arith))) ∙ zeros_skip k (omega arith) (λ i h. z i (omega arith))
+
+  other_fails : (k : ℕ) → k + n < length s → (get_or s k 0 ≡ 0 → ⊥) → 256 ^ n ≤ spelled 256 s 0
+  other_fails k h z =
+      by_order (spelled 256 s 0) (256 ^ n)
+      (λ p. absurd (omega (arith, leading s n p k (omega arith), too_large s k (omega arith) n (omega (arith, z)) (omega arith))))
+      (λ l. l)
+
+  pub fits_by_zeros : Below 256 s → (r : Bool)
+      → MatchBool r (AllWithin (λ x. x ≡ 0) (take (length s - n) s) 0 (length (take (length s - n) s))) ((k : ℕ) × (k < length (take (length s - n) s)) × HoldsAt (λ x. x ≡ 0 → ⊥) (take (length s - n) s) k)
+      → r ≡ is_done (converted_bytes binary binary n s)
+  fits_by_zeros b true h =
+      let l = length-take-le (length s - n) s (omega arith) in
+      sym (converted_fits n s
+      ∙ lt-ltb (spelled 256 s 0) (256 ^ n)
+      (zeros_pass b (length s - n) (omega arith) (zeros_skip (length s - n) (omega arith) (λ i k. rw get_or-take at (h i 0 (omega arith) (omega arith))))))
+  fits_by_zeros b false (k, less, h) =
+      let l = length-take-le (length s - n) s (omega arith) in
+      let m : k < length s - n = omega arith in
+      sym (converted_fits n s ∙ le-ltb (spelled 256 s 0) (256 ^ n) (other_fails k (omega arith) (rw get_or-take at (h 0))))
 
 module _ (s : Bytes) (n : ℕ) (b : Below 256 s) (fits : is_done (converted_bytes binary binary n s) ≡ true) where
   fitting : spelled 256 s 0 < 256 ^ n
@@ -115,21 +145,21 @@ module _ (s : Bytes) (n : ℕ) (b : Below 256 s) (fits : is_done (converted_byte
       bytes_are ∙ ap (λ m. digits 256 m (spelled 256 s 0)) e ∙ digits_spelled 256 s (n - length s) 0 b ∙ rw (digits_zero 256 (n - length s))
 
 -- The word of a number.
-number_word : ℕ → Word
-number_word x = pick (leb x lowest_word) (Number (record { negative = false; magnitude = x })) Outside
+number_word : ℕ → Option Signed
+number_word x = pick (leb x lowest_word) (Some (record { negative = false; magnitude = x })) None
 
 word_is : (s : Bytes) → word_of (value_of (meaning binary s)) ≡ number_word (spelled 256 s 0)
 unfolding word_of value_of meaning number_word
 word_is s = refl
 
 module _ (s : Bytes) (i x : ℕ) (same : spelled 256 (drop i s) x ≡ spelled 256 s 0) where
-  pub word_outside : lowest_word < x → Outside ≡ word_of (value_of (meaning binary s))
+  pub word_outside : lowest_word < x → None ≡ word_of (value_of (meaning binary s))
   unfolding number_word
   word_outside h =
       let g = spelled_grows 256 (drop i s) x (lit< tt) in
       rw (word_is s, lt-leb (spelled 256 s 0) lowest_word (omega arith))
 
-  pub word_number : length s ≤ i → x ≤ lowest_word → Number (record { negative = false; magnitude = x }) ≡ word_of (value_of (meaning binary s))
+  pub word_number : length s ≤ i → x ≤ lowest_word → Some (record { negative = false; magnitude = x }) ≡ word_of (value_of (meaning binary s))
   unfolding number_word
   word_number h l = rw (word_is s, ← same, spelled_end 256 s i x h, le-leb x lowest_word l)
 

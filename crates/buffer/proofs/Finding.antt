@@ -1,22 +1,22 @@
--- The laws of `upto_first`, a byte at a time: at the end, at the byte itself, and at another.
-use mathlib.Core.Path.{◌≡◌}
-use mathlib.Core.List.{List}
-use Prim.Native.Nat.{ℕ, suc, ◌+◌, ◌≤◌, ◌<◌}
+-- The laws of `upto_first`: at the byte itself, at another, and that it passes no more than there is.
+use mathlib.Core.Path.{◌≡◌, refl}
+use mathlib.Core.List.{List, [], ◌∷◌}
+use Prim.Native.Nat.{ℕ, ◌+◌, ◌≤◌}
 use native.Mathlib.Numerals.{add-one}
+use native.Mathlib.Omega.{arith}
 use borrow.Author.Tests.{eq-eqb, ne_eqb}
-use lib.ListN.{length, drop, get_or, drop_of_length-le}
-use lib.Seq.{drop-cons}
+use lib.ListN.{length}
 use Rattle.buffer.specs.Search.{upto_first}
 
-module _ (b i : ℕ) (s : List ℕ) where
-  pub first_end : length s ≤ i → upto_first b (drop i s) ≡ 0
-  unfolding upto_first
-  first_end h = rw (drop_of_length-le s h)
+pub first_here : (b c : ℕ) (s : List ℕ) → c ≡ b → upto_first b (c ∷ s) ≡ 0
+unfolding upto_first
+first_here b c s e = rw (eq-eqb c b e) refl
 
-  pub first_here : i < length s → get_or s i 0 ≡ b → upto_first b (drop i s) ≡ 0
-  unfolding upto_first
-  first_here h e = rw (drop-cons s i 0, eq-eqb (get_or s i 0) b e)
+pub first_later : (b c : ℕ) (s : List ℕ) → (c ≡ b → ⊥) → upto_first b (c ∷ s) ≡ upto_first b s + 1
+unfolding upto_first
+first_later b c s e = rw (ne_eqb c b e, add-one) refl
 
-  pub first_later : i < length s → (get_or s i 0 ≡ b → ⊥) → upto_first b (drop i s) ≡ suc (upto_first b (drop (i + 1) s))
-  unfolding upto_first
-  first_later h e = rw (drop-cons s i 0, ne_eqb (get_or s i 0) b e, add-one)
+pub first_within : (b : ℕ) (s : List ℕ) → upto_first b s ≤ length s
+unfolding upto_first
+first_within b [] = omega arith
+first_within b (c ∷ s) = grind (arith, first_within b s)

@@ -1,16 +1,16 @@
 -- Two kinds of loop, a byte a turn: the invariant as a record, its start, its turn and its end.
 -- A write of the n bytes of t to out from `at`: `Up` goes from the left, `Down` from the right; the byte that a turn stores is t's
--- at that place. A test of the first n bytes of s: `Scan` goes from the left, `Back` from the right; what is left answers as the whole.
-use mathlib.Core.Path.{◌≡◌, refl, sym, ap, ◌∙◌}
-use mathlib.Core.Bool.{Bool, true, false, ◌&&◌, and-true, and-false}
+-- at that place. A test of the first n bytes of s: `Scan` goes from the left, and what is left answers as the whole.
+use mathlib.Core.Path.{◌≡◌, refl, sym, ◌∙◌}
+use mathlib.Core.Bool.{Bool, true, false, ◌&&◌}
 use Prim.Native.Nat.{ℕ, suc, ◌+◌, ◌-◌, ◌≤◌, ◌<◌}
 use native.Mathlib.Numerals.{add-one}
 use native.Mathlib.Omega.{arith}
 use mathlib.Core.List.{List}
 use lib.ListN.{length, take, drop, get_or, set, length-set}
-use lib.Seq.{drop-cons, take-suc}
+use lib.Seq.{drop-cons}
 use Rattle.rules.specs.Lists.{all}
-use Rattle.rules.proofs.Digits.{all_none, all_first, all_last}
+use Rattle.rules.proofs.Digits.{all_none, all_first}
 use Rattle.buffer.specs.Splice.{splice}
 use Rattle.buffer.proofs.Laws.{splice_nil, turn_up, done_up, start_down, turn_down, done_down}
 
@@ -88,32 +88,3 @@ module _ {f : ℕ → Bool} {n : ℕ} {s : List ℕ} {i : ℕ} (w : Scan f n s i
   scan_end h =
       let e : n - i ≡ 0 = omega arith in
       sym (rw e (all_none f)) ∙ w.left
-
-pub record Back (f : ℕ → Bool) (n : ℕ) (s : List ℕ) (i : ℕ) : Type 0 where
-  pub within : n ≤ length s
-  pub upto : i ≤ n
-  pub left : all f (take i s) ≡ all f (take n s)
-
-pub back_start : {f : ℕ → Bool} {n : ℕ} {s : List ℕ} → n ≤ length s → Back f n s n
-back_start h = record { within = h; upto = omega arith; left = refl }
-
-module _ {f : ℕ → Bool} {n : ℕ} {s : List ℕ} {i : ℕ} (w : Back f n s i) where
-  final : 0 < i → all f (take i s) ≡ (all f (take (i - 1) s) && f (get_or s (i - 1) 0))
-  final h =
-      let e : i ≡ suc (i - 1) = omega arith in
-      let k = w.within in
-      let u = w.upto in
-      ap (λ j. all f (take j s)) e ∙ rw (take-suc s (i - 1) 0 (omega arith)) (all_last f (take (i - 1) s) (get_or s (i - 1) 0))
-
-  pub back_turn : 0 < i → f (get_or s (i - 1) 0) ≡ true → Back f n s (i - 1)
-  back_turn h e =
-      let u = w.upto in
-      record { within = w.within; upto = omega arith; left = sym (final h ∙ rw e (and-true (all f (take (i - 1) s)))) ∙ w.left }
-
-  pub back_stop : 0 < i → f (get_or s (i - 1) 0) ≡ false → false ≡ all f (take n s)
-  back_stop h e = sym (final h ∙ rw e (and-false (all f (take (i - 1) s)))) ∙ w.left
-
-  pub back_end : i ≤ 0 → true ≡ all f (take n s)
-  back_end h =
-      let z : i ≡ 0 = omega arith in
-      sym (rw z (all_none f)) ∙ w.left

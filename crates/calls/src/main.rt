@@ -5,10 +5,12 @@
 ghost use Rattle.std.specs.Prelude.{◌≡◌, ◌*◌, ◌≤◌, ◌<◌, length, IfOk};
 ghost use Rattle.lines.specs.Placed.{Placed};
 ghost use Rattle.protocol.specs.Calls.{Called};
+ghost use Rattle.lyrecanyon.specs.Answers.{answer_length};
 ghost use Rattle.calls.specs.Areas.{room_size, line_size, Areas};
 
 use lines::Line;
-use protocol::CallLine;
+use lyrecanyon::Answer;
+use protocol::{CallKind, CallLine};
 use std::io;
 use std::io::{Read, Write};
 
@@ -31,181 +33,41 @@ fn output_area() -> [u8; LINE_SIZE]
     [0; LINE_SIZE]
 }
 
-// What a service returned: the number and the length, and of a read the length that is needed. What is no call has no known answer.
-#[derive(Drop)]
-struct Answered {
-    number: u8,
-    length: usize,
-    needed: u8,
-    read: bool,
-    known: bool,
-}
-
-fn no_call() -> Answered
-    ensures { result.length ≡ 0 }
+// Lends the service the bytes that the call's words spelled, and room up to the length asked for. The bytes of the answer stand in front of room.
+fn answer_call(call: CallLine, bytes: &[u8], room: &mut [u8]) -> Answer
+    requires { Called (length bytes.now) call }
+    ensures { answer_length result ≤ length room.old }
 {
-    Answered {
-        number: 0,
-        length: 0,
-        needed: 0,
-        read: false,
-        known: false,
+    let lent = call.asked.min(room.len());
+    let room = &mut room[..lent];
+    let table = &bytes[..call.table];
+    let record = &bytes[call.table..call.record];
+    let format = &bytes[call.record..call.format];
+    let buffer = &bytes[call.format..call.buffer];
+    match call.kind {
+        CallKind::Read => lyrecanyon::read(table, record, format, room),
+        CallKind::History => journals::read_after(table, record, format, room),
+        CallKind::Update => lyrecanyon::update(table, record, format, buffer, room),
+        CallKind::Empty => lyrecanyon::empty(table, room),
     }
 }
 
-fn answer_read(table: &[u8], stored: &[u8], format: &[u8], room: &mut [u8]) -> Answered
-    ensures { result.length ≤ length room.old }
-{
-    let answer = lyrecanyon::read(table, stored, format, room);
-    Answered {
-        number: answer.number(),
-        length: answer.length(),
-        needed: answer.needed(),
-        read: true,
-        known: true,
-    }
-}
-
-fn answer_history(table: &[u8], journal: &[u8], format: &[u8], room: &mut [u8]) -> Answered
-    ensures { result.length ≤ length room.old }
-{
-    let answer = journals::read_after(table, journal, format, room);
-    Answered {
-        number: answer.number(),
-        length: answer.length(),
-        needed: answer.needed(),
-        read: true,
-        known: true,
-    }
-}
-
-fn answer_update(
-    table: &[u8],
-    record: &[u8],
-    format: &[u8],
-    buffer: &[u8],
-    room: &mut [u8],
-) -> Answered
-    ensures { result.length ≤ length room.old }
-{
-    let answer = lyrecanyon::update(table, record, format, buffer, room);
-    Answered {
-        number: answer.number(),
-        length: answer.length(),
-        needed: 0,
-        read: false,
-        known: true,
-    }
-}
-
-fn answer_empty(table: &[u8], room: &mut [u8]) -> Answered
-    ensures { result.length ≤ length room.old }
-{
-    let answer = lyrecanyon::empty(table, room);
-    Answered {
-        number: answer.number(),
-        length: answer.length(),
-        needed: 0,
-        read: false,
-        known: true,
-    }
-}
-
-fn least(a: usize, b: usize) -> usize
-    ensures { (result ≤ a) × (result ≤ b) }
-{
-    if a < b { a } else { b }
-}
-
-// Lends the service the bytes that the call's words spelled, and room up to the length asked for.
-fn ask_read(bytes: &[u8], c: CallLine, room: &mut [u8]) -> Answered
-    requires { Called (length bytes.now) c }
-    ensures { result.length ≤ length room.old }
-{
-    let lent = least(c.asked, room.len());
-    let table = c.table;
-    let record = c.record;
-    let format = c.format;
-    answer_read(
-        &bytes[..table],
-        &bytes[table..record],
-        &bytes[record..format],
-        &mut room[..lent],
-    )
-}
-
-fn ask_history(bytes: &[u8], c: CallLine, room: &mut [u8]) -> Answered
-    requires { Called (length bytes.now) c }
-    ensures { result.length ≤ length room.old }
-{
-    let lent = least(c.asked, room.len());
-    let table = c.table;
-    let journal = c.record;
-    let format = c.format;
-    answer_history(
-        &bytes[..table],
-        &bytes[table..journal],
-        &bytes[journal..format],
-        &mut room[..lent],
-    )
-}
-
-fn ask_update(bytes: &[u8], c: CallLine, room: &mut [u8]) -> Answered
-    requires { Called (length bytes.now) c }
-    ensures { result.length ≤ length room.old }
-{
-    let lent = least(c.asked, room.len());
-    let table = c.table;
-    let record = c.record;
-    let format = c.format;
-    let end = c.buffer;
-    answer_update(
-        &bytes[..table],
-        &bytes[table..record],
-        &bytes[record..format],
-        &bytes[format..end],
-        &mut room[..lent],
-    )
-}
-
-fn ask_empty(bytes: &[u8], c: CallLine, room: &mut [u8]) -> Answered
-    requires { Called (length bytes.now) c }
-    ensures { result.length ≤ length room.old }
-{
-    let lent = least(c.asked, room.len());
-    let end = c.table;
-    answer_empty(&bytes[..end], &mut room[..lent])
-}
-
-// The call that a line makes. The bytes of the answer stand in front of room.
-fn answer_call(line: &[u8], bytes: &mut [u8], room: &mut [u8]) -> Answered
-    requires { length line.now ≤ 2 * length bytes.old }
-    ensures { result.length ≤ length room.old }
-{
-    let c = protocol::take_call(line, bytes);
-    let letter = c.letter;
-    match letter {
-        b'R' => ask_read(bytes, c, room),
-        b'H' => ask_history(bytes, c, room),
-        b'U' => ask_update(bytes, c, room),
-        b'E' => ask_empty(bytes, c, room),
-        _ => no_call(),
-    }
-}
-
-// The line of an answer whose bytes stand in front of room, to the front of out; the place after it.
-fn put(a: Answered, room: &[u8], out: &mut [u8]) -> usize
-    requires { (a.length ≤ length room.now) × (length room.now ≤ room_size) × (line_size ≤ length out.old) }
+// The line of an answer whose bytes stand in front of room, to the front of out; the place after it. That of a read has the length that
+// it needs as well.
+fn put(kind: CallKind, answer: Answer, room: &[u8], out: &mut [u8]) -> usize
+    requires { (answer_length answer ≤ length room.now) × (length room.now ≤ room_size) × (line_size ≤ length out.old) }
     ensures { result ≤ line_size }
 {
-    let used = a.length;
-    if !a.known {
-        return protocol::put_no_call(out, 0);
+    let number = lyrecanyon::number(answer);
+    let used = lyrecanyon::length_used(answer);
+    let bytes = &room[..used];
+    match kind {
+        CallKind::Read | CallKind::History => {
+            let needed = usize::from(lyrecanyon::length_needed(answer));
+            protocol::put_read_answer(number, bytes, needed, out, 0)
+        }
+        CallKind::Update | CallKind::Empty => protocol::put_answer(number, bytes, out, 0),
     }
-    if a.read {
-        return protocol::put_read_answer(a.number, &room[..used], a.needed as usize, out, 0);
-    }
-    protocol::put_answer(a.number, &room[..used], out, 0)
 }
 
 fn answer_line<W: Write>(
@@ -217,8 +79,13 @@ fn answer_line<W: Write>(
 ) -> io::Result<()>
     requires { (length line.now ≤ 2 * length bytes.old) × (length room.old ≤ room_size) × (line_size ≤ length out.old) }
 {
-    let a = answer_call(line, bytes, room);
-    let end = put(a, room, out);
+    let end = match protocol::take_call(line, bytes) {
+        Some(call) => {
+            let answer = answer_call(call, bytes, room);
+            put(call.kind, answer, room, out)
+        }
+        None => protocol::put_no_call(out, 0),
+    };
     lines::write(writer, out, end)
 }
 
@@ -237,9 +104,7 @@ fn answer_next<R: Read, W: Write>(
     ensures areas { Areas input.new bytes.new room.new out.new }
 {
     let next = lines::next(reader, input, l)?;
-    let start = next.start;
-    let end = next.end;
-    if next.found {
+    if let Some((start, end)) = next.found {
         answer_line(&input[start..end], bytes, room, out, writer)?;
     }
     Ok(next)

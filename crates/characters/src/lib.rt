@@ -1,7 +1,7 @@
 // EBCDIC characters, and names.
 #![tactic(auto)]
 
-ghost use Rattle.std.specs.Prelude.{◌≡◌, ◌&&◌, leb};
+ghost use Rattle.std.specs.Prelude.{◌≡◌};
 ghost use Rattle.rules.specs.Characters.{letter, digit};
 ghost use Rattle.rules.specs.Table.{is_name};
 ghost use Rattle.rules.specs.Format.{is_override};
@@ -30,43 +30,25 @@ pub const LETTER_X: u8 = 0xE7;
 
 pub const DIGIT_0: u8 = 0xF0;
 
-fn between(low: u8, b: u8, high: u8) -> bool
-    ensures { result ≡ (leb low b && leb b high) }
-{
-    if b < low {
-        return false;
-    }
-    b <= high
-}
-
+#[tactic(auto, unfolding(rules::specs::Characters::digit))]
 pub fn is_digit(b: u8) -> bool
     ensures { result ≡ digit b }
 {
-    between(DIGIT_0, b, 0xF9)
+    matches!(b, DIGIT_0..=0xF9)
 }
 
+#[tactic(auto, unfolding(rules::specs::Characters::letter))]
 fn is_letter(b: u8) -> bool
     ensures { result ≡ letter b }
 {
-    if between(0xC1, b, 0xC9) {
-        return true;
-    }
-    if between(0xD1, b, 0xD9) {
-        return true;
-    }
-    between(0xE2, b, 0xE9)
+    matches!(b, 0xC1..=0xC9 | 0xD1..=0xD9 | 0xE2..=0xE9)
 }
 
+#[tactic(auto, unfolding(rules::specs::Table::is_name, rules::specs::Characters::letter, rules::specs::Characters::digit))]
 pub fn is_name(a: u8, b: u8) -> bool
     ensures { result ≡ is_name a b }
 {
-    if !is_letter(a) {
-        return false;
-    }
-    if is_digit(b) {
-        return a != LETTER_E;
-    }
-    is_letter(b)
+    is_letter(a) && (is_letter(b) || is_digit(b) && a != LETTER_E)
 }
 
 // Whether a byte is one of the formats that may follow a name: A, B, F, G, P, U or W.
@@ -74,14 +56,5 @@ pub fn is_name(a: u8, b: u8) -> bool
 pub fn is_override(b: u8) -> bool
     ensures { result ≡ is_override b }
 {
-    match b {
-        0xC1 => true,
-        0xC2 => true,
-        0xC6 => true,
-        0xC7 => true,
-        0xD7 => true,
-        0xE4 => true,
-        0xE6 => true,
-        _ => false,
-    }
+    matches!(b, 0xC1 | 0xC2 | 0xC6 | 0xC7 | 0xD7 | 0xE4 | 0xE6)
 }

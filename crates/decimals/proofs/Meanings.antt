@@ -1,12 +1,15 @@
 -- When P and U bytes are a value: what the meaning asks of digits and sign, byte after byte.
 use mathlib.Core.Path.{◌≡◌, refl, sym, ◌∙◌, ap}
-use mathlib.Core.Bool.{Bool, true, false, ◌&&◌, ◌||◌, and-true, and-false, and_assoc}
-use mathlib.Core.List.{List, [], ◌∷◌, map}
-use Prim.Native.Nat.{ℕ, zero, suc, ◌-◌, ◌/◌, ◌%◌, ◌≤◌, ◌<◌}
+use mathlib.Core.Bool.{Bool, true, false, ◌&&◌, ◌||◌, and-true, and_assoc, and_comm}
+use mathlib.Core.List.{List, [], ◌∷◌, ◌++◌, map, reverse}
+use Rattle.std.specs.List.{list_all}
+use Rattle.std.proofs.lemmas.Bool.Decides.{nat_tests}
+use Rattle.std.proofs.lemmas.List.{reverse-append}
+use Rattle.std.proofs.lemmas.List.Folds.{list_all-append}
+use Prim.Native.Nat.{ℕ, ◌/◌, ◌%◌}
 use native.Mathlib.Omega.{arith}
 use lib.Dec.{eqb, leb}
-use lib.ListN.{length, take, get_or}
-use borrow.Author.Tests.{le-leb, lt-leb, eq-eqb, ne_eqb}
+use lib.ListN.{length}
 use Rattle.rules.specs.Outcome.{done, refused, is_done}
 use Rattle.rules.specs.Lists.{Bytes, all, spelled, but_last, last}
 use Rattle.rules.specs.Numbers.{refusal, refusal_number}
@@ -14,7 +17,6 @@ use Rattle.rules.specs.declared.Refusal.TheVariants.{BadValue}
 use Rattle.rules.specs.Values.{signed, halves, accepted_plus, accepted_minus, sign_means, decimal, meaning}
 use Rattle.rules.proofs.Bools.{and_regrouped, and_crossed}
 use Rattle.rules.proofs.Done.{is_done_then, is_done_after}
-use Rattle.buffer.proofs.Cases.{by_order}
 use Rattle.decimals.specs.Decimals.{decimal_format}
 use Rattle.decimals.specs.Tests.{is_sign, inner_byte, last_byte, value_bytes}
 
@@ -58,57 +60,43 @@ value_scan false bs =
 
 -- ---- the bytes before the last, and the last
 
-value_parts : (p : Bool) (n : ℕ) (s : Bytes) → length s ≡ suc n → value_bytes p s ≡ (all (inner_byte p) (take n s) && last_byte p (get_or s n 0))
+value_parts : (p : Bool) (front : Bytes) (b : ℕ) → value_bytes p (front ++ (b ∷ [])) ≡ (all (inner_byte p) front && last_byte p b)
 unfolding value_bytes all
-value_parts p n [] e = absurd (omega arith)
-value_parts p zero (b ∷ []) e = refl
-value_parts p (suc n) (b ∷ []) e = absurd (omega arith)
-value_parts p zero (b ∷ c ∷ s) e = absurd (omega arith)
-value_parts p (suc n) (b ∷ c ∷ s) e = rw (value_parts p n (c ∷ s) (omega arith)) (sym (and_assoc (inner_byte p b) (all (inner_byte p) (take n (c ∷ s))) (last_byte p (get_or (c ∷ s) n 0))))
+value_parts p [] b = refl
+value_parts p (c ∷ []) b = rw (and-true (inner_byte p c))
+value_parts p (c ∷ d ∷ front) b = rw (value_parts p (d ∷ front) b) (sym (and_assoc (inner_byte p c) (all (inner_byte p) (d ∷ front)) (last_byte p b)))
 
 value_none : (p : Bool) (s : Bytes) → length s ≡ 0 → value_bytes p s ≡ false
 unfolding value_bytes
 value_none p [] e = refl
 value_none p (b ∷ s) e = absurd (omega arith)
 
-module _ (p : Bool) (s : Bytes) where
-  pub no_bytes : length s ≡ 0 → false ≡ is_done (meaning (decimal_format p) s)
-  no_bytes e = sym (value_scan p s ∙ value_none p s e)
+pub no_bytes : (p : Bool) (s : Bytes) → length s ≡ 0 → is_done (meaning (decimal_format p) s) ≡ false
+no_bytes p s e = value_scan p s ∙ value_none p s e
 
-  module _ (o : length s ≡ 0 → ⊥) where
-    parts : is_done (meaning (decimal_format p) s) ≡ (all (inner_byte p) (take (length s - 1) s) && last_byte p (get_or s (length s - 1) 0))
-    parts = value_scan p s ∙ value_parts p (length s - 1) s (omega arith)
+pub value_is : (p : Bool) (s front : Bytes) (b : ℕ) → s ≡ front ++ (b ∷ [])
+    → is_done (meaning (decimal_format p) s) ≡ (all (inner_byte p) front && last_byte p b)
+value_is p s front b e = value_scan p s ∙ rw e (value_parts p front b)
 
-    pub all_inner : {r a : Bool} → a ≡ all (inner_byte p) (take (length s - 1) s) → a ≡ true → r ≡ last_byte p (get_or s (length s - 1) 0)
-        → r ≡ is_done (meaning (decimal_format p) s)
-    all_inner e f g = sym (parts ∙ rw (← e, f, ← g))
+-- ---- the bytes before the last, each by its number
 
-    pub not_inner : {a : Bool} → a ≡ all (inner_byte p) (take (length s - 1) s) → a ≡ false → false ≡ is_done (meaning (decimal_format p) s)
-    not_inner e f = sym (parts ∙ rw (← e, f))
+pub inner_packed : (b : ℕ) → inner_byte true b ≡ (leb b 0x99 && leb (b % 16) 9)
+unfolding inner_byte
+inner_packed b = grind (arith, nat_tests)
 
--- ---- a byte before the last, by its number
+pub inner_unpacked : (b : ℕ) → inner_byte false b ≡ (leb 0xF0 b && leb b 0xF9)
+unfolding inner_byte
+inner_unpacked b = grind (arith, nat_tests)
 
-module _ (b : ℕ) where
-  pub pair_digits : b ≤ 0x99 → b % 16 ≤ 9 → inner_byte true b ≡ true
-  unfolding inner_byte
-  pair_digits h k = rw (le-leb (b / 16) 9 (omega arith), le-leb (b % 16) 9 k)
+pub all_tested : {A : Type 0} (f : A → Bool) (xs : List A) → list_all f xs ≡ all f xs
+unfolding all
+all_tested f [] = refl
+all_tested f (x ∷ xs) = rw (all_tested f xs)
 
-  pub pair_low : 9 < b % 16 → inner_byte true b ≡ false
-  unfolding inner_byte
-  pair_low h = rw (lt-leb (b % 16) 9 h) (and-false (leb (b / 16) 9))
-
-  pub pair_high : 0x99 < b → inner_byte true b ≡ false
-  unfolding inner_byte
-  pair_high h = by_order 9 (b / 16) (λ k. rw (lt-leb (b / 16) 9 k)) (λ k. pair_low (omega arith))
-
-  pub zone_digit : 0xF0 ≤ b → b ≤ 0xF9 → inner_byte false b ≡ true
-  unfolding inner_byte
-  zone_digit h k = rw (eq-eqb (b / 16) 0xF (omega arith), le-leb (b % 16) 9 (omega arith))
-
-  pub zone_below : b < 0xF0 → inner_byte false b ≡ false
-  unfolding inner_byte
-  zone_below h = rw (ne_eqb (b / 16) 0xF (λ e. omega arith))
-
-  pub zone_above : 0xF9 < b → inner_byte false b ≡ false
-  unfolding inner_byte
-  zone_above h = by_order 9 (b % 16) (λ k. rw (lt-leb (b % 16) 9 k) (and-false (eqb (b / 16) 0xF))) (λ k. rw (ne_eqb (b / 16) 0xF (λ e. omega arith)))
+-- From the right they answer as from the left.
+pub all_reversed : {A : Type 0} (f : A → Bool) (xs : List A) → list_all f (reverse xs) ≡ all f xs
+unfolding all
+all_reversed f [] = refl
+all_reversed f (x ∷ xs) =
+    let e : reverse (x ∷ xs) ≡ reverse xs ++ (x ∷ []) = reverse-append (x ∷ []) xs in
+    rw (e, list_all-append f (reverse xs) (x ∷ []), all_reversed f xs, and-true (f x)) (and_comm (all f xs) (f x))

@@ -56,10 +56,6 @@ module _ {s : Bytes} {x : ℕ} (i : ℕ) (w : Spelling true s (2 * i) x) where
       let f : (x * 10 + get_or s i 0 / 16) * 10 + get_or s i 0 % 16 ≡ x * 100 + (get_or s i 0 / 16 * 10 + get_or s i 0 % 16) = omega arith in
       rw (high_at s i (omega arith), low_at s i h, e, f) at (spelling_turn (spelling_turn w (omega arith)) h)
 
-  -- the last byte has one
-  pub packed_end : (k : ℕ) → k ≡ i → 2 * i + 1 ≡ places true (length s) → x * 10 + get_or s k 0 / 16 ≡ magnitude_of true s
-  packed_end k e h = rw (e, ← high_at s i (omega arith)) (spelling_end (spelling_turn w (omega arith)) (omega arith))
-
 -- ---- leading zeros
 
 module _ {p : Bool} {s : Bytes} {i : ℕ} (w : Spelling p s i 0) where

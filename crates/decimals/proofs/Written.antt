@@ -16,11 +16,6 @@ use Rattle.buffer.specs.Splice.{splice}
 use Rattle.buffer.proofs.Laws.{splice_nil}
 use Rattle.decimals.specs.Decimals.{places, encoded, written, byte_base, inner_written, front, last_written}
 
-pub sign_small : (b : Bool) → sign_written b ≤ 15
-unfolding sign_written
-sign_small true = omega arith
-sign_small false = omega arith
-
 pub length_front : (p : Bool) (m y : ℕ) → length (front p m y) ≡ m
 unfolding front
 length_front p m y = length-map (digits (byte_base p) m y) (inner_written p) ∙ length_digits (byte_base p) m y

@@ -23,22 +23,19 @@ fn copy_digits(s: &[u8], packed: bool, n: usize, out: &mut [u8], at: usize)
     }
 }
 
-// j − k, or 0 where k is greater.
-fn back(j: usize, k: usize) -> usize
-    ensures { result ≡ j - k }
-{
-    if k < j { j - k } else { 0 }
-}
-
 // The last two of the first j digits of U, as a byte of P.
+#[tactic(auto, using(crate::proofs::Converted::pair_none, crate::proofs::Converted::pair_one, crate::proofs::Converted::pair_two))]
 fn last_pair(s: &[u8], j: usize) -> u8
     requires { Readable false s.now × (j ≤ length s.now) }
     ensures { result ≡ inner_written true (first_spelled false s.now j % 100) }
 {
     if 1 < j {
-        return s[j - 2] % 16 * 16 + s[j - 1] % 16;
+        s[j - 2] % 16 * 16 + s[j - 1] % 16
+    } else if j == 1 {
+        s[0] % 16
+    } else {
+        0
     }
-    if j == 1 { s[0] % 16 } else { 0 }
 }
 
 // Packs the digits of U before the last into the n − 1 bytes from the place at.
@@ -47,15 +44,14 @@ fn pack_digits(s: &[u8], n: usize, out: &mut [u8], at: usize)
     ensures { out.new ≡ splice at (front true (n - 1) (magnitude_of false s.now / 10)) out.old }
 {
     let mut j = s.len() - 1;
-    let mut i = n - 1;
-    while 0 < i {
-        i -= 1;
+    for i in (0..n - 1).rev() {
         out[at + i] = last_pair(s, j);
-        j = back(j, 2);
+        j = j.saturating_sub(2);
     }
 }
 
 // The last of the first j digits of P.
+#[tactic(auto, using(crate::proofs::Converted::half_none, crate::proofs::Converted::half_low, crate::proofs::Converted::half_high))]
 fn last_half(s: &[u8], j: usize) -> u8
     requires { Readable true s.now × (j < 2 * length s.now) }
     ensures { result ≡ first_spelled true s.now j % 10 }
@@ -73,11 +69,9 @@ fn unpack_digits(s: &[u8], n: usize, out: &mut [u8], at: usize)
     ensures { out.new ≡ splice at (front false (n - 1) (magnitude_of true s.now / 10)) out.old }
 {
     let mut j = 2 * s.len() - 2;
-    let mut i = n - 1;
-    while 0 < i {
-        i -= 1;
+    for i in (0..n - 1).rev() {
         out[at + i] = 0xF0 + last_half(s, j);
-        j = back(j, 1);
+        j = j.saturating_sub(1);
     }
 }
 
@@ -88,11 +82,9 @@ pub fn convert_digits(s: &[u8], packed: bool, target: bool, n: usize, out: &mut 
 {
     if packed == target {
         copy_digits(s, packed, n, out, at);
+    } else if target {
+        pack_digits(s, n, out, at);
     } else {
-        if target {
-            pack_digits(s, n, out, at);
-        } else {
-            unpack_digits(s, n, out, at);
-        }
+        unpack_digits(s, n, out, at);
     }
 }

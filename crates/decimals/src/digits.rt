@@ -1,10 +1,11 @@
 // The digits of a value: how many there are, the last, and whether those before it are zeros.
-ghost use Rattle.std.specs.Prelude.{◌≡◌, true, false, ◌-◌, ◌*◌, ◌/◌, ◌%◌, ◌≤◌, ◌<◌, ◌^◌, eqb, ltb, length, take};
+ghost use Rattle.std.specs.Prelude.{◌≡◌, ◌-◌, ◌*◌, ◌/◌, ◌%◌, ◌≤◌, ◌<◌, ◌^◌, eqb, ltb, length, take};
 ghost use Rattle.rules.specs.Limits.{longest_alpha};
 ghost use Rattle.rules.specs.Lists.{all};
 ghost use Rattle.decimals.specs.Decimals.{magnitude_of, Readable, places, inner_written};
 
 // How many digits n bytes hold.
+#[tactic(auto, unfolding(crate::specs::Decimals::places))]
 pub fn digit_count(packed: bool, n: usize) -> usize
     requires { (0 < n) × (n ≤ longest_alpha) }
     ensures { result ≡ places packed n }
@@ -13,6 +14,7 @@ pub fn digit_count(packed: bool, n: usize) -> usize
 }
 
 // A byte before the last whose digits are zeros.
+#[tactic(auto, unfolding(crate::specs::Decimals::inner_written))]
 pub fn zero_byte(packed: bool) -> u8
     ensures { result ≡ inner_written packed 0 }
 {
@@ -20,6 +22,7 @@ pub fn zero_byte(packed: bool) -> u8
 }
 
 // The last digit.
+#[tactic(auto, using(crate::proofs::Before::packed_last_digit, crate::proofs::Before::unpacked_last_digit))]
 pub fn last_digit(s: &[u8], packed: bool) -> u8
     requires { Readable packed s.now }
     ensures { result ≡ magnitude_of packed s.now % 10 }
@@ -34,48 +37,20 @@ pub fn zeros_before(s: &[u8], packed: bool, n: usize) -> bool
     ensures { result ≡ all (λ b. eqb b (inner_written packed 0)) (take n s.now) }
 {
     let zeros = zero_byte(packed);
-    let mut i = n;
-    while 0 < i {
-        i -= 1;
-        if s[i] != zeros {
-            return false;
-        }
-    }
-    true
+    s[..n].iter().rev().all(|b| *b == zeros)
 }
 
-// Whether the first k digits of U are zeros, so that the magnitude has no more digits than come after them.
-fn unpacked_zeros(s: &[u8], k: usize) -> bool
-    requires { Readable false s.now × (k ≤ places false (length s.now)) }
-    ensures { result ≡ ltb (magnitude_of false s.now) (10 ^ (places false (length s.now) - k)) }
+// Whether the first k digits are zeros, so that the magnitude has no more digits than come after them. A byte of P holds two.
+#[tactic(auto, unfolding(crate::specs::Decimals::places))]
+fn leading_zeros(s: &[u8], packed: bool, k: usize) -> bool
+    requires { Readable packed s.now × (k ≤ places packed (length s.now)) }
+    ensures { result ≡ ltb (magnitude_of packed s.now) (10 ^ (places packed (length s.now) - k)) }
 {
-    let mut i = 0;
-    while i < k {
-        if s[i] % 16 != 0 {
-            return false;
-        }
-        i += 1;
+    if packed {
+        s[..k / 2].iter().all(|b| *b == 0) && (k % 2 == 0 || s[k / 2] < 16)
+    } else {
+        s[..k].iter().all(|b| *b % 16 == 0)
     }
-    true
-}
-
-// The same of P, where a byte holds two digits.
-fn packed_zeros(s: &[u8], k: usize) -> bool
-    requires { Readable true s.now × (k ≤ places true (length s.now)) }
-    ensures { result ≡ ltb (magnitude_of true s.now) (10 ^ (places true (length s.now) - k)) }
-{
-    let whole = k / 2;
-    let mut i = 0;
-    while i < whole {
-        if s[i] != 0 {
-            return false;
-        }
-        i += 1;
-    }
-    if k % 2 == 0 {
-        return true;
-    }
-    s[i] < 16
 }
 
 // Whether the magnitude has at most m digits.
@@ -84,12 +59,5 @@ pub fn within(s: &[u8], packed: bool, m: usize) -> bool
     ensures { result ≡ ltb (magnitude_of packed s.now) (10 ^ m) }
 {
     let n = digit_count(packed, s.len());
-    if n <= m {
-        return true;
-    }
-    if packed {
-        packed_zeros(s, n - m)
-    } else {
-        unpacked_zeros(s, n - m)
-    }
+    n <= m || leading_zeros(s, packed, n - m)
 }

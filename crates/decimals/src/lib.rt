@@ -1,6 +1,6 @@
 // Formats P and U: is it a value, is it in normal form, does it fit, and its bytes, between P and U and to and from numbers.
 // `packed` says that a value is P and not U; `target` says the same of the bytes to write.
-// A loop over the bytes of P and its twin over those of U are two functions, so that no turn of a loop asks which format it is.
+// A loop is chosen or made for one format, so that no turn of it asks which format it is.
 #![tactic(auto)]
 
 ghost use Rattle.std.specs.Prelude.{◌≡◌, true, false, ◌+◌, ◌-◌, ◌*◌, ◌/◌, ◌%◌, ◌≤◌, ◌<◌, length};
@@ -18,27 +18,18 @@ mod numbers;
 mod signs;
 mod tests;
 
-use fixed::{Signed, Word};
+use fixed::Signed;
 use rules::LOWEST_WORD;
 
 // Whether s is a value.
+#[tactic(auto, using(crate::proofs::Meanings::no_bytes))]
 pub fn is_value(s: &[u8], packed: bool) -> bool
     ensures { result ≡ is_done (meaning (decimal_format packed) s.now) }
 {
-    if s.len() == 0 {
-        return false;
+    match s.split_last() {
+        Some((last, front)) => tests::all_inner(front, packed) && tests::last_byte(*last, packed),
+        None => false,
     }
-    let n = s.len() - 1;
-    if packed {
-        if tests::packed_pairs(s, n) {
-            return tests::last_byte(s[n], true);
-        }
-        return false;
-    }
-    if tests::zoned_digits(s, n) {
-        return tests::last_byte(s[n], false);
-    }
-    false
 }
 
 // Whether s is in normal form.
@@ -46,11 +37,7 @@ pub fn is_normal(s: &[u8], packed: bool) -> bool
     requires { (0 < length s.now) × (length s.now ≤ longest_alpha) }
     ensures { result ≡ in_normal_form (decimal_format packed) (length s.now) s.now }
 {
-    if is_value(s, packed) {
-        signs::written_sign(tests::negative(s, packed)) == tests::sign(s, packed)
-    } else {
-        false
-    }
+    is_value(s, packed) && signs::written_sign(tests::negative(s, packed)) == tests::sign(s, packed)
 }
 
 // Whether the value s fits n bytes.
@@ -62,6 +49,7 @@ pub fn fits(s: &[u8], packed: bool, target: bool, n: usize) -> bool
 }
 
 // The last byte in normal form: a digit and the sign.
+#[tactic(auto, unfolding(crate::specs::Decimals::last_written, rules::specs::Values::sign_written))]
 fn last_written(d: u8, negative: bool, target: bool) -> u8
     requires { d < 10 }
     ensures { result ≡ last_written target d (sign_written negative) }
@@ -84,15 +72,15 @@ pub fn convert(s: &[u8], packed: bool, target: bool, n: usize, out: &mut [u8], a
 }
 
 // The number that s means.
-pub fn to_word(s: &[u8], packed: bool) -> Word
+pub fn to_word(s: &[u8], packed: bool) -> Option<Signed>
     requires { (is_done (meaning (decimal_format packed) s.now) ≡ true) × (length s.now ≤ longest_alpha) }
     ensures { result ≡ word_of (value_of (meaning (decimal_format packed) s.now)) }
 {
     let magnitude = numbers::reckoned(s, packed);
-    if (LOWEST_WORD as u64) < magnitude {
-        return Word::Outside;
+    if u64::from(LOWEST_WORD) < magnitude {
+        return None;
     }
-    Word::Number(Signed {
+    Some(Signed {
         negative: numbers::below_zero(magnitude, tests::sign(s, packed)),
         magnitude: magnitude as u32,
     })
@@ -104,10 +92,7 @@ pub fn fits_word(v: Signed, packed: bool, n: usize) -> bool
     ensures { result ≡ is_done (normal (decimal_format packed) n (signed_value v)) }
 {
     let m = digits::digit_count(packed, n);
-    if 10 <= m {
-        return true;
-    }
-    v.magnitude < numbers::power_of_ten(m)
+    10 <= m || v.magnitude < numbers::power_of_ten(m)
 }
 
 // Writes the number v, which fits, as n bytes to out, from the place at.
@@ -118,8 +103,8 @@ pub fn write_word(v: Signed, packed: bool, n: usize, out: &mut [u8], at: usize)
     let x = v.magnitude;
     out[at + (n - 1)] = last_written((x % 10) as u8, v.negative, packed);
     if packed {
-        numbers::pack_number(x / 10, n - 1, out, at);
+        numbers::put_digits::<true>(x / 10, n - 1, out, at);
     } else {
-        numbers::unpack_number(x / 10, n - 1, out, at);
+        numbers::put_digits::<false>(x / 10, n - 1, out, at);
     }
 }

@@ -5,44 +5,26 @@ ghost use Rattle.buffer.specs.Splice.{splice};
 ghost use Rattle.decimals.specs.Decimals.{Readable, front};
 ghost use Rattle.decimals.specs.Numbers.{Reckoned};
 
-use super::signs;
+use super::{digits, signs};
 use rules::LOWEST_WORD;
 
-// The magnitude of P, two digits a byte; it stops as soon as it is greater than any in a conversion range.
-fn packed_number(s: &[u8]) -> u64
-    requires { Readable true s.now }
-    ensures { Reckoned true s.now result }
+// The magnitude of P, two digits a byte, or of U, one; it stops as soon as it is greater than any in a conversion range.
+fn magnitude<const PACKED: bool>(s: &[u8]) -> u64
+    requires { Readable PACKED s.now }
+    ensures { Reckoned PACKED s.now result }
 {
-    let n = s.len() - 1;
-    let mut x: u64 = 0;
-    let mut i = 0;
-    while i < n {
-        let b = s[i];
-        x = x * 100 + (b / 16 * 10 + b % 16) as u64;
-        if (LOWEST_WORD as u64) < x {
+    let mut x = 0;
+    for &b in &s[..s.len() - 1] {
+        x = if PACKED {
+            x * 100 + u64::from(b / 16 * 10 + b % 16)
+        } else {
+            x * 10 + u64::from(b % 16)
+        };
+        if u64::from(LOWEST_WORD) < x {
             return x;
         }
-        i += 1;
     }
-    x * 10 + (s[n] / 16) as u64
-}
-
-// The same of U, a digit a byte.
-fn unpacked_number(s: &[u8]) -> u64
-    requires { Readable false s.now }
-    ensures { Reckoned false s.now result }
-{
-    let n = s.len();
-    let mut x: u64 = 0;
-    let mut i = 0;
-    while i < n {
-        x = x * 10 + (s[i] % 16) as u64;
-        if (LOWEST_WORD as u64) < x {
-            return x;
-        }
-        i += 1;
-    }
-    x
+    x * 10 + u64::from(digits::last_digit(s, PACKED))
 }
 
 // The magnitude of a value of either format; if it is too great for a word, a number that is too great as well.
@@ -51,9 +33,9 @@ pub fn reckoned(s: &[u8], packed: bool) -> u64
     ensures { Reckoned packed s.now result }
 {
     if packed {
-        packed_number(s)
+        magnitude::<true>(s)
     } else {
-        unpacked_number(s)
+        magnitude::<false>(s)
     }
 }
 
@@ -61,7 +43,7 @@ pub fn reckoned(s: &[u8], packed: bool) -> u64
 pub fn below_zero(x: u64, sign: u8) -> bool
     ensures { result ≡ (accepted_minus sign && ltb 0 x) }
 {
-    if x == 0 { false } else { signs::is_minus(sign) }
+    x != 0 && signs::is_minus(sign)
 }
 
 // 10^m, where a magnitude can have more than m digits.
@@ -82,31 +64,20 @@ pub fn power_of_ten(m: usize) -> u32
     }
 }
 
-// Writes the last n pairs of digits of x as n bytes of P to out, from the place at.
-pub fn pack_number(x: u32, n: usize, out: &mut [u8], at: usize)
+// Writes the last digits of x as n bytes to out, from the place at: two digits for a byte of P, one for a byte of U.
+pub fn put_digits<const PACKED: bool>(x: u32, n: usize, out: &mut [u8], at: usize)
     requires { at + n ≤ length out.old }
-    ensures { out.new ≡ splice at (front true n x) out.old }
+    ensures { out.new ≡ splice at (front PACKED n x) out.old }
 {
     let mut rest = x;
-    let mut i = n;
-    while 0 < i {
-        i -= 1;
-        let b = (rest % 100) as u8;
-        out[at + i] = b / 10 * 16 + b % 10;
-        rest = rest / 100;
-    }
-}
-
-// Writes the last n digits of x as n bytes of U to out, from the place at.
-pub fn unpack_number(x: u32, n: usize, out: &mut [u8], at: usize)
-    requires { at + n ≤ length out.old }
-    ensures { out.new ≡ splice at (front false n x) out.old }
-{
-    let mut rest = x;
-    let mut i = n;
-    while 0 < i {
-        i -= 1;
-        out[at + i] = 0xF0 + (rest % 10) as u8;
-        rest = rest / 10;
+    for i in (0..n).rev() {
+        if PACKED {
+            let b = (rest % 100) as u8;
+            out[at + i] = b / 10 * 16 + b % 10;
+            rest /= 100;
+        } else {
+            out[at + i] = 0xF0 + (rest % 10) as u8;
+            rest /= 10;
+        }
     }
 }

@@ -1,5 +1,5 @@
 // Whether bytes are a value, byte by byte, and whether a value is below zero.
-ghost use Rattle.std.specs.Prelude.{◌≡◌, ◌&&◌, true, false, ◌-◌, ◌/◌, ◌%◌, ◌≤◌, ◌<◌, leb, length, take};
+ghost use Rattle.std.specs.Prelude.{◌≡◌, ◌&&◌, true, false, ◌-◌, ◌/◌, ◌%◌, ◌≤◌, ◌<◌, leb, length};
 ghost use Rattle.rules.specs.Outcome.{is_done};
 ghost use Rattle.rules.specs.Limits.{longest_alpha};
 ghost use Rattle.rules.specs.Lists.{all};
@@ -14,10 +14,11 @@ fn digit_and_sign(d: u8, h: u8) -> bool
     requires { h < 16 }
     ensures { result ≡ (leb d 9 && is_sign h) }
 {
-    if d <= 9 { signs::is_sign(h) } else { false }
+    d <= 9 && signs::is_sign(h)
 }
 
 // Whether a byte can be the last: a digit and a sign.
+#[tactic(auto, unfolding(crate::specs::Tests::last_byte))]
 pub fn last_byte(b: u8, packed: bool) -> bool
     ensures { result ≡ last_byte packed b }
 {
@@ -28,45 +29,19 @@ pub fn last_byte(b: u8, packed: bool) -> bool
     }
 }
 
-// Whether the first n bytes of P have two digits each.
-pub fn packed_pairs(s: &[u8], n: usize) -> bool
-    requires { n ≤ length s.now }
-    ensures { result ≡ all (inner_byte true) (take n s.now) }
+// Whether bytes can all stand before the last: two digits of P each, or F and a digit of U.
+pub fn all_inner(s: &[u8], packed: bool) -> bool
+    ensures { result ≡ all (inner_byte packed) s.now }
 {
-    let mut i = 0;
-    while i < n {
-        let b = s[i];
-        if 0x99 < b {
-            return false;
-        }
-        if 9 < b % 16 {
-            return false;
-        }
-        i += 1;
+    if packed {
+        s.iter().all(|b| *b <= 0x99 && *b % 16 <= 9)
+    } else {
+        s.iter().all(|b| matches!(*b, 0xF0..=0xF9))
     }
-    true
-}
-
-// Whether the first n bytes of U have F and a digit each.
-pub fn zoned_digits(s: &[u8], n: usize) -> bool
-    requires { n ≤ length s.now }
-    ensures { result ≡ all (inner_byte false) (take n s.now) }
-{
-    let mut i = 0;
-    while i < n {
-        let b = s[i];
-        if b < 0xF0 {
-            return false;
-        }
-        if 0xF9 < b {
-            return false;
-        }
-        i += 1;
-    }
-    true
 }
 
 // The half byte that holds the sign.
+#[tactic(auto, using(crate::proofs::Halves::packed_sign, crate::proofs::Halves::unpacked_sign))]
 pub fn sign(s: &[u8], packed: bool) -> u8
     requires { 0 < length s.now }
     ensures { result ≡ sign_half packed s.now }

@@ -1,5 +1,6 @@
 -- A loop over outcomes: what is left of them, from where it stands, ends and writes as the whole does from its start. A turn takes some
 -- off the front, a stop is their refusal, and the end is that none is left.
+use Rattle.std.specs.Prelude.{Err, Ok, Result}
 use mathlib.Core.Path.{◌≡◌, refl, sym, ◌∙◌, ap}
 use mathlib.Core.Bool.{Bool, true, false}
 use mathlib.Core.List.{List, [], ◌∷◌, ◌++◌, append_assoc}
@@ -17,8 +18,6 @@ use Rattle.rules.proofs.Steps.{from_bind, from_need, need_true, done_inj, refuse
 use Rattle.buffer.specs.Splice.{splice}
 use Rattle.buffer.proofs.Laws.{splice_nil, splice_then}
 use Rattle.filling.specs.Filling.{ended, placed, left_as, Matters, together, Filling, Continues}
-use Rattle.filling.specs.declared.Next.{Next}
-use Rattle.filling.specs.declared.Next.TheVariants.{At, Refused}
 
 -- Bytes put before an outcome's bytes.
 abbrev pub outcome_before : Bytes → Outcome Bytes → Outcome Bytes
@@ -130,7 +129,7 @@ module _ {whole rest : Outcome Bytes} {start at : ℕ} {write : Bool} {out₀ ou
       }
 
   -- A stop: what is left is refused, and so is the whole; its bytes count only where nothing was written.
-  pub continues_off : (x : Refusal) → rest ≡ refused (refusal x) → (write ≡ false → out' ≡ out) → Filling whole start write out₀ out' (Refused x)
+  pub continues_off : (x : Refusal) → rest ≡ refused (refusal x) → (write ≡ false → out' ≡ out) → Filling whole start write out₀ out' (Err x)
   continues_off x o u = record {
     answer = ap (placed at) (sym o) ∙ g.answer;
     same = same ∙ g.same;
@@ -143,13 +142,13 @@ module _ {whole rest : Outcome Bytes} {start at : ℕ} {write : Bool} {out₀ ou
       unwritten true d b c s = absurd (not_both (sym d ∙ s refl))
 
 -- What a callee says of an outcome: it ends at a place with its bytes put, or it is refused.
-module _ {o : Outcome Bytes} {at : ℕ} {write : Bool} {out out' : Bytes} {n : Next} (f : Filling o at write out out' n) where
-  pub put_on : {C : Type 0} → (at' : ℕ) → n ≡ At at' → ((a : Bytes) → o ≡ done a → at + length a ≡ at' → out' ≡ left_as write at (done a) out → C) → C
+module _ {o : Outcome Bytes} {at : ℕ} {write : Bool} {out out' : Bytes} {n : (Result ℕ Refusal)} (f : Filling o at write out out' n) where
+  pub put_on : {C : Type 0} → (at' : ℕ) → n ≡ Ok at' → ((a : Bytes) → o ≡ done a → at + length a ≡ at' → out' ≡ left_as write at (done a) out → C) → C
   put_on at' q k = by_outcome o
       (λ a h. k a h (done_inj (sym (f.answer ∙ ap (placed at) h) ∙ ap ended q)) (f.bytes (λ w. ap is_done h) ∙ ap (λ x. left_as write at x out) h))
       (λ j h. absurd (not_done (sym (f.answer ∙ ap (placed at) h) ∙ ap ended q)))
 
-  pub put_off : (x : Refusal) → n ≡ Refused x → o ≡ refused (refusal x)
+  pub put_off : (x : Refusal) → n ≡ Err x → o ≡ refused (refusal x)
   put_off x q = by_outcome o
       (λ a h. absurd (not_done (sym (ap ended q) ∙ f.answer ∙ ap (placed at) h)))
       (λ j h. h ∙ ap refused (refused_inj (sym (f.answer ∙ ap (placed at) h) ∙ ap ended q)))
@@ -158,23 +157,23 @@ module _ {o : Outcome Bytes} {at : ℕ} {write : Bool} {out out' : Bytes} {n : N
   put_unwritten e = f.bytes (λ w. absurd (not_both (sym e ∙ w))) ∙ ap (λ w. left_as w at o out) e
 
 -- A turn that takes the outcomes xs, of which a callee says where they end and what it left in the buffer; and a stop at them.
-module _ (end : ℕ) (xs ys : List (Outcome Bytes)) {whole : Outcome Bytes} {start at : ℕ} {write : Bool} {out₀ out out' : Bytes} {n : Next}
+module _ (end : ℕ) (xs ys : List (Outcome Bytes)) {whole : Outcome Bytes} {start at : ℕ} {write : Bool} {out₀ out out' : Bytes} {n : (Result ℕ Refusal)}
     (g : Continues whole (together (end - at) (xs ++ ys)) start at write out₀ out) (f : Filling (together (end - at) xs) at write out out' n) (fits : at ≤ end) (room : end ≤ length out) where
-  pub turn_within : (at' : ℕ) → n ≡ At at' → (at ≤ at') × (at' ≤ end)
+  pub turn_within : (at' : ℕ) → n ≡ Ok at' → (at ≤ at') × (at' ≤ end)
   turn_within at' q = put_on f at' q λ a h e b. let l = together_length (end - at) xs a h in omega arith
 
-  pub turn : (at' : ℕ) → n ≡ At at' → Continues whole (together (end - at') ys) start at' write out₀ out'
+  pub turn : (at' : ℕ) → n ≡ Ok at' → Continues whole (together (end - at') ys) start at' write out₀ out'
   turn at' q = put_on f at' q λ a h e b.
       let l = together_length (end - at) xs a h in
       let o = append_on (end - at) xs ys a h ∙ ap (λ m. outcome_before a (together m ys)) (room_left end at at' (length a) e (omega arith)) in
       continues_on g f.same a (together (end - at') ys) at' o e (omega arith) b
 
-  pub stop : (x : Refusal) → n ≡ Refused x → Filling whole start write out₀ out' (Refused x)
+  pub stop : (x : Refusal) → n ≡ Err x → Filling whole start write out₀ out' (Err x)
   stop x q = continues_off g f.same x (append_off (end - at) xs ys (refusal x) (put_off f x q)) (put_unwritten f)
 
 -- The end: nothing is left.
 pub continues_end : (room : ℕ) {whole : Outcome Bytes} {start at : ℕ} {write : Bool} {out₀ out : Bytes}
-    → Continues whole (together room []) start at write out₀ out → Filling whole start write out₀ out (At at)
+    → Continues whole (together room []) start at write out₀ out → Filling whole start write out₀ out (Ok at)
 unfolding together bytes_of
 continues_end room {at = at} {write} {out = out} g = record {
   answer = ap done (sym (add-zero at)) ∙ g.answer;
@@ -183,7 +182,7 @@ continues_end room {at = at} {write} {out = out} g = record {
 }
 
 -- The end by a callee that takes all that is left.
-pub continues_last : {whole rest : Outcome Bytes} {start at : ℕ} {write : Bool} {out₀ out out' : Bytes} {n : Next}
+pub continues_last : {whole rest : Outcome Bytes} {start at : ℕ} {write : Bool} {out₀ out out' : Bytes} {n : (Result ℕ Refusal)}
     → Continues whole rest start at write out₀ out → Filling rest at write out out' n → Filling whole start write out₀ out' n
 continues_last g f = record {
   answer = f.answer ∙ g.answer;

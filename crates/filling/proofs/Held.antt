@@ -1,29 +1,28 @@
 -- Whether a length holds a value, by how the value was put where there is room for it; and what a read says of a value: what the conversion says, but
 -- that a 9 has a length, since room takes a refusal as it is.
+use Rattle.std.specs.Prelude.{Err, Ok, Result, is_ok}
 use mathlib.Core.Path.{◌≡◌, refl, sym, ◌∙◌, ap, subst}
 use mathlib.Core.Bool.{Bool, true, false}
 use Prim.Native.Nat.{ℕ, zero, suc, ◌≤◌}
 use native.Mathlib.Omega.{arith}
-use borrow.Author.Tests.{eq-eqb, ne_eqb, le-leb}
+use borrow.Author.Tests.{le-leb}
 use lib.Dec.{leb}
 use lib.ListN.{length}
 use Rattle.rules.specs.Outcome.{Outcome, done, refused, need, with_needed, needing, is_done, ◌>>=◌}
 use Rattle.rules.specs.Outcome as outcome
 use Rattle.rules.specs.Limits.{longest_alpha}
 use Rattle.rules.specs.Lists.{Bytes, bytes_of}
-use Rattle.rules.specs.Values.{Format, converted_bytes, smallest_length, read_value}
-use Rattle.rules.specs.Numbers.{refusal_number, refusal}
+use Rattle.rules.specs.Values.{Format as Meant, allowed, would_hold, converted_bytes, smallest_length, read_value}
+use Rattle.rules.specs.Numbers.{refusal}
 use Rattle.rules.specs.declared.Refusal.{Refusal}
-use Rattle.rules.specs.declared.Refusal.TheVariants.{OutOfRange}
 use Rattle.rules.proofs.Steps.{not_done, not_both}
 use Rattle.rules.proofs.Lengths.{strip_length}
 use Rattle.value_formats.specs.Formats.{format_at}
-use Rattle.values.specs.Fits.{Convertible, converted_length}
+use Rattle.value_formats.specs.declared.Format.{Format}
+use Rattle.values.specs.Fits.{Converts, Convertible, converted_length}
 use Rattle.values.proofs.Numbered.{longest_size}
 use Rattle.values.proofs.Chosen.{asked_bytes}
 use Rattle.filling.specs.Filling.{in_room, ended, placed, left_as, Matters, Filling}
-use Rattle.filling.specs.declared.Next.{Next}
-use Rattle.filling.specs.declared.Next.TheVariants as next
 
 -- ---- a value in room for every value
 
@@ -32,10 +31,10 @@ unfolding converted_length
 size_most zero s h k = omega (arith, strip_length s, k)
 size_most (suc n) s h k = omega (arith, h)
 
-in_most : {from to n : ℕ} {s : Bytes} → Convertible from to n s → is_done (converted_bytes (format_at from) (format_at to) n s) ≡ true
+in_most : {from to : Format} {n : ℕ} {s : Bytes} → Convertible from to n s → is_done (converted_bytes (format_at from) (format_at to) n s) ≡ true
     → length (bytes_of (converted_bytes (format_at from) (format_at to) n s)) ≤ suc longest_alpha
 in_most {from} {to} {n} {s} a d =
-    rw (← (asked_bytes a d).1) (size_most n s (longest_size to n a.target a.length_there) (longest_size from (length s) a.source a.size))
+    rw (← (asked_bytes a d).1) (size_most n s (longest_size to n a.length_there) (longest_size from (length s) a.size))
 
 pub placed_done : (room at p : ℕ) (o : Outcome Bytes) → done p ≡ placed at (in_room room o) → is_done o ≡ true
 unfolding in_room
@@ -51,9 +50,18 @@ placed_refused room at k (done b) h e = absurd (tested (leb (length b) room) (le
     tested false w q = not_both w
 placed_refused room at k (refused x) h e = refl
 
-pub most_refused : {from to n : ℕ} {s : Bytes} → Convertible from to n s → (at : ℕ) (k : outcome.Refusal)
+pub most_refused : {from to : Format} {n : ℕ} {s : Bytes} → Convertible from to n s → (at : ℕ) (k : outcome.Refusal)
     → refused k ≡ placed at (in_room (suc longest_alpha) (converted_bytes (format_at from) (format_at to) n s)) → is_done (converted_bytes (format_at from) (format_at to) n s) ≡ false
 most_refused {from} {to} {n} {s} a at k e = placed_refused (suc longest_alpha) at k (converted_bytes (format_at from) (format_at to) n s) (in_most a) e
+
+-- A length that is allowed holds what ends there.
+pub held_is : {from to : Format} (n : ℕ) {s : Bytes} → Converts from to s → allowed (format_at to) n ≡ true → (at : ℕ) (r : Result ℕ Refusal)
+    → ended r ≡ placed at (in_room (suc longest_alpha) (converted_bytes (format_at from) (format_at to) n s)) → is_ok r ≡ would_hold (format_at from) (format_at to) s n
+unfolding would_hold
+held_is {from} {to} n {s} g a at (Ok p) e = sym (rw (a, placed_done (suc longest_alpha) at p (converted_bytes (format_at from) (format_at to) n s) e))
+held_is {from} {to} n {s} g a at (Err x) e =
+    let c = g.0.1 in
+    sym (rw (a, most_refused (record { size = c.size; length_there = a; value = c.value }) at (refusal x) e))
 
 -- ---- a value that is read
 
@@ -80,7 +88,7 @@ needing_matters : (n : ℕ) (write : Bool) (o : Outcome Bytes) → Matters write
 needing_matters n write (done b) m = m
 needing_matters n write (refused k) m = m
 
-said : (n room at : ℕ) {write : Bool} {entry exit : Bytes} (o : Outcome Bytes) {r : Next} (s : Next) → ended s ≡ needing n (ended r)
+said : (n room at : ℕ) {write : Bool} {entry exit : Bytes} (o : Outcome Bytes) {r : (Result ℕ Refusal)} (s : Result ℕ Refusal) → ended s ≡ needing n (ended r)
     → Filling (in_room room o) at write entry exit r → Filling (in_room room (needing n o)) at write entry exit s
 said n room at {write} {entry} {exit} o {r} s e f = subst (λ (p : Outcome Bytes). Filling p at write entry exit s) (needing_room n room o)
     (record {
@@ -89,20 +97,13 @@ said n room at {write} {entry} {exit} o {r} s e f = subst (λ (p : Outcome Bytes
       bytes = λ m. f.bytes (needing_matters n write (in_room room o) m) ∙ sym (needing_left n at write (in_room room o) entry);
     })
 
--- The refusal with a length: 9 has it, the others stay.
-pub nine_needed : (n : ℕ) (x : Refusal) → refusal_number x ≡ 9 → refusal (OutOfRange n) ≡ with_needed n (refusal x)
-nine_needed n x e = rw (eq-eqb (refusal_number x) 9 e, with_needed) refl
-
-pub others_needed : (n : ℕ) (x : Refusal) → (refusal_number x ≡ 9 → ⊥) → refusal x ≡ with_needed n (refusal x)
-others_needed n x e = rw (ne_eqb (refusal_number x) 9 e, with_needed) refl
-
-module _ (f g : Format) (n : ℕ) (v : Bytes) (room at : ℕ) {write : Bool} {entry exit : Bytes} {r : Next} (q : Filling (in_room room (converted_bytes f g n v)) at write entry exit r) where
-  pub read_at : {p : ℕ} → r ≡ next.At p → Filling (in_room room (read_value f g n v)) at write entry exit (next.At p)
+module _ (f g : Meant) (n : ℕ) (v : Bytes) (room at : ℕ) {write : Bool} {entry exit : Bytes} {r : (Result ℕ Refusal)} (q : Filling (in_room room (converted_bytes f g n v)) at write entry exit r) where
+  pub read_at : {p : ℕ} → r ≡ Ok p → Filling (in_room room (read_value f g n v)) at write entry exit (Ok p)
   unfolding read_value
-  read_at {p} e = said (smallest_length f g v) room at (converted_bytes f g n v) (next.At p) (ap (λ (x : Next). needing (smallest_length f g v) (ended x)) (sym e)) q
+  read_at {p} e = said (smallest_length f g v) room at (converted_bytes f g n v) (Ok p) (ap (λ (x : Result ℕ Refusal). needing (smallest_length f g v) (ended x)) (sym e)) q
 
-  pub read_refused : {k : Refusal} → r ≡ next.Refused k → (x : Refusal) → refusal x ≡ with_needed (smallest_length f g v) (refusal k)
-      → Filling (in_room room (read_value f g n v)) at write entry exit (next.Refused x)
+  pub read_refused : {k : Refusal} → r ≡ Err k → (x : Refusal) → refusal x ≡ with_needed (smallest_length f g v) (refusal k)
+      → Filling (in_room room (read_value f g n v)) at write entry exit (Err x)
   unfolding read_value
-  read_refused {k} e x h = said (smallest_length f g v) room at (converted_bytes f g n v) (next.Refused x)
-      (ap (λ (y : outcome.Refusal). refused y) h ∙ ap (λ (y : Next). needing (smallest_length f g v) (ended y)) (sym e)) q
+  read_refused {k} e x h = said (smallest_length f g v) room at (converted_bytes f g n v) (Err x)
+      (ap (λ (y : outcome.Refusal). refused y) h ∙ ap (λ (y : Result ℕ Refusal). needing (smallest_length f g v) (ended y)) (sym e)) q

@@ -5,3 +5,4 @@ pub mod Nulls
 pub mod Held
 pub mod Smallest
 pub mod Beyond
+pub mod Values

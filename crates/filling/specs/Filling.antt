@@ -1,20 +1,19 @@
 -- Filling room: where what is put ends, and what the room then holds. The same walk tests, and writes if it is asked to.
-use Rattle.std.specs.Prelude.{◌≡◌, Bool, true, false, List, [], ◌∷◌, ◌++◌, ℕ, ◌+◌, ◌-◌, ◌≤◌, leb, length}
+use Rattle.std.specs.Prelude.{◌≡◌, Bool, true, false, List, [], ◌∷◌, ◌++◌, ℕ, ◌+◌, ◌-◌, ◌≤◌, leb, length, Err, Ok, Result}
+use Rattle.rules.specs.declared.Refusal.{Refusal}
 use Rattle.rules.specs.Outcome.{Outcome, done, refused, ◌>>=◌, need, is_done}
 use Rattle.rules.specs.Lists.{Bytes, bytes_of}
 use Rattle.rules.specs.Numbers.{refusal}
 use Rattle.buffer.specs.Splice.{splice}
-use Rattle.filling.specs.declared.Next.{Next}
-use Rattle.filling.specs.declared.Next.TheVariants.{At, Refused}
 
 -- A place lies before an end, up to which bytes may be written.
 abbrev pub Roomy : ℕ → ℕ → Bytes → Type 0
 Roomy at end out = (at ≤ end) × (end ≤ length out)
 
 -- Where what was put ends, or the number of its refusal.
-abbrev pub ended : Next → Outcome ℕ
-ended (At p) = done p
-ended (Refused x) = refused (refusal x)
+abbrev pub ended : Result ℕ Refusal → Outcome ℕ
+ended (Ok p) = done p
+ended (Err x) = refused (refusal x)
 
 -- Where bytes that begin at a place end.
 abbrev pub placed : ℕ → Outcome Bytes → Outcome ℕ
@@ -46,7 +45,7 @@ together room (o ∷ os) = do
 abbrev pub Matters : Bool → Outcome Bytes → Type 0
 Matters write o = write ≡ true → is_done o ≡ true
 
-pub record Filling (o : Outcome Bytes) (at : ℕ) (write : Bool) (entry exit : Bytes) (r : Next) : Type 0 where
+pub record Filling (o : Outcome Bytes) (at : ℕ) (write : Bool) (entry exit : Bytes) (r : Result ℕ Refusal) : Type 0 where
   pub answer : ended r ≡ placed at o
   pub same : length exit ≡ length entry
   pub bytes : Matters write o → exit ≡ left_as write at o entry

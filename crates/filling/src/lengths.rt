@@ -7,15 +7,15 @@ ghost use Rattle.rules.specs.Values.{alpha, would_hold, smallest_length};
 ghost use Rattle.value_formats.specs.Formats.{format_at};
 ghost use Rattle.values.specs.Fits.{Converts};
 
-use super::{Next, value};
+use super::value;
 use rules::Refusal;
-use value_formats::ALPHA;
+use value_formats::Format;
 
 // Room for every value, its length byte included.
 const ROOM: usize = rules::LONGEST_ALPHA + 1;
 
 // Whether length n of a format would hold s.
-fn would_hold(s: &[u8], own: usize, format: usize, n: usize) -> bool
+fn would_hold(s: &[u8], own: Format, format: Format, n: usize) -> bool
     requires { Converts own format s.now }
     ensures { result ≡ would_hold (format_at own) (format_at format) s.now n }
 {
@@ -23,44 +23,40 @@ fn would_hold(s: &[u8], own: usize, format: usize, n: usize) -> bool
         return false;
     }
     let mut room = [0u8; ROOM];
-    match value::put_value(s, own, format, n, &mut room, 0, ROOM, false) {
-        Next::At(_) => true,
-        Next::Refused(_) => false,
-    }
+    value::put_value(s, own, format, n, &mut room, 0, ROOM, false).is_ok()
 }
 
 // The smallest length from 1 up that holds the text of s.
+#[tactic(auto, using(crate::proofs::Smallest::text_smallest))]
 fn text_needs(s: &[u8]) -> usize
     requires { length s.now ≤ longest_alpha }
     ensures { result ≡ smallest_length alpha alpha s.now }
 {
-    let len = values::texts::text_length(s);
-    if len == 0 { 1 } else { len }
+    values::texts::text_length(s).max(1)
 }
 
 // The smallest length from 1 up of a format that would hold s, or 0.
-fn first_length(s: &[u8], own: usize, format: usize) -> usize
+#[tactic(auto, using(crate::proofs::Smallest::smallest_none, crate::proofs::Smallest::smallest_is))]
+fn first_length(s: &[u8], own: Format, format: Format) -> usize
     requires { Converts own format s.now }
     ensures { result ≡ smallest_length (format_at own) (format_at format) s.now }
 {
-    let longest = value_formats::longest(format);
-    let mut n = 1;
-    while n <= longest {
+    for n in 1..=value_formats::longest(format) {
         if would_hold(s, own, format, n) {
             return n;
         }
-        n += 1;
     }
     0
 }
 
 // The same, without a search where none is needed: of a text its length tells, and outside the conversion range the longest length does not
 // hold the value, so that none does.
-fn smallest_length(s: &[u8], own: usize, format: usize) -> usize
+#[tactic(auto, using(crate::proofs::Smallest::by_search))]
+fn smallest_length(s: &[u8], own: Format, format: Format) -> usize
     requires { Converts own format s.now }
     ensures { result ≡ smallest_length (format_at own) (format_at format) s.now }
 {
-    if own == ALPHA {
+    if own == Format::Alpha {
         return text_needs(s);
     }
     if !would_hold(s, own, format, value_formats::longest(format)) {
@@ -70,12 +66,13 @@ fn smallest_length(s: &[u8], own: usize, format: usize) -> usize
 }
 
 // The refusal x of a value that is read: with 9 it says the smallest length that would have held s.
-pub fn with_needed(x: Refusal, s: &[u8], own: usize, format: usize) -> Refusal
+#[tactic(auto, using(rules::proofs::Lengths::smallest_below))]
+pub fn with_needed(x: Refusal, s: &[u8], own: Format, format: Format) -> Refusal
     requires { Converts own format s.now }
     ensures { refusal result ≡ with_needed (smallest_length (format_at own) (format_at format) s.now) (refusal x) }
 {
-    if rules::refusal_number(x) == 9 {
-        return Refusal::OutOfRange(smallest_length(s, own, format) as u8);
+    match x {
+        Refusal::OutOfRange(_) => Refusal::OutOfRange(smallest_length(s, own, format) as u8),
+        _ => x,
     }
-    x
 }

@@ -1,10 +1,11 @@
 // What puts something into room: it ends at a place or is refused, and where it is asked to write it leaves its bytes there.
 #![tactic(auto)]
 
-ghost use Rattle.std.specs.Prelude.{◌≡◌, ◌∷◌, [], true, ◌-◌, ◌≤◌, ◌<◌, replicate};
+ghost use Rattle.std.specs.Prelude.{◌≡◌, ◌∷◌, [], true, ◌+◌, ◌-◌, ◌≤◌, ◌<◌, replicate, MatchResult};
 ghost use Rattle.rules.specs.Outcome.{done};
+ghost use Rattle.rules.specs.declared.Refusal.TheVariants.{BeyondBuffer};
 ghost use Rattle.rules.specs.Characters.{space};
-ghost use Rattle.rules.specs.Limits.{formats, highest_index};
+ghost use Rattle.rules.specs.Limits.{highest_index};
 ghost use Rattle.rules.specs.Lists.{join};
 ghost use Rattle.rules.specs.Values.{allowed, null};
 ghost use Rattle.value_formats.specs.Formats.{format_at};
@@ -14,81 +15,97 @@ pub mod lengths;
 pub mod value;
 
 use rules::Refusal;
+use value_formats::Format;
 
-// Where what was put ends, or why it is refused.
-#[derive(Clone, Copy)]
-pub enum Next {
-    At(usize),
-    Refused(Refusal),
+// The place after n bytes, where they end by `end`.
+fn room_for(n: usize, at: usize, end: usize) -> Result<usize, Refusal>
+    requires { at ≤ end }
+    ensures { MatchResult result (λ next. (next ≡ at + n) × (n ≤ end - at)) (λ x. (x ≡ BeyondBuffer) × (end - at < n)) }
+{
+    if end - at < n {
+        Err(Refusal::BeyondBuffer)
+    } else {
+        Ok(at + n)
+    }
 }
 
 // A run of n blanks.
-pub fn put_blanks(n: usize, out: &mut [u8], at: usize, end: usize, write: bool) -> Next
+#[tactic(auto, using(crate::proofs::Singles::by_room))]
+pub fn put_blanks(
+    n: usize,
+    out: &mut [u8],
+    at: usize,
+    end: usize,
+    write: bool,
+) -> Result<usize, Refusal>
     requires { Roomy at end out.old }
     ensures { Filling (in_room (end - at) (done (replicate n space))) at write out.old out.new result }
 {
-    if end - at < n {
-        return Next::Refused(Refusal::BeyondBuffer);
-    }
+    let next = room_for(n, at, end)?;
     if write {
         buffer::fill(out, at, n, characters::SPACE);
-        return Next::At(at + n);
     }
-    Next::At(at + n)
+    Ok(next)
 }
 
 // Bytes as they are.
-pub fn put_bytes(bytes: &[u8], out: &mut [u8], at: usize, end: usize, write: bool) -> Next
+#[tactic(auto, using(crate::proofs::Singles::by_room))]
+pub fn put_bytes(
+    bytes: &[u8],
+    out: &mut [u8],
+    at: usize,
+    end: usize,
+    write: bool,
+) -> Result<usize, Refusal>
     requires { Roomy at end out.old }
     ensures { Filling (in_room (end - at) (done bytes.now)) at write out.old out.new result }
 {
-    if end - at < bytes.len() {
-        return Next::Refused(Refusal::BeyondBuffer);
-    }
+    let next = room_for(bytes.len(), at, end)?;
     if write {
-        return Next::At(buffer::put(bytes, out, at));
+        buffer::put(bytes, out, at);
     }
-    Next::At(at + bytes.len())
+    Ok(next)
 }
 
 // A count, which is one byte.
-pub fn put_count(count: u8, out: &mut [u8], at: usize, end: usize, write: bool) -> Next
+#[tactic(auto, using(crate::proofs::Singles::by_room))]
+pub fn put_count(
+    count: u8,
+    out: &mut [u8],
+    at: usize,
+    end: usize,
+    write: bool,
+) -> Result<usize, Refusal>
     requires { Roomy at end out.old }
     ensures { Filling (in_room (end - at) (done (count ∷ []))) at write out.old out.new result }
 {
-    if end == at {
-        return Next::Refused(Refusal::BeyondBuffer);
-    }
+    let next = room_for(1, at, end)?;
     if write {
         out[at] = count;
-        return Next::At(at + 1);
     }
-    Next::At(at + 1)
+    Ok(next)
 }
 
 // n nulls, for values that don't exist.
+#[tactic(auto, using(crate::proofs::Singles::by_room, crate::proofs::Nulls::by_nulls))]
 pub fn put_nulls(
     n: usize,
-    format: usize,
+    format: Format,
     size: usize,
     out: &mut [u8],
     at: usize,
     end: usize,
     write: bool,
-) -> Next
-    requires { (n ≤ highest_index) × (format < formats) × (allowed (format_at format) size ≡ true) × Roomy at end out.old }
+) -> Result<usize, Refusal>
+    requires { (n ≤ highest_index) × (allowed (format_at format) size ≡ true) × Roomy at end out.old }
     ensures { Filling (in_room (end - at) (done (join (replicate n (null (format_at format) size))))) at write out.old out.new result }
 {
     if n == 0 {
-        return Next::At(at);
+        return Ok(at);
     }
-    let all = n * values::null_length(format, size);
-    if end - at < all {
-        return Next::Refused(Refusal::BeyondBuffer);
-    }
+    let next = room_for(n * values::null_length(format, size), at, end)?;
     if write {
         values::write_nulls(n, format, size, out, at);
-        return Next::At(at + all);
     }
-    Next::At(at + all)
+    Ok(next)
 }

@@ -1,4 +1,3 @@
 pub mod Scans
-pub mod Integers
 pub mod NormalForm
 pub mod Fixed

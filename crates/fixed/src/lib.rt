@@ -20,13 +20,6 @@ pub struct Signed {
     pub magnitude: u32,
 }
 
-// A number whose magnitude is at most LOWEST_WORD, or one outside every conversion range.
-#[derive(Clone, Copy)]
-pub enum Word {
-    Number(Signed),
-    Outside,
-}
-
 // −(k + 1): every i32 below zero is made here.
 fn minus(k: u32) -> i32
     requires { k < 0x80000000 }
@@ -69,17 +62,9 @@ fn to_bits(x: i32) -> u32
 fn split(x: i32) -> Signed
     ensures { result ≡ sign_of x }
 {
-    if x < 0 {
-        let k = unminus(x);
-        Signed {
-            negative: true,
-            magnitude: k + 1,
-        }
-    } else {
-        Signed {
-            negative: false,
-            magnitude: x as u32,
-        }
+    Signed {
+        negative: x < 0,
+        magnitude: x.unsigned_abs(),
     }
 }
 
@@ -88,21 +73,11 @@ fn join(negative: bool, magnitude: u32) -> i32
     requires { magnitude ≤ greatest negative }
     ensures { result ≡ with_sign negative magnitude }
 {
-    if negative {
-        if magnitude == 0 {
-            0
-        } else {
-            minus(magnitude - 1)
-        }
+    if negative && magnitude != 0 {
+        minus(magnitude - 1)
     } else {
         magnitude as i32
     }
-}
-
-fn wide(x: u8) -> u32
-    ensures { (result ≡ x) × (result < 256) }
-{
-    x as u32
 }
 
 // The number that at most four bytes spell.
@@ -111,10 +86,8 @@ fn number_of(s: &[u8]) -> u32
     ensures { (result ≡ spelled 256 s.now 0) × (result < 256 ^ length s.now) }
 {
     let mut n = 0;
-    let mut i = 0;
-    while i < s.len() {
-        n = n * 256 + wide(s[i]);
-        i += 1;
+    for &b in s {
+        n = n * 256 + u32::from(b);
     }
     n
 }
@@ -125,11 +98,9 @@ pub fn put_number(x: u32, n: usize, out: &mut [u8], at: usize)
     ensures { out.new ≡ splice at (digits 256 n x) out.old }
 {
     let mut rest = x;
-    let mut j = n;
-    while 0 < j {
-        j -= 1;
+    for j in (0..n).rev() {
         out[at + j] = (rest % 256) as u8;
-        rest = rest / 256;
+        rest /= 256;
     }
 }
 
@@ -139,10 +110,7 @@ fn decode(s: &[u8]) -> i32
     ensures { signed_value (sign_of result) ≡ twos_complement (length s.now) (spelled 256 s.now 0) }
 {
     let n = number_of(s);
-    if s.len() == 4 {
-        return from_bits(n);
-    }
-    if n < 0x8000 {
+    if s.len() == 4 || n < 0x8000 {
         from_bits(n)
     } else {
         from_bits(n + 0xffff_0000)
@@ -150,6 +118,7 @@ fn decode(s: &[u8]) -> i32
 }
 
 // What a value of format F means.
+#[tactic(auto, unfolding(rules::specs::Values::meaning))]
 pub fn fixed_word(s: &[u8]) -> Signed
     requires { (length s.now ≡ 2) ⊎ (length s.now ≡ 4) }
     ensures { done (signed_value result) ≡ meaning fixed s.now }
@@ -166,6 +135,7 @@ fn half(n: usize) -> u32
 }
 
 // Whether v fits n bytes of format F.
+#[tactic(auto, using(crate::proofs::Fixed::fits_plus, crate::proofs::Fixed::fits_minus))]
 pub fn fixed_fits(v: Signed, n: usize) -> bool
     requires { (n ≡ 2) ⊎ (n ≡ 4) }
     ensures { result ≡ is_done (normal fixed n (signed_value v)) }

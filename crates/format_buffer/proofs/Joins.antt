@@ -1,4 +1,5 @@
 -- The first text of a format and what follows it: a walk from left to right puts the pieces together as the definition does.
+use Rattle.std.specs.Prelude.{None, Option, Some}
 use mathlib.Core.Path.{◌≡◌, refl, sym, ap, ◌∙◌}
 use mathlib.Core.Bool.{Bool, true, false}
 use mathlib.Core.List.{List, [], ◌∷◌}
@@ -154,9 +155,9 @@ module _ {f : Bytes} {at : ℕ} {r : Bounds} (w : Bounded f at r) where
   pub bounded_end : {q : rules.Piece} → found ≡ done q → r.end < length f
   bounded_end {q} e = w.ended (piece_some f r.first r.last q e)
 
-  pub reached_if : (q : Piece) → found ≡ piece_of f q → reached f at r.end q
-  reached_if (piece.Element e) h =
+  pub reached_if : (q : Option Piece) → found ≡ piece_of f q → reached f at r.end q
+  reached_if (Some (piece.Element e)) h =
       (omega (arith, w.from, w.upto, piece_long f r.first r.last (element_of f e) (omega (arith, w.upto, w.inside)) h), bounded_end h)
-  reached_if (piece.Length n) h = (omega (arith, w.from, w.order, w.upto), bounded_end h)
-  reached_if (piece.Format b) h = (omega (arith, w.from, w.order, w.upto), bounded_end h)
-  reached_if piece.Bad h = tt
+  reached_if (Some (piece.Length n)) h = (omega (arith, w.from, w.order, w.upto), bounded_end h)
+  reached_if (Some (piece.Format b)) h = (omega (arith, w.from, w.order, w.upto), bounded_end h)
+  reached_if None h = tt

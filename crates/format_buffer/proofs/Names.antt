@@ -1,4 +1,5 @@
 -- The rules of a name and what follows it, step by step as the code takes them.
+use Rattle.std.specs.Prelude.{None, Option, Some}
 use mathlib.Core.Path.{◌≡◌, refl, ap, ◌∙◌}
 use mathlib.Core.Bool.{true, false, false≢true, and-true, and-false}
 use mathlib.Core.List.{[], ◌∷◌}
@@ -15,19 +16,17 @@ use Rattle.rules.specs.Lists.{Bytes, nothing}
 use Rattle.rules.specs.Table.{is_name, name_of}
 use Rattle.rules.specs.Format.{Indexing, named, series, index_first, range_end, closing, parenthesis, takes_parenthesis, after_range, indexed_count, after_index, series_to, after_name}
 use Rattle.format_buffer.specs.Part.{part}
-use Rattle.format_buffer.specs.Elements.{number_bound, written_scope, count_of}
+use Rattle.format_buffer.specs.Elements.{number_bound, count_of}
 use Rattle.format_buffer.specs.Numbers.{byte_alone, number_and_rest, Numbered}
 use Rattle.format_buffer.specs.declared.Count.{Count}
-use Rattle.format_buffer.specs.declared.numbers.Number.{Number}
-use Rattle.format_buffer.specs.declared.numbers.Number.TheVariants.{Value, Bad}
 use Rattle.format_buffer.proofs.Parts.{part_nil, part_cons}
 
 -- What is known once the answer of a reader of numbers is.
-pub numbered_value : {f : Bytes} {at upto : ℕ} {o : Outcome (ℕ × Bytes)} {r : Number} {n p : ℕ} → Numbered f at upto o r → r ≡ Value n p
+pub numbered_value : {f : Bytes} {at upto : ℕ} {o : Outcome (ℕ × Bytes)} {r : (Option (ℕ × ℕ))} {n p : ℕ} → Numbered f at upto o r → r ≡ Some (n, p)
     → (o ≡ done (n, part f p upto)) × ((at ≤ p) × (p ≤ upto) × (n < number_bound))
 numbered_value {f} {at} {upto} w q = (w.answer ∙ ap (number_and_rest f upto) q, rw q at w.place)
 
-pub numbered_bad : {f : Bytes} {at upto : ℕ} {o : Outcome (ℕ × Bytes)} {r : Number} → Numbered f at upto o r → r ≡ Bad → o ≡ refused (by 3)
+pub numbered_bad : {f : Bytes} {at upto : ℕ} {o : Outcome (ℕ × Bytes)} {r : (Option (ℕ × ℕ))} → Numbered f at upto o r → r ≡ None → o ≡ refused (by 3)
 numbered_bad {f} {at} {upto} w q = w.answer ∙ ap (number_and_rest f upto) q
 
 -- `)` and nothing more.
@@ -111,10 +110,10 @@ module _ (n : ℕ) (f : Bytes) (at upto : ℕ) (k : upto ≤ length f) where
 
 -- The count of a name, in no occurrence.
 abbrev pub plain_count : ℕ → Count
-plain_count n = record { name = n; indexed = false; index = 0; scope = written_scope }
+plain_count n = record { name = n; index = None }
 
 after_name_C : (n : ℕ) (bs : Bytes) → byte_alone letter_C bs ≡ true → after_name n bs ≡ done (count_of (plain_count n))
-unfolding after_name byte_alone count_of
+unfolding after_name byte_alone
 after_name_C n [] e = absurd (false≢true e)
 after_name_C n (b ∷ bs) e = rw (e, after_name) refl
 

@@ -1,4 +1,5 @@
 -- The steps of the code, one law for each way out: what stands at a place and after it settles what the rules say from there on.
+use Rattle.std.specs.Prelude.{None, Some, Option as Optional}
 use mathlib.Core.Path.{◌≡◌, refl, sym, ap, ◌∙◌}
 use mathlib.Core.Bool.{Bool, true, false}
 use mathlib.Core.List.{List, [], ◌∷◌}
@@ -16,34 +17,35 @@ use Rattle.rules.specs.Format.{texts, Pending, settled, completed, put_before}
 use Rattle.rules.proofs.Steps.{by_test, done_inj}
 use Rattle.rules.proofs.Only.{Only, Is, only_bind, only_pick}
 use Rattle.rules.proofs.Refusals.{texts_only, assembled_only}
-use Rattle.format_buffer.specs.Elements.{optional, written_scope, element_of, named_of, count_of, sound, shortest_element, with_length, with_format}
+use Rattle.format_buffer.specs.Elements.{if_given, element_of, named_of, count_reaching, count_given, count_of, sound, shortest_element, with_length, with_format}
 use Rattle.format_buffer.specs.Pieces.{piece_of}
 use Rattle.format_buffer.specs.Texts.{pending, elements_first, rest, Looked}
 use Rattle.format_buffer.specs.Syntax.{parsed, element_before, by_step, elements_after, Stepped, then_format, then_completed}
 use Rattle.format_buffer.specs.declared.Named.{Named}
 use Rattle.format_buffer.specs.declared.Count.{Count}
+use Rattle.format_buffer.specs.declared.Indexing.{Indexing}
+use Rattle.format_buffer.specs.declared.Scope.{Scope}
+use Rattle.format_buffer.specs.declared.Scope.TheVariants.{AsWritten, LastAlone, UpToLast}
 use Rattle.format_buffer.specs.declared.Element.{Element}
 use Rattle.format_buffer.specs.declared.Element.TheVariants as code
 use Rattle.format_buffer.specs.declared.pieces.Piece.{Piece}
 use Rattle.format_buffer.specs.declared.pieces.Piece.TheVariants as piece
 use Rattle.format_buffer.specs.declared.texts.PieceAt.{PieceAt}
-use Rattle.format_buffer.specs.declared.syntax.Step.{Step}
-use Rattle.format_buffer.specs.declared.syntax.Step.TheVariants.{At, Bad}
 use Rattle.format_buffer.proofs.Joins.{rest_period, rest_comma}
 use Rattle.format_buffer.proofs.Puts.{settle, parsed_pending, settle_before, put_completed, completed_settled, both, take_elements, put_format, put_format_bad, put_length, put_length_bad}
 
 -- What was read, once the piece is known.
-pub looked_as : {f : Bytes} {at : ℕ} {r : PieceAt} {q : Piece} → Looked f at r → r.piece ≡ q → Looked f at (record { piece = q; end = r.end })
+pub looked_as : {f : Bytes} {at : ℕ} {r : PieceAt} {q : Optional Piece} → Looked f at r → r.piece ≡ q → Looked f at (record { piece = q; end = r.end })
 looked_as {f} {at} {r} w e = record {
   answer = w.answer ∙ ap (λ x. piece_of f x >>= λ p. rest f r.end >>= put_before p) e;
   place = rw e at w.place;
   sound = rw e at w.sound;
 }
 
-pub stepped_from : {f : Bytes} {at : ℕ} {o o' : Outcome (List rules.Element)} {r : Step} → o ≡ o' → Stepped f at o' r → Stepped f at o r
+pub stepped_from : {f : Bytes} {at : ℕ} {o o' : Outcome (List rules.Element)} {r : Optional (Element × ℕ)} → o ≡ o' → Stepped f at o' r → Stepped f at o r
 stepped_from e w = record { answer = e ∙ w.answer; place = w.place }
 
-pub stepped_bad : {f : Bytes} {at : ℕ} {o : Outcome (List rules.Element)} → o ≡ refused (by 3) → Stepped f at o Bad
+pub stepped_bad : {f : Bytes} {at : ℕ} {o : Outcome (List rules.Element)} → o ≡ refused (by 3) → Stepped f at o None
 stepped_bad e = record { answer = e; place = tt }
 
 pending_only : (bs : Bytes) → Only (Is 3) (pending bs)
@@ -55,18 +57,15 @@ unfolding rest
 rest_only f end = only_pick (Is 3) (eqb (get_or f end 0) period) _ _ tt (pending_only (drop (end + 1) f))
 
 -- A name without its length or its format.
-optional_none : {A : Type 0} (t : Bool) (a : A) → t ≡ false → optional t a ≡ none
-optional_none t a e = rw e refl
+module _ (f : Bytes) (n : Named) (s : n.length ≡ None) where
+  pub name_at_format : (b : Option ℕ) → named_of n (if_given n.length) b ≡ named_of n none b
+  name_at_format b = ap (λ l. named_of n (if_given l) b) s
 
-module _ (f : Bytes) (n : Named) (s : n.sized ≡ false) where
-  pub name_at_format : (b : Option ℕ) → named_of n (optional n.sized n.length) b ≡ named_of n none b
-  name_at_format b = ap (λ l. named_of n l b) (optional_none n.sized n.length s)
+  pub name_given_neither : n.letter ≡ None → named_of n none none ≡ element_of f (code.Named n)
+  name_given_neither l = sym (name_at_format (if_given n.letter) ∙ ap (λ b. named_of n none (if_given b)) l)
 
-  pub name_given_neither : n.lettered ≡ false → named_of n none none ≡ element_of f (code.Named n)
-  name_given_neither l = sym (name_at_format (optional n.lettered n.letter) ∙ ap (λ b. named_of n none b) (optional_none n.lettered n.letter l))
-
-pub name_at_length : (n : Named) (size : Option ℕ) → n.lettered ≡ false → named_of n size (optional n.lettered n.letter) ≡ named_of n size none
-name_at_length n size l = ap (λ b. named_of n size b) (optional_none n.lettered n.letter l)
+pub name_at_length : (n : Named) (size : Option ℕ) → n.letter ≡ None → named_of n size (if_given n.letter) ≡ named_of n size none
+name_at_length n size l = ap (λ b. named_of n size (if_given b)) l
 
 -- What follows a place, by a period or a comma there.
 module _ (f : Bytes) (stop : ℕ) where
@@ -164,9 +163,19 @@ nameless (code.Named n) = ⊥
 nameless (code.Count c) = Unit {0}
 nameless (code.Series first last) = Unit {0}
 
+completed_in : (n i : ℕ) (s : Scope) (p : Pending) → completed (count_reaching s n i) p ≡ (need (settled p) 3 >>= λ _. done (count_reaching s n i))
+unfolding completed
+completed_in n i AsWritten p = refl
+completed_in n i LastAlone p = refl
+completed_in n i UpToLast p = refl
+
+completed_counted : (n : ℕ) (x : Optional Indexing) (p : Pending) → completed (count_given n x) p ≡ (need (settled p) 3 >>= λ _. done (count_given n x))
+unfolding completed
+completed_counted n None p = refl
+completed_counted n (Some x) p = completed_in n x.from x.scope p
+
 completed_count : (c : Count) (p : Pending) → completed (count_of c) p ≡ (need (settled p) 3 >>= λ _. done (count_of c))
-unfolding count_of completed
-completed_count c p = by_test (eqb c.scope written_scope) (λ e. rw e refl) (λ e. rw e refl)
+completed_count c p = completed_counted c.name c.index p
 
 pub only_settled : (f : Bytes) (end : ℕ) (e : Element) → nameless e → then_completed f end (element_of f e) ≡ element_before (element_of f e) (elements_after f end)
 unfolding then_completed completed
@@ -180,22 +189,22 @@ only_settled f end (code.Series first last) h = completed_settled (rules.series 
 
 -- The first piece.
 module _ (f : Bytes) (at end : ℕ) where
-  pub first_element : (e : Element) → Looked f at (record { piece = piece.Element e; end = end })
+  pub first_element : (e : Element) → Looked f at (record { piece = Some (piece.Element e); end = end })
       → parsed (drop at f) ≡ then_completed f end (element_of f e)
   unfolding then_completed
   first_element e w = parsed_pending (drop at f) ∙ ap (λ m. m >>= settle) w.answer ∙ put_completed (element_of f e) (rest f end)
 
-  pub first_length : (l : ℕ) → Looked f at (record { piece = piece.Length l; end = end }) → parsed (drop at f) ≡ refused (by 3)
+  pub first_length : (l : ℕ) → Looked f at (record { piece = Some (piece.Length l); end = end }) → parsed (drop at f) ≡ refused (by 3)
   unfolding settled absent
   first_length l w =
       parsed_pending (drop at f) ∙ ap (λ m. m >>= settle) w.answer ∙ put_length_bad settle l (λ p. refl) (rest f end) (rest_only f end)
 
-  pub first_format : (b : ℕ) → Looked f at (record { piece = piece.Format b; end = end }) → parsed (drop at f) ≡ refused (by 3)
+  pub first_format : (b : ℕ) → Looked f at (record { piece = Some (piece.Format b); end = end }) → parsed (drop at f) ≡ refused (by 3)
   unfolding settled absent
   first_format b w =
       parsed_pending (drop at f) ∙ ap (λ m. m >>= settle) w.answer ∙ put_format_bad settle b (λ es. refl) (rest f end) (rest_only f end)
 
-  pub first_bad : Looked f at (record { piece = piece.Bad; end = end }) → parsed (drop at f) ≡ refused (by 3)
+  pub first_bad : Looked f at (record { piece = None; end = end }) → parsed (drop at f) ≡ refused (by 3)
   first_bad w = parsed_pending (drop at f) ∙ ap (λ m. m >>= settle) w.answer
 
 -- The whole format: a limit on all its bytes, and then its elements.
@@ -214,15 +223,15 @@ is_done_before x (done es) = refl
 is_done_before x (refused n) = refl
 
 pub stepped_at : {f : Bytes} {at stop : ℕ} {o : Outcome (List rules.Element)} {y : rules.Element} {e : Element} → o ≡ element_before y (elements_after f stop)
-    → y ≡ element_of f e → at + shortest_element ≤ stop → stop < length f → sound f e → Stepped f at o (At e stop)
+    → y ≡ element_of f e → at + shortest_element ≤ stop → stop < length f → sound f e → Stepped f at o (Some (e, stop))
 stepped_at {f} {at} {stop} h q a b s = record { answer = h ∙ ap (λ x. element_before x (elements_after f stop)) q; place = (a, b, s) }
 
--- A name to which a length or a format was given.
-pub name_given_length : (f : Bytes) (n : Named) {m : Named} {size : ℕ} → m ≡ with_length n size → n.lettered ≡ false
+-- A name to which a length or a format was if_given.
+pub name_given_length : (f : Bytes) (n : Named) {m : Named} {size : ℕ} → m ≡ with_length n size → n.letter ≡ None
     → named_of n (some size) none ≡ element_of f (code.Named m)
 name_given_length f n {m} {size} e l = sym (ap (λ x. element_of f (code.Named x)) e ∙ name_at_length n (some size) l)
 
-pub name_given_format : (f : Bytes) (n : Named) {m : Named} {b : ℕ} → m ≡ with_format n b → n.sized ≡ false
+pub name_given_format : (f : Bytes) (n : Named) {m : Named} {b : ℕ} → m ≡ with_format n b → n.length ≡ None
     → named_of n none (some b) ≡ element_of f (code.Named m)
 name_given_format f n {m} {b} e s = sym (ap (λ x. element_of f (code.Named x)) e ∙ name_at_format f n s (some b))
 
@@ -231,19 +240,19 @@ pub name_given_both : (f : Bytes) (n : Named) {m o : Named} {size b : ℕ} → m
 name_given_both f n {m} {o} {size} {b} e h = sym (ap (λ x. element_of f (code.Named x)) (h ∙ ap (λ x. with_format x b) e))
 
 -- Whether the elements from a place on are good, once the step from there is known.
-module _ {f : Bytes} {at : ℕ} {r : Step} (w : Stepped f at (parsed (drop at f)) r) where
-  pub step_known : (e : Element) (stop : ℕ) → r ≡ At e stop → (at + shortest_element ≤ stop) × (stop < length f) × sound f e
+module _ {f : Bytes} {at : ℕ} {r : Optional (Element × ℕ)} (w : Stepped f at (parsed (drop at f)) r) where
+  pub step_known : (e : Element) (stop : ℕ) → r ≡ Some (e, stop) → (at + shortest_element ≤ stop) × (stop < length f) × sound f e
   step_known e stop q = rw q at w.place
 
-  good_at : (e : Element) (stop : ℕ) → r ≡ At e stop → is_done (elements_after f stop) ≡ is_done (parsed (drop at f))
+  good_at : (e : Element) (stop : ℕ) → r ≡ Some (e, stop) → is_done (elements_after f stop) ≡ is_done (parsed (drop at f))
   good_at e stop q = sym (ap is_done (w.answer ∙ ap (by_step f) q) ∙ is_done_before (element_of f e) (elements_after f stop))
 
-  pub good_more : (e : Element) (stop : ℕ) → r ≡ At e stop → eqb (get_or f stop 0) period ≡ false
+  pub good_more : (e : Element) (stop : ℕ) → r ≡ Some (e, stop) → eqb (get_or f stop 0) period ≡ false
       → is_done (parsed (drop (stop + 1) f)) ≡ is_done (parsed (drop at f))
   good_more e stop q h = ap is_done (sym (after_more f stop h)) ∙ good_at e stop q
 
-  pub good_last : (e : Element) (stop : ℕ) → r ≡ At e stop → eqb (get_or f stop 0) period ≡ true → true ≡ is_done (parsed (drop at f))
+  pub good_last : (e : Element) (stop : ℕ) → r ≡ Some (e, stop) → eqb (get_or f stop 0) period ≡ true → true ≡ is_done (parsed (drop at f))
   good_last e stop q h = ap is_done (sym (after_last f stop h)) ∙ good_at e stop q
 
-  pub good_bad : r ≡ Bad → false ≡ is_done (parsed (drop at f))
+  pub good_bad : r ≡ None → false ≡ is_done (parsed (drop at f))
   good_bad q = sym (ap is_done (w.answer ∙ ap (by_step f) q))

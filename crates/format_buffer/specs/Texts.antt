@@ -1,5 +1,5 @@
 -- The texts of a format one after the other: what follows each, and what the code answers of them.
-use Rattle.std.specs.Prelude.{◌≡◌, Bool, true, false, [], ◌∷◌, ℕ, suc, ◌+◌, ◌≤◌, ◌<◌, eqb, length, drop, get_or}
+use Rattle.std.specs.Prelude.{◌≡◌, Bool, true, false, [], ◌∷◌, ℕ, suc, ◌+◌, ◌≤◌, ◌<◌, eqb, length, drop, get_or, None, Option, Some}
 use Rattle.std.proofs.Math.Option.{none}
 use Rattle.rules.specs.Outcome.{Outcome, done, ◌>>=◌}
 use Rattle.rules.specs.Characters.{period}
@@ -51,11 +51,11 @@ pub record Bounded (f : Bytes) (at : ℕ) (r : Bounds) : Type 0 where
   pub ended : r.first < r.last → r.end < length f
 
 -- Where a text ends, if it does; an element has its characters before that.
-abbrev pub reached : Bytes → ℕ → ℕ → Piece → Type 0
-reached f at end (piece.Element e) = (at + shortest_element ≤ end) × (end < length f)
-reached f at end (piece.Length n) = (at ≤ end) × (end < length f)
-reached f at end (piece.Format b) = (at ≤ end) × (end < length f)
-reached f at end piece.Bad = Unit {0}
+abbrev pub reached : Bytes → ℕ → ℕ → Option Piece → Type 0
+reached f at end (Some (piece.Element e)) = (at + shortest_element ≤ end) × (end < length f)
+reached f at end (Some (piece.Length n)) = (at ≤ end) × (end < length f)
+reached f at end (Some (piece.Format b)) = (at ≤ end) × (end < length f)
+reached f at end None = Unit {0}
 
 -- The text from a place on was read: its piece, and where it ends.
 pub record Looked (f : Bytes) (at : ℕ) (r : PieceAt) : Type 0 where

@@ -1,6 +1,6 @@
 // What may follow an element: another element; after a name also a length, a format, or both in that order.
 // `end` is the place of the comma or period after the element.
-ghost use Rattle.std.specs.Prelude.{◌≡◌, true, false, ◌≤◌, ◌<◌, length, drop};
+ghost use Rattle.std.specs.Prelude.{◌≡◌, true, None, ◌≤◌, ◌<◌, length, drop};
 ghost use Rattle.rules.specs.Limits.{greatest_length};
 ghost use Rattle.rules.specs.Format.{piece};
 ghost use Rattle.format_buffer.specs.Elements.{element_of, sound, Small};
@@ -9,8 +9,7 @@ ghost use Rattle.format_buffer.specs.Pieces.{unfinished, trails};
 ghost use Rattle.format_buffer.specs.Texts.{pending, elements_first};
 ghost use Rattle.format_buffer.specs.Syntax.{SteppedUpto, then_format, then_completed};
 
-use super::numbers::{Number, number_first};
-use super::syntax::Step;
+use super::numbers::number_first;
 use super::texts::bounds_at;
 use super::{Element, Named};
 use characters::{PERIOD, is_digit, is_override};
@@ -26,7 +25,6 @@ pub enum Trailer {
     Length(u16),
     Format(u8),
     Neither,
-    Bad,
 }
 
 // Whether the text at a place begins with a letter and then a letter or a digit, as no length and no format does. `false` tells nothing.
@@ -48,88 +46,79 @@ fn begins_longer(f: &[u8], at: usize) -> bool
 }
 
 // What the bytes from one place up to another are after a name. Whether `Neither` is a good element is for the next step to find.
-fn trailer_at(f: &[u8], first: usize, last: usize) -> Trailer
+fn trailer_at(f: &[u8], first: usize, last: usize) -> Option<Trailer>
     requires { (first ≤ last) × (last ≤ length f.now) }
     ensures { trails (piece (part f.now first last)) result }
 {
     if first == last {
-        return Trailer::Bad;
+        return None;
     }
     let a = f[first];
     if is_digit(a) {
-        let Number::Value(n, p) = number_first(f, first, last) else {
-            return Trailer::Bad;
-        };
+        let (n, p) = number_first(f, first, last)?;
         if p != last {
-            return Trailer::Neither;
+            return Some(Trailer::Neither);
         }
         if n > rules::GREATEST_LENGTH {
-            return Trailer::Bad;
+            return None;
         }
-        return Trailer::Length(n);
+        return Some(Trailer::Length(n));
     }
     if last - first == 1 {
         if is_override(a) {
-            return Trailer::Format(a);
+            return Some(Trailer::Format(a));
         }
-        return Trailer::Bad;
+        return None;
     }
-    Trailer::Neither
+    Some(Trailer::Neither)
 }
 
 // A format may follow the name, which has a length.
-fn format_after(f: &[u8], end: usize, n: Named, size: u16) -> Step
-    requires { (end < length f.now) × Small n × (n.lettered ≡ false) × (size ≤ greatest_length) }
+fn format_after(f: &[u8], end: usize, n: Named, size: u16) -> Option<(Element, usize)>
+    requires { (end < length f.now) × Small n × (n.letter ≡ None) × (size ≤ greatest_length) }
     ensures { SteppedUpto f.now end (then_format f.now end n size) result }
 {
     let named = n.with_length(size);
     if f[end] == PERIOD {
-        return Step::At(Element::Named(named), end);
+        return Some((Element::Named(named), end));
     }
     if begins_longer(f, end + 1) {
-        return Step::At(Element::Named(named), end);
+        return Some((Element::Named(named), end));
     }
     let b = bounds_at(f, end + 1);
-    let next = trailer_at(f, b.first, b.last);
-    match next {
-        Trailer::Format(c) => Step::At(Element::Named(named.with_format(c)), b.end),
-        Trailer::Neither => Step::At(Element::Named(named), end),
-        Trailer::Length(_) => Step::Bad,
-        Trailer::Bad => Step::Bad,
+    match trailer_at(f, b.first, b.last)? {
+        Trailer::Format(c) => Some((Element::Named(named.with_format(c)), b.end)),
+        Trailer::Neither => Some((Element::Named(named), end)),
+        Trailer::Length(_) => None,
     }
 }
 
 // A length or a format may follow the name.
-fn length_after(f: &[u8], end: usize, n: Named) -> Step
-    requires { (end < length f.now) × Small n × (n.sized ≡ false) × (n.lettered ≡ false) }
+fn length_after(f: &[u8], end: usize, n: Named) -> Option<(Element, usize)>
+    requires { (end < length f.now) × Small n × (n.length ≡ None) × (n.letter ≡ None) }
     ensures { SteppedUpto f.now end (then_completed f.now end (element_of f.now (Element.Named n))) result }
 {
     if f[end] == PERIOD {
-        return Step::At(Element::Named(n), end);
+        return Some((Element::Named(n), end));
     }
     if begins_longer(f, end + 1) {
-        return Step::At(Element::Named(n), end);
+        return Some((Element::Named(n), end));
     }
     let b = bounds_at(f, end + 1);
-    let next = trailer_at(f, b.first, b.last);
-    match next {
+    match trailer_at(f, b.first, b.last)? {
         Trailer::Length(size) => format_after(f, b.end, n, size),
-        Trailer::Format(c) => Step::At(Element::Named(n.with_format(c)), b.end),
-        Trailer::Neither => Step::At(Element::Named(n), end),
-        Trailer::Bad => Step::Bad,
+        Trailer::Format(c) => Some((Element::Named(n.with_format(c)), b.end)),
+        Trailer::Neither => Some((Element::Named(n), end)),
     }
 }
 
 // Completes an element with the length and format that follow it, if any; anything else there is bad syntax.
-pub fn completed(f: &[u8], end: usize, e: Element) -> Step
+pub fn completed(f: &[u8], end: usize, e: Element) -> Option<(Element, usize)>
     requires { (end < length f.now) × sound f.now e × unfinished e }
     ensures { SteppedUpto f.now end (then_completed f.now end (element_of f.now e)) result }
 {
     match e {
         Element::Named(n) => length_after(f, end, n),
-        Element::Blanks(_) => Step::At(e, end),
-        Element::Text(_, _) => Step::At(e, end),
-        Element::Count(_) => Step::At(e, end),
-        Element::Series(_, _) => Step::At(e, end),
+        _ => Some((e, end)),
     }
 }

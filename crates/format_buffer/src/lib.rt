@@ -11,37 +11,38 @@ ghost use Rattle.std.specs.Prelude.{◌≡◌};
 ghost use Rattle.format_buffer.specs.Elements.{bare_name, with_occurrences, with_values, with_length, with_format};
 
 // How far indexes reach: as they are written, to the last one alone (`N`), or from 1 up to the last (`1-N`).
-pub const AS_WRITTEN: u8 = 0;
-
-pub const LAST_ALONE: u8 = 1;
-
-pub const UP_TO_LAST: u8 = 2;
+#[derive(Clone, Copy, Debug, PartialEq, Eq)]
+pub enum Scope {
+    AsWritten,
+    LastAlone,
+    UpToLast,
+}
 
 // The indexes of a name: from-upto, and how far they reach. The use rules take N as they take 1, so it is 1 here.
 #[derive(Clone, Copy)]
 pub struct Indexing {
     pub from: u16,
     pub upto: u16,
-    pub scope: u8,
+    pub scope: Scope,
 }
 
-// A name with what may follow it: occurrences from-upto, values (first-last), how far each of the two reaches, a length and a format
-// letter. A number that is not given is 0.
+impl Indexing {
+    // `N`: the last alone.
+    pub const LAST: Indexing = Indexing {
+        from: 1,
+        upto: 1,
+        scope: Scope::LastAlone,
+    };
+}
+
+// A name with what may follow it: its occurrences, its values in parentheses, a length and a format letter.
 #[derive(Clone, Copy)]
 pub struct Named {
     pub name: u16,
-    pub indexed: bool,
-    pub from: u16,
-    pub upto: u16,
-    pub scope: u8,
-    pub bracketed: bool,
-    pub first: u16,
-    pub last: u16,
-    pub value_scope: u8,
-    pub sized: bool,
-    pub length: u16,
-    pub lettered: bool,
-    pub letter: u8,
+    pub occurrences: Option<Indexing>,
+    pub values: Option<Indexing>,
+    pub length: Option<u16>,
+    pub letter: Option<u8>,
 }
 
 impl Named {
@@ -50,65 +51,55 @@ impl Named {
     {
         Self {
             name,
-            indexed: false,
-            from: 0,
-            upto: 0,
-            scope: AS_WRITTEN,
-            bracketed: false,
-            first: 0,
-            last: 0,
-            value_scope: AS_WRITTEN,
-            sized: false,
-            length: 0,
-            lettered: false,
-            letter: 0,
+            occurrences: None,
+            values: None,
+            length: None,
+            letter: None,
         }
     }
 
-    pub fn with_occurrences(mut self, x: Indexing) -> Self
+    pub fn with_occurrences(self, x: Indexing) -> Self
         ensures { result ≡ with_occurrences self x }
     {
-        self.indexed = true;
-        self.from = x.from;
-        self.upto = x.upto;
-        self.scope = x.scope;
-        self
+        Self {
+            occurrences: Some(x),
+            ..self
+        }
     }
 
-    pub fn with_values(mut self, x: Indexing) -> Self
+    pub fn with_values(self, x: Indexing) -> Self
         ensures { result ≡ with_values self x }
     {
-        self.bracketed = true;
-        self.first = x.from;
-        self.last = x.upto;
-        self.value_scope = x.scope;
-        self
+        Self {
+            values: Some(x),
+            ..self
+        }
     }
 
-    pub fn with_length(mut self, length: u16) -> Self
+    pub fn with_length(self, length: u16) -> Self
         ensures { result ≡ with_length self length }
     {
-        self.sized = true;
-        self.length = length;
-        self
+        Self {
+            length: Some(length),
+            ..self
+        }
     }
 
-    pub fn with_format(mut self, letter: u8) -> Self
+    pub fn with_format(self, letter: u8) -> Self
         ensures { result ≡ with_format self letter }
     {
-        self.lettered = true;
-        self.letter = letter;
-        self
+        Self {
+            letter: Some(letter),
+            ..self
+        }
     }
 }
 
-// A count; if it is indexed, that of one occurrence, or of the last.
+// A count, or that of one occurrence or of the last.
 #[derive(Clone, Copy)]
 pub struct Count {
     pub name: u16,
-    pub indexed: bool,
-    pub index: u16,
-    pub scope: u8,
+    pub index: Option<Indexing>,
 }
 
 // An element. The bytes of a text stand in the format from one place up to another.

@@ -6,125 +6,95 @@ ghost use Rattle.format_buffer.specs.Part.{part};
 ghost use Rattle.format_buffer.specs.Elements.{indexing_of, SmallIndexing};
 ghost use Rattle.format_buffer.specs.Numbers.{Numbered, ReadsIndexes, byte_alone};
 
-use super::{AS_WRITTEN, Indexing, LAST_ALONE, UP_TO_LAST};
+use super::{Indexing, Scope};
 use characters::{DIGIT_0, HYPHEN, LETTER_N, is_digit};
-
-// A number, and the place after it.
-#[derive(Clone, Copy)]
-pub enum Number {
-    Value(u16, usize),
-    Bad,
-}
 
 pub fn digit_of(b: u8) -> u16
     requires { digit b ≡ true }
     ensures { (result ≡ b - digit_0) × (result < 10) }
 {
-    (b - DIGIT_0) as u16
+    u16::from(b - DIGIT_0)
 }
 
 #[tactic(auto, using(crate::proofs::Digits::read_many))]
-pub fn number_first(f: &[u8], at: usize, upto: usize) -> Number
+pub fn number_first(f: &[u8], at: usize, upto: usize) -> Option<(u16, usize)>
     requires { (at ≤ upto) × (upto ≤ length f.now) }
     ensures { Numbered f.now at upto (number_first (part f.now at upto)) result }
 {
     if at == upto {
-        return Number::Bad;
+        return None;
     }
     let a = f[at];
     if !is_digit(a) {
-        return Number::Bad;
+        return None;
     }
     let mut n = digit_of(a);
-    let mut i = at + 1;
-    while i < upto {
+    for i in at + 1..upto {
         let b = f[i];
         if !is_digit(b) {
-            return Number::Value(n, i);
+            return Some((n, i));
         }
         if i - at == rules::MOST_DIGITS {
-            return Number::Bad;
+            return None;
         }
         n = n * 10 + digit_of(b);
-        i += 1;
     }
-    Number::Value(n, i)
-}
-
-// Indexes, and the place after them.
-#[derive(Clone, Copy)]
-pub enum IndexesRead {
-    At(Indexing, usize),
-    Bad,
+    Some((n, upto))
 }
 
 // A number, or N.
-pub fn index_first(f: &[u8], at: usize, upto: usize) -> IndexesRead
+pub fn index_first(f: &[u8], at: usize, upto: usize) -> Option<(Indexing, usize)>
     requires { (at ≤ upto) × (upto ≤ length f.now) }
     ensures { ReadsIndexes f.now at upto (index_first (part f.now at upto)) result }
 {
     if at == upto {
-        return IndexesRead::Bad;
+        return None;
     }
     if f[at] == LETTER_N {
-        let last = Indexing {
-            from: 1,
-            upto: 1,
-            scope: LAST_ALONE,
-        };
-        return IndexesRead::At(last, at + 1);
+        return Some((Indexing::LAST, at + 1));
     }
-    let Number::Value(n, p) = number_first(f, at, upto) else {
-        return IndexesRead::Bad;
-    };
+    let (n, p) = number_first(f, at, upto)?;
     let index = Indexing {
         from: n,
         upto: n,
-        scope: AS_WRITTEN,
+        scope: Scope::AsWritten,
     };
-    IndexesRead::At(index, p)
+    Some((index, p))
 }
 
 // The range that begins with an index, which was read before the hyphen before `at`.
-fn range_to(f: &[u8], at: usize, upto: usize, x: Indexing) -> IndexesRead
+fn range_to(f: &[u8], at: usize, upto: usize, x: Indexing) -> Option<(Indexing, usize)>
     requires { (at ≤ upto) × (upto ≤ length f.now) × SmallIndexing x }
     ensures { ReadsIndexes f.now at upto (range_to (indexing_of x) (part f.now at upto)) result }
 {
-    if x.scope != AS_WRITTEN {
-        return IndexesRead::Bad;
+    if x.scope != Scope::AsWritten {
+        return None;
     }
-    let IndexesRead::At(y, p) = index_first(f, at, upto) else {
-        return IndexesRead::Bad;
+    let (y, p) = index_first(f, at, upto)?;
+    if y.scope == Scope::AsWritten {
+        return Some((Indexing { upto: y.upto, ..x }, p));
+    }
+    if x.from != 1 {
+        return None;
+    }
+    let all = Indexing {
+        from: 1,
+        upto: 1,
+        scope: Scope::UpToLast,
     };
-    if y.scope == AS_WRITTEN {
-        let range = Indexing {
-            from: x.from,
-            upto: y.upto,
-            scope: AS_WRITTEN,
-        };
-        return IndexesRead::At(range, p);
-    }
-    if x.from == 1 {
-        let all = Indexing {
-            from: 1,
-            upto: 1,
-            scope: UP_TO_LAST,
-        };
-        return IndexesRead::At(all, p);
-    }
-    IndexesRead::Bad
+    Some((all, p))
 }
 
 // An index, which was read before `at`; or where a hyphen follows, the range that begins with it.
-pub fn range_end(f: &[u8], at: usize, upto: usize, x: Indexing) -> IndexesRead
+pub fn range_end(f: &[u8], at: usize, upto: usize, x: Indexing) -> Option<(Indexing, usize)>
     requires { (at ≤ upto) × (upto ≤ length f.now) × SmallIndexing x }
     ensures { ReadsIndexes f.now at upto (range_end (indexing_of x) (part f.now at upto)) result }
 {
     if at == upto {
-        return IndexesRead::At(x, at);
+        return Some((x, at));
     }
     if f[at] != HYPHEN {
-        return IndexesRead::At(x, at);
+        return Some((x, at));
     }
     range_to(f, at + 1, upto, x)
 }
@@ -134,8 +104,5 @@ pub fn alone(f: &[u8], at: usize, upto: usize, c: u8) -> bool
     requires { (at ≤ upto) × (upto ≤ length f.now) }
     ensures { result ≡ byte_alone c (part f.now at upto) }
 {
-    if upto - at == 1 {
-        return f[at] == c;
-    }
-    false
+    upto - at == 1 && f[at] == c
 }

@@ -11,25 +11,16 @@ use super::pieces::Piece;
 use super::texts::text_at;
 use characters::PERIOD;
 
-// An element and the place of the comma or period after it, or bad syntax.
-#[derive(Clone, Copy)]
-pub enum Step {
-    At(Element, usize),
-    Bad,
-}
-
 // The element at a place, and where its comma or period stands.
-pub fn next(f: &[u8], at: usize) -> Step
+pub fn next(f: &[u8], at: usize) -> Option<(Element, usize)>
     requires { at ≤ length f.now }
     ensures { Stepped f.now at (parsed (drop at f.now)) result }
 {
     let first = text_at(f, at);
-    let piece = first.piece;
-    match piece {
+    match first.piece? {
         Piece::Element(e) => completed(f, first.end, e),
-        Piece::Length(_) => Step::Bad,
-        Piece::Format(_) => Step::Bad,
-        Piece::Bad => Step::Bad,
+        Piece::Length(_) => None,
+        Piece::Format(_) => None,
     }
 }
 
@@ -49,17 +40,11 @@ pub fn syntax(f: &[u8]) -> bool
         return false;
     }
     let mut at = 0;
-    loop {
-        match next(f, at) {
-            Step::At(_, stop) => {
-                if is_last(f, stop) {
-                    return true;
-                }
-                at = stop + 1;
-            }
-            Step::Bad => {
-                return false;
-            }
+    while let Some((_, stop)) = next(f, at) {
+        if is_last(f, stop) {
+            return true;
         }
+        at = stop + 1;
     }
+    false
 }

@@ -11,7 +11,7 @@ use characters::{APOSTROPHE, COMMA, PERIOD, SPACE};
 // The piece of the text at a place, and where its comma or period stands.
 #[derive(Clone, Copy)]
 pub struct PieceAt {
-    pub piece: Piece,
+    pub piece: Option<Piece>,
     pub end: usize,
 }
 
@@ -26,19 +26,13 @@ pub struct Bounds {
 fn turn(inside: bool, b: u8) -> bool
     ensures { result ≡ turned inside b }
 {
-    if b == APOSTROPHE { !inside } else { inside }
+    inside != (b == APOSTROPHE)
 }
 
 fn is_end(inside: bool, b: u8) -> bool
     ensures { result ≡ ends inside b }
 {
-    if inside {
-        return false;
-    }
-    if b == COMMA {
-        return true;
-    }
-    b == PERIOD
+    !inside && (b == COMMA || b == PERIOD)
 }
 
 // Where the text from `at` on ends: at a comma or a period outside apostrophes, or at the end of the slice.
@@ -47,16 +41,14 @@ fn text_end(f: &[u8], at: usize) -> usize
     ensures { (result ≡ at + extent false (drop at f.now)) × (result ≤ length f.now) }
 {
     let mut inside = false;
-    let mut i = at;
-    while i < f.len() {
+    for i in at..f.len() {
         let b = f[i];
         if is_end(inside, b) {
             return i;
         }
         inside = turn(inside, b);
-        i += 1;
     }
-    i
+    f.len()
 }
 
 // The place after the last byte that is no space.
@@ -64,15 +56,12 @@ fn last_place(f: &[u8], at: usize, upto: usize) -> usize
     requires { (at ≤ upto) × (upto ≤ length f.now) }
     ensures { Narrowed at upto result (strip (part f.now at upto)) (part f.now at result) }
 {
-    let mut i = upto;
-    while at < i {
-        let before = i - 1;
-        if f[before] != SPACE {
-            return i;
+    for i in (at..upto).rev() {
+        if f[i] != SPACE {
+            return i + 1;
         }
-        i = before;
     }
-    i
+    at
 }
 
 // The place of the first byte that is no space.
@@ -80,14 +69,12 @@ fn first_place(f: &[u8], at: usize, upto: usize) -> usize
     requires { (at ≤ upto) × (upto ≤ length f.now) }
     ensures { Narrowed at upto result (skip_spaces (part f.now at upto)) (part f.now result upto) }
 {
-    let mut i = at;
-    while i < upto {
+    for i in at..upto {
         if f[i] != SPACE {
             return i;
         }
-        i += 1;
     }
-    i
+    upto
 }
 
 // Where the text from a place on stands without the spaces around it, and where its comma or period stands. If it has none, the

@@ -1,76 +1,83 @@
 -- Numbers and their decimal digits: what a loop over them keeps.
+use Rattle.std.specs.Prelude.{None, Some, Option as Optional, IfNone, IfSome, unwrap_or}
 use mathlib.Core.Path.{◌≡◌, refl, sym, ◌∙◌, ap}
-use mathlib.Core.Bool.{true, false}
-use mathlib.Core.List.{List, [], ◌∷◌, map}
+use mathlib.Core.Bool.{true, false, and-false}
+use mathlib.Core.List.{map}
 use mathlib.Core.Option.{none, some}
 use Prim.Native.Nat.{ℕ, zero, suc, ◌+◌, ◌*◌, ◌-◌, ◌/◌, ◌%◌, ◌^◌, ◌≤◌, ◌<◌}
-use native.Mathlib.Nat.{le_of_suc-le-suc, not-suc-le-zero, pow-suc, pow-le-pow_right}
+use native.Mathlib.Nat.{pow-suc, pow-le-pow_right}
 use native.Mathlib.Numerals.{add-one}
 use native.Mathlib.Omega.{arith}
-use borrow.Author.Tests.{lt-ltb, le-ltb, le-leb, lt-leb}
-use lib.Dec.{lit<}
-use lib.ListN.{length, take, get_or, length-map}
-use lib.Seq.{take_all}
-use Rattle.rules.specs.Lists.{Bytes, digits}
-use Rattle.rules.proofs.Digits.{length_digits, digit_next}
-use Rattle.hexadecimal.specs.Text.{glyph, all_of_base, is_number, spelled_number, number, decimal_places, decimal_word}
-use Rattle.buffer.proofs.Cases.{by_order}
-
--- What a map gives at a place of the list.
-pub map_at : (f : ℕ → ℕ) (ds : List ℕ) (j : ℕ) → j < length ds → get_or (map f ds) j 0 ≡ f (get_or ds j 0)
-map_at f [] j h = absurd (not-suc-le-zero h)
-map_at f (d ∷ ds) zero h = refl
-map_at f (d ∷ ds) (suc j) h = map_at f ds j (le_of_suc-le-suc h)
-
--- What i digits spell is below ten to the power of i, and so below a million.
-pub below_turn : (i n d : ℕ) → n < 10 ^ i → d < 10 → n * 10 + d < 10 ^ (i + 1)
-below_turn i n d h k = rw (add-one, pow-suc 10 i) (omega arith)
+use borrow.Author.Tests.{le-leb}
+use lib.Dec.{ltb, lit<, ltb→lt}
+use Rattle.std.proofs.lemmas.Bool.Decides.{nat_tests}
+use Rattle.std.proofs.lemmas.List.{get_or-map}
+use lib.ListN.{length, take, drop, get_or, length-map}
+use lib.Seq.{take_all, take-length}
+use Rattle.std.specs.Char.{is_ascii_digit}
+use Rattle.rules.specs.Lists.{Bytes, digits, spelled}
+use Rattle.rules.proofs.Digits.{length_digits, digit_next, spelled_turn, spelled_end}
+use Rattle.rules.proofs.Steps.{true_T}
+use Rattle.hexadecimal.specs.Text.{value, glyph, is_number, spelled_number, number, decimal_places, decimal_word}
+use Rattle.buffer.proofs.Loops.{Scan, scan_start, scan_turn, scan_stop, scan_end}
 
 pub below_million : (i : ℕ) → i ≤ 6 → 10 ^ i ≤ 1000000
 below_million i h = pow-le-pow_right {n = 10} (lit< tt) {i = i} {j = 6} h
 
-pub number_some : (w : Bytes) → 1 ≤ length w → length w ≤ 6 → all_of_base 10 w ≡ true → number w ≡ some (spelled_number w)
-unfolding number is_number
-number_some w h k e = rw (le-leb 1 (length w) h, le-leb (length w) 6 k, e)
+-- The decimal digits are those of the library.
+decimal_is : (c : ℕ) → is_ascii_digit c ≡ ltb (value c) 10
+unfolding value
+decimal_is c = grind (arith, nat_tests)
 
-pub number_empty : (w : Bytes) → length w < 1 → number w ≡ none
-unfolding number is_number
-number_empty w h = rw (lt-leb 1 (length w) h)
+decimal_value : (c : ℕ) → is_ascii_digit c ≡ true → value c ≡ c - 48
+unfolding value
+decimal_value c e = grind (arith, nat_tests)
 
-pub number_long : (w : Bytes) → 6 < length w → number w ≡ none
-unfolding number is_number
-number_long w h = rw (le-leb 1 (length w) (omega arith), lt-leb (length w) 6 h)
+-- Reading: the first i characters of a word are decimal digits and spell n, and what they and the others spell is the whole.
+pub record Reads (w : Bytes) (i n : ℕ) : Type 0 where
+  pub small : n < 10 ^ i
+  pub spells : spelled 10 (drop i (map value w)) n ≡ spelled_number w
+  pub digits : Scan (λ c. ltb (value c) 10) (length w) w i
 
-pub number_none : (w : Bytes) → 1 ≤ length w → length w ≤ 6 → all_of_base 10 w ≡ false → number w ≡ none
-unfolding number is_number
-number_none w h k e = rw (le-leb 1 (length w) h, le-leb (length w) 6 k, e)
+pub reads_start : (w : Bytes) → Reads w 0 0
+reads_start w = record { small = lit< tt; spells = refl; digits = scan_start (omega arith) }
+
+module _ (w : Bytes) (i n : ℕ) (r : Reads w i n) where
+  pub reads_turn : i < length w → is_ascii_digit (get_or w i 0) ≡ true → Reads w (i + 1) (n * 10 + (get_or w i 0 - 48))
+  reads_turn h e =
+      let d = get_or w i 0 in
+      let t : ltb (value d) 10 ≡ true = sym (decimal_is d) ∙ e in
+      let m = get_or-map value w i 0 0 h in
+      let k = ltb→lt (value d) 10 (true_T t) in
+      let p = r.small in
+      rw (← decimal_value d e) (record {
+        small = rw (add-one, pow-suc 10 i) (omega arith);
+        spells = rw (← m) (spelled_turn 10 (map value w) i n (omega (arith, length-map w value)) ∙ r.spells);
+        digits = scan_turn r.digits h t;
+      })
+
+  pub reads_stop : i < length w → is_ascii_digit (get_or w i 0) ≡ false → number w ≡ none
+  unfolding number is_number
+  reads_stop h e = rw (← rw take-length at (scan_stop r.digits h (sym (decimal_is (get_or w i 0)) ∙ e)), and-false)
+
+  pub reads_end : length w ≤ i → 1 ≤ length w → length w ≤ 6 → number w ≡ some n
+  unfolding number is_number
+  reads_end h k l =
+      let a = rw take-length at (scan_end r.digits h) in
+      let e = sym (spelled_end 10 (map value w) i n (omega (arith, length-map w value))) ∙ r.spells in
+      rw (le-leb 1 (length w) k, le-leb (length w) 6 l, ← a) (ap some (sym e))
 
 -- Writing: how many digits there are.
 pub length_decimal : (n : ℕ) → length (decimal_word n) ≡ decimal_places n
 unfolding decimal_word
 length_decimal n = length-map (digits 10 (decimal_places n) n) glyph ∙ length_digits 10 (decimal_places n) n
 
--- A number below a million has one to six places, and they hold it.
-pub record Places (n k : ℕ) : Type 0 where
-  pub least : 1 ≤ k
-  pub most : k ≤ 6
-  pub hold : n < 10 ^ k
-
-places_of : {n : ℕ} (k : ℕ) → 1 ≤ k → k ≤ 6 → n < 10 ^ k → Places n k
-places_of k l m h = record { least = l; most = m; hold = h }
-
-pub places_fit : (n : ℕ) → n < 1000000 → Places n (decimal_places n)
+pub places_most : (n : ℕ) → decimal_places n ≤ 6
 unfolding decimal_places
-places_fit n h =
-    by_order n 10 (λ k. rw (lt-ltb n 10 k) (places_of 1 (omega arith) (omega arith) (omega arith))) λ h1. rw (le-ltb n 10 h1)
-    (by_order n 100 (λ k. rw (lt-ltb n 100 k) (places_of 2 (omega arith) (omega arith) (omega arith))) λ h2. rw (le-ltb n 100 h2)
-    (by_order n 1000 (λ k. rw (lt-ltb n 1000 k) (places_of 3 (omega arith) (omega arith) (omega arith))) λ h3. rw (le-ltb n 1000 h3)
-    (by_order n 10000 (λ k. rw (lt-ltb n 10000 k) (places_of 4 (omega arith) (omega arith) (omega arith))) λ h4. rw (le-ltb n 10000 h4)
-    (by_order n 100000 (λ k. rw (lt-ltb n 100000 k) (places_of 5 (omega arith) (omega arith) (omega arith))) λ h5. rw (le-ltb n 100000 h5)
-    (places_of 6 (omega arith) (omega arith) (omega arith))))))
+places_most n = grind (arith, nat_tests)
 
-pub decimal_short : (n : ℕ) → n < 1000000 → length (decimal_word n) ≤ 6
-decimal_short n h = let p = places_fit n h in omega (arith, length_decimal n)
+pub decimal_short : (n : ℕ) → length (decimal_word n) ≤ 6
+decimal_short n = omega (arith, length_decimal n, places_most n)
 
 -- What is left of a number has the digits that are still to write.
 abbrev pub Left : ℕ → ℕ → ℕ → ℕ → Type 0
@@ -88,7 +95,26 @@ unfolding decimal_word
 left_digit n i rest h l =
     let z = length_digits 10 (decimal_places n) n in
     ap glyph (digit_left n (decimal_places n) i rest h l)
-    ∙ sym (map_at glyph (digits 10 (decimal_places n) n) (i - 1) (omega (arith, l.0)))
+    ∙ sym (get_or-map glyph (digits 10 (decimal_places n) n) (i - 1) 0 0 (omega (arith, l.0)))
 
 pub left_start : (n : ℕ) → Left n (decimal_places n) (decimal_places n) n
 left_start n = (omega arith, take_all (decimal_places n) (digits 10 (decimal_places n) n) (omega (arith, length_digits 10 (decimal_places n) n)))
+
+-- The places of a number by its logarithm.
+pub places_log : (n k : ℕ) → n < 1000000 → 10 ^ k ≤ n → n < 10 * 10 ^ k → k + 1 ≡ decimal_places n
+unfolding decimal_places
+places_log n zero h l m = grind (arith, nat_tests)
+places_log n (suc zero) h l m = grind (arith, nat_tests)
+places_log n (suc (suc zero)) h l m = grind (arith, nat_tests)
+places_log n (suc (suc (suc zero))) h l m = grind (arith, nat_tests)
+places_log n (suc (suc (suc (suc zero)))) h l m = grind (arith, nat_tests)
+places_log n (suc (suc (suc (suc (suc zero))))) h l m = grind (arith, nat_tests)
+places_log n (suc (suc (suc (suc (suc (suc k)))))) h l m =
+    let p = pow-le-pow_right {n = 10} (lit< tt) {i = 6} {j = suc (suc (suc (suc (suc (suc k)))))} (omega arith) in
+    absurd (omega arith)
+
+pub places_counted : (n : ℕ) (o : Optional ℕ) → n < 1000000 → IfNone o (n ≡ 0) → IfSome o (λ k. 10 ^ k ≤ n) → IfSome o (λ k. n < 10 * 10 ^ k)
+    → unwrap_or o 0 + 1 ≡ decimal_places n
+unfolding decimal_places
+places_counted n None h z l m = rw z
+places_counted n (Some k) h z l m = places_log n k h l m

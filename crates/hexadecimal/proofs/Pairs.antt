@@ -1,16 +1,16 @@
 -- Byte strings as pairs of digits: what stands at each place, and the cases of a word.
-use mathlib.Core.Path.{◌≡◌, refl, sym}
-use mathlib.Core.Bool.{true, false, ◌&&◌, and-true, and-false}
+use mathlib.Core.Path.{◌≡◌, refl}
+use mathlib.Core.Bool.{true, false, ◌&&◌, and-false}
 use mathlib.Core.List.{[], ◌∷◌}
 use mathlib.Core.Option.{none, some}
-use Prim.Native.Nat.{ℕ, zero, suc, ◌+◌, ◌*◌, ◌/◌, ◌%◌, ◌≤◌, ◌<◌}
+use Prim.Native.Nat.{ℕ, zero, suc, ◌+◌, ◌*◌, ◌/◌, ◌%◌, ◌<◌}
 use native.Mathlib.Nat.{le_of_suc-le-suc, not-suc-le-zero}
 use native.Mathlib.Omega.{arith}
-use borrow.Author.Tests.{ne_eqb, le-leb, lt-leb}
-use lib.Dec.{T, eqb, leb, leb→le, eqb→eq}
+use borrow.Author.Tests.{ne_eqb}
+use lib.Dec.{T, eqb, leb}
 use lib.ListN.{length, get_or}
 use Rattle.rules.specs.Lists.{Bytes, same}
-use Rattle.rules.proofs.Steps.{and_left, and_right}
+use Rattle.rules.proofs.Steps.{and_right, true_T}
 use Rattle.hexadecimal.specs.Text.{value, glyph, empty_word, all_of_base, paired, parted, is_paired, spelled_bytes}
 
 -- The bytes of a word of digits.
@@ -31,20 +31,10 @@ paired_at (c ∷ d ∷ w) (suc i) h =
     let f : suc (suc (2 * i)) + 1 ≡ suc (suc (2 * i + 1)) = omega arith in
     rw (e, f) (paired_at w i (omega arith))
 
-pub record Paired (w : Bytes) : Type 0 where
-  pub some_pair : 2 ≤ length w
-  pub even : length w % 2 ≡ 0
-  pub digits : T (all_of_base 16 w)
-
-pub from_paired : (w : Bytes) → T (is_paired w) → Paired w
+pub paired_digits : (w : Bytes) → is_paired w ≡ true → T (all_of_base 16 w)
 unfolding is_paired
-from_paired w t =
-    let u = and_right (leb 2 (length w)) (eqb (length w % 2) 0 && all_of_base 16 w) t in
-    record {
-      some_pair = leb→le 2 (length w) (and_left (leb 2 (length w)) (eqb (length w % 2) 0 && all_of_base 16 w) t);
-      even = eqb→eq (length w % 2) 0 (and_left (eqb (length w % 2) 0) (all_of_base 16 w) u);
-      digits = and_right (eqb (length w % 2) 0) (all_of_base 16 w) u;
-    }
+paired_digits w e =
+    and_right (eqb (length w % 2) 0) (all_of_base 16 w) (and_right (leb 2 (length w)) (eqb (length w % 2) 0 && all_of_base 16 w) (true_T e))
 
 -- The digits of some bytes.
 
@@ -87,26 +77,14 @@ pub spelled_bytes_none : (w : Bytes) → same w empty_word ≡ false → is_pair
 unfolding spelled_bytes
 spelled_bytes_none w e p = rw (e, p)
 
-pub hyphen_one : (w : Bytes) → length w ≡ 1 → eqb (get_or w 0 0) 45 ≡ same w empty_word
+pub hyphen_here : (w : Bytes) → length w ≡ 1 → get_or w 0 0 ≡ 45 → same w empty_word ≡ true
 unfolding same
-hyphen_one [] e = absurd (omega arith)
-hyphen_one (c ∷ []) e = sym (and-true (eqb c 45))
-hyphen_one (c ∷ d ∷ w) e = absurd (omega arith)
+hyphen_here [] e h = absurd (omega arith)
+hyphen_here (c ∷ []) e h = rw h
+hyphen_here (c ∷ d ∷ w) e h = absurd (omega arith)
 
-pub hyphen_long : (w : Bytes) → (length w ≡ 1 → ⊥) → false ≡ same w empty_word
+pub hyphen_not : (w : Bytes) → (length w ≡ 1 → get_or w 0 0 ≡ 45 → ⊥) → same w empty_word ≡ false
 unfolding same
-hyphen_long [] e = refl
-hyphen_long (c ∷ []) e = absurd (e refl)
-hyphen_long (c ∷ d ∷ w) e = sym (and-false (eqb c 45))
-
-pub paired_short : (w : Bytes) → length w < 2 → false ≡ is_paired w
-unfolding is_paired
-paired_short w h = rw (lt-leb 2 (length w) h)
-
-pub paired_odd : (w : Bytes) → 2 ≤ length w → (length w % 2 ≡ 0 → ⊥) → false ≡ is_paired w
-unfolding is_paired
-paired_odd w h e = rw (le-leb 2 (length w) h, ne_eqb (length w % 2) 0 e)
-
-pub paired_even : (w : Bytes) → 2 ≤ length w → length w % 2 ≡ 0 → all_of_base 16 w ≡ is_paired w
-unfolding is_paired
-paired_even w h e = rw (le-leb 2 (length w) h, e)
+hyphen_not [] n = refl
+hyphen_not (c ∷ []) n = rw (ne_eqb c 45 (n refl))
+hyphen_not (c ∷ d ∷ w) n = and-false (eqb c 45)

@@ -1,6 +1,8 @@
 -- A word of a line, taken: the ways out of `take_bytes` over plain lists.
+use Rattle.std.specs.Prelude.{None, Some}
+use Rattle.std.proofs.lemmas.Option.{none-some, same_Some}
 use mathlib.Core.Path.{◌≡◌, sym, ◌∙◌, ap}
-use mathlib.Core.Option.{Option, none, some}
+use mathlib.Core.Option.{none, some}
 use Prim.Native.Nat.{ℕ, ◌+◌, ◌*◌, ◌-◌, ◌≤◌, ◌<◌}
 use native.Mathlib.Nat.{add-zero}
 use native.Mathlib.Omega.{arith}
@@ -13,9 +15,7 @@ use Rattle.buffer.proofs.Laws.{splice_nil, length_part}
 use Rattle.buffer.specs.Search.{upto_first}
 use Rattle.hexadecimal.specs.Text.{empty_word, is_paired, spelled_bytes, number}
 use Rattle.hexadecimal.specs.Lines.{word_at, word_bytes, place_after, next_at, number_at}
-use Rattle.hexadecimal.specs.Answers.{decoded_upto, DecodesWord, TakesWord}
-use Rattle.hexadecimal.specs.declared.BytesWord.{BytesWord}
-use Rattle.hexadecimal.specs.declared.BytesWord.TheVariants.{Upto, NoBytes}
+use Rattle.hexadecimal.specs.Answers.{DecodesWord, TakesWord}
 use Rattle.hexadecimal.proofs.Pairs.{length_paired, spelled_bytes_hyphen, spelled_bytes_pairs, spelled_bytes_none}
 
 -- A word takes no more than half its length.
@@ -26,22 +26,6 @@ spelled_bytes_half w bs e =
     (λ h. by_test (is_paired w)
     (λ p. let l = ap length (some_inj (sym e ∙ spelled_bytes_pairs w h p)) in omega (arith, length_paired w))
     (λ p. absurd (not_some (sym (spelled_bytes_none w h p) ∙ e))))
-
-upto_inj : {m n : ℕ} → Upto m ≡ Upto n → m ≡ n
-upto_inj e = cc
-
-module _ {C : Type 0} (at : ℕ) (o : Option Bytes) where
-  pub from_upto : (end : ℕ) → Upto end ≡ decoded_upto at o → ((bs : Bytes) → o ≡ some bs → end ≡ at + length bs → C) → C
-  from_upto end e k = by_option o (λ bs h. k bs h (upto_inj (e ∙ ap (decoded_upto at) h))) (λ h. absurd (never (e ∙ ap (decoded_upto at) h)))
-    where
-      never : Upto end ≡ NoBytes → ⊥
-      never q = let z : ◌≡◌ {A = ℕ} 0 1 = cc in omega arith
-
-  pub from_no_bytes : NoBytes ≡ decoded_upto at o → (o ≡ none → C) → C
-  from_no_bytes e k = by_option o (λ bs h. absurd (never bs (e ∙ ap (decoded_upto at) h))) k
-    where
-      never : (bs : Bytes) → NoBytes ≡ Upto (at + length bs) → ⊥
-      never bs q = let z : ◌≡◌ {A = ℕ} 0 1 = cc in omega arith
 
 -- No bytes, and so no next word.
 gives_none : (line : Bytes) (at start : ℕ) (out : Bytes) → at ≤ length line + 1 → 2 * start ≤ at → word_bytes at line ≡ none
@@ -64,17 +48,18 @@ module _ (line : Bytes) (at stop start : ℕ) (out out' : Bytes) (h : at ≤ len
   unfolding word_bytes
   bytes_are = rw (le-leb at (length line) h, word_is)
 
-  pub takes_none : (r : BytesWord) → r ≡ NoBytes → DecodesWord (take (stop - at) (drop at line)) start out out' r → TakesWord line at start out out' (record { end = start; next = length line + 1 })
-  takes_none r q d =
-      from_no_bytes start (spelled_bytes (take (stop - at) (drop at line))) (sym q ∙ d.answer) λ n.
+  pub takes_none : DecodesWord (take (stop - at) (drop at line)) start out out' None → TakesWord line at start out out' (record { end = start; next = length line + 1 })
+  takes_none d =
+      by_option (spelled_bytes (take (stop - at) (drop at line))) (λ bs e. absurd (none-some _ (rw e at d.answer))) λ n.
       let e : out' ≡ out = rw n at d.after ∙ splice_nil start out in
       rw e (gives_none line at start out (omega arith) k (bytes_are ∙ n))
 
-  pub takes_some : (r : BytesWord) (end : ℕ) → stop ≤ length line → r ≡ Upto end → DecodesWord (take (stop - at) (drop at line)) start out out' r
+  pub takes_some : (end : ℕ) → stop ≤ length line → DecodesWord (take (stop - at) (drop at line)) start out out' (Some end)
       → TakesWord line at start out out' (record { end = end; next = stop + 1 })
   unfolding next_at place_after
-  takes_some r end l q d =
-      from_upto start (spelled_bytes (take (stop - at) (drop at line))) end (sym q ∙ d.answer) λ bs e f.
+  takes_some end l d =
+      by_option (spelled_bytes (take (stop - at) (drop at line))) (λ bs e.
+      let f = same_Some _ _ (rw e at d.answer) in
       let b = bytes_are ∙ e in
       let z : length (take (stop - at) (drop at line)) ≡ stop - at = length_part line at stop (omega arith) l in
       let m = spelled_bytes_half _ bs e in
@@ -85,6 +70,7 @@ module _ (line : Bytes) (at stop start : ℕ) (out out' : Bytes) (h : at ≤ len
         upto = omega arith;
         within = omega arith;
       }
+      ) λ n. absurd (none-some _ (sym (rw n at d.answer)))
 
 pub number_beyond : (at : ℕ) (line : Bytes) → length line < at → number_at at line ≡ none
 unfolding number_at

@@ -1,4 +1,5 @@
 -- The ways out of `decode` and `encode`, over plain lists.
+use Rattle.std.specs.Prelude.{None, Some}
 use mathlib.Core.Path.{◌≡◌, refl, sym, ap}
 use mathlib.Core.Bool.{true, false}
 use mathlib.Core.List.{[], ◌∷◌, ◌++◌}
@@ -11,22 +12,21 @@ use Rattle.buffer.specs.Splice.{splice}
 use Rattle.buffer.proofs.Laws.{splice_nil, splice_push}
 use Rattle.hexadecimal.specs.Text.{empty_word, paired, parted, is_paired, spelling}
 use Rattle.hexadecimal.specs.Answers.{DecodesWord}
-use Rattle.hexadecimal.specs.declared.BytesWord.TheVariants.{Upto, NoBytes}
 use Rattle.hexadecimal.proofs.Pairs.{length_parted, spelled_bytes_hyphen, spelled_bytes_pairs, spelled_bytes_none}
 
 module _ (w : Bytes) (at : ℕ) (out : Bytes) where
-  pub way_hyphen : same w empty_word ≡ true → DecodesWord w at out out (Upto at)
+  pub way_hyphen : same w empty_word ≡ true → DecodesWord w at out out (Some at)
   way_hyphen e =
       let d = spelled_bytes_hyphen w e in
       record { answer = rw (d, add-zero); after = rw d (sym (splice_nil at out)) }
 
   pub way_pairs : (out' : Bytes) (r : ℕ) → same w empty_word ≡ false → is_paired w ≡ true → r ≡ at + length (paired w) → out' ≡ splice at (paired w) out
-      → DecodesWord w at out out' (Upto r)
+      → DecodesWord w at out out' (Some r)
   way_pairs out' r e p l s =
       let d = spelled_bytes_pairs w e p in
-      record { answer = rw d (ap Upto l); after = rw d s }
+      record { answer = rw d (ap Some l); after = rw d s }
 
-  pub way_none : same w empty_word ≡ false → is_paired w ≡ false → DecodesWord w at out out NoBytes
+  pub way_none : same w empty_word ≡ false → is_paired w ≡ false → DecodesWord w at out out None
   way_none e p =
       let d = spelled_bytes_none w e p in
       record { answer = rw d; after = rw d (sym (splice_nil at out)) }

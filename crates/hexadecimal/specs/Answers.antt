@@ -1,24 +1,20 @@
 -- What the answers of the code mean.
-use Rattle.std.specs.Prelude.{◌≡◌, [], ℕ, ◌+◌, ◌*◌, ◌≤◌, length}
+use Rattle.std.specs.Prelude.{◌≡◌, [], ℕ, ◌+◌, ◌*◌, ◌≤◌, length, None, Some, Option as Optional}
 use Rattle.std.proofs.Math.Option.{Option, none, some}
 use Rattle.rules.specs.Lists.{Bytes}
 use Rattle.buffer.specs.Splice.{splice}
 use Rattle.hexadecimal.specs.Text.{spelled_bytes}
 use Rattle.hexadecimal.specs.Lines.{word_bytes, next_at}
-use Rattle.hexadecimal.specs.declared.BytesWord.{BytesWord}
-use Rattle.hexadecimal.specs.declared.BytesWord.TheVariants.{Upto, NoBytes}
 use Rattle.hexadecimal.specs.declared.TakenWord.{TakenWord}
-use Rattle.hexadecimal.specs.declared.NumberWord.{NumberWord}
-use Rattle.hexadecimal.specs.declared.NumberWord.TheVariants.{Is, NoNumber}
 
-abbrev pub number_read : Option ℕ → NumberWord
-number_read none = NoNumber
-number_read (some n) = Is n
+abbrev pub number_read : Option ℕ → Optional ℕ
+number_read none = None
+number_read (some n) = Some n
 
 -- The place after the bytes, written from `at`.
-abbrev pub decoded_upto : ℕ → Option Bytes → BytesWord
-decoded_upto at none = NoBytes
-decoded_upto at (some bs) = Upto (at + length bs)
+abbrev pub decoded_upto : ℕ → Option Bytes → Optional ℕ
+decoded_upto at none = None
+decoded_upto at (some bs) = Some (at + length bs)
 
 -- What is written: nothing if there are no bytes.
 abbrev pub written_bytes : Option Bytes → Bytes
@@ -26,7 +22,7 @@ written_bytes none = []
 written_bytes (some bs) = bs
 
 -- A word is decoded to out from `at`, and nothing is written if it spells no bytes.
-pub record DecodesWord (word : Bytes) (at : ℕ) (out out' : Bytes) (r : BytesWord) : Type 0 where
+pub record DecodesWord (word : Bytes) (at : ℕ) (out out' : Bytes) (r : Optional ℕ) : Type 0 where
   pub answer : r ≡ decoded_upto at (spelled_bytes word)
   pub after : out' ≡ splice at (written_bytes (spelled_bytes word)) out
 

@@ -1,25 +1,12 @@
 // Words of a line: byte strings in hexadecimal, and numbers in decimal.
 #![tactic(auto)]
 
-ghost use Rattle.std.specs.Prelude.{◌≡◌, true, [], ◌∷◌, ◌++◌, ◌+◌, ◌*◌, ◌≤◌, ◌<◌, length};
+ghost use Rattle.std.specs.Prelude.{◌≡◌, true, [], ◌∷◌, ◌++◌, ◌+◌, ◌*◌, ◌≤◌, ◌<◌, ltb, length};
 ghost use Rattle.buffer.specs.Splice.{splice};
 ghost use Rattle.rules.specs.Lists.{same};
 ghost use Rattle.hexadecimal.specs.Text as Text;
 ghost use Rattle.hexadecimal.specs.Lines as Lines;
 ghost use Rattle.hexadecimal.specs.Answers.{number_read, DecodesWord, TakesWord};
-
-// The place after the bytes that were written; or the word spells no bytes.
-#[derive(Clone, Copy)]
-enum BytesWord {
-    Upto(usize),
-    NoBytes,
-}
-
-#[derive(Clone, Copy)]
-pub enum NumberWord {
-    Is(usize),
-    NoNumber,
-}
 
 // The place after the bytes that a word gave, and where the next word of the line begins.
 #[derive(Clone, Copy)]
@@ -28,66 +15,39 @@ pub struct TakenWord {
     pub next: usize,
 }
 
-fn is_between(low: u8, high: u8, c: u8) -> bool
-    ensures { result ≡ Text.between low high c }
+#[tactic(auto, using(std::proofs::lemmas::Bool::Decides::nat_tests), unfolding(crate::specs::Text::value))]
+fn is_digit(c: u8) -> bool
+    ensures { result ≡ ltb (Text.value c) 16 }
 {
-    if low <= c { c <= high } else { false }
+    c.is_ascii_hexdigit()
 }
 
-// What a digit stands for; 16 for any other character.
+// What a hexadecimal digit stands for.
+#[tactic(auto, using(std::proofs::lemmas::Bool::Decides::nat_tests), unfolding(crate::specs::Text::value))]
 fn value_of(c: u8) -> u8
+    requires { Text.value c < 16 }
     ensures { result ≡ Text.value c }
 {
-    if is_between(b'0', b'9', c) {
-        return c - 48;
+    match c {
+        b'0'..=b'9' => c - b'0',
+        b'A'..=b'F' => c - b'A' + 10,
+        _ => c - b'a' + 10,
     }
-    if is_between(b'A', b'F', c) {
-        return c - 55;
-    }
-    if is_between(b'a', b'f', c) {
-        return c - 87;
-    }
-    16
 }
 
+#[tactic(auto, unfolding(crate::specs::Text::glyph))]
 fn glyph_of(d: u8) -> u8
     requires { d < 16 }
     ensures { result ≡ Text.glyph d }
 {
-    if d < 10 { 48 + d } else { 87 + d }
+    if d < 10 { b'0' + d } else { b'a' + d - 10 }
 }
 
-fn has_digits(base: u8, w: &[u8]) -> bool
-    ensures { result ≡ Text.all_of_base base w.now }
-{
-    let mut i = 0;
-    while i < w.len() {
-        if value_of(w[i]) < base {
-            i += 1;
-        } else {
-            return false;
-        }
-    }
-    true
-}
-
-fn is_hyphen(w: &[u8]) -> bool
-    ensures { result ≡ same w.now Text.empty_word }
-{
-    if w.len() == 1 { w[0] == b'-' } else { false }
-}
-
+#[tactic(auto, unfolding(crate::specs::Text::is_paired))]
 fn is_paired(w: &[u8]) -> bool
     ensures { result ≡ Text.is_paired w.now }
 {
-    if w.len() < 2 {
-        return false;
-    }
-    if w.len() % 2 == 0 {
-        has_digits(16, w)
-    } else {
-        false
-    }
+    2 <= w.len() && w.len() % 2 == 0 && w.iter().all(|c| is_digit(*c))
 }
 
 fn pair(high: u8, low: u8) -> u8
@@ -103,27 +63,22 @@ fn put_pairs(w: &[u8], out: &mut [u8], at: usize) -> usize
     ensures { (result ≡ at + length (Text.paired w.now)) × (out.new ≡ splice at (Text.paired w.now) out.old) }
 {
     let n = w.len() / 2;
-    let mut i = 0;
-    while i < n {
+    for i in 0..n {
         out[at + i] = pair(w[2 * i], w[2 * i + 1]);
-        i += 1;
     }
     at + n
 }
 
 // The bytes that a word spells, to out from `at`; a word takes no more than half its own length.
-fn decode(word: &[u8], out: &mut [u8], at: usize) -> BytesWord
+fn decode(word: &[u8], out: &mut [u8], at: usize) -> Option<usize>
     requires { 2 * at + length word.now ≤ 2 * length out.old }
     ensures { DecodesWord word.now at out.old out.new result }
 {
-    if is_hyphen(word) {
-        return BytesWord::Upto(at);
+    match word {
+        b"-" => Some(at),
+        _ if is_paired(word) => Some(put_pairs(word, out, at)),
+        _ => None,
     }
-    if is_paired(word) {
-        let end = put_pairs(word, out, at);
-        return BytesWord::Upto(end);
-    }
-    BytesWord::NoBytes
 }
 
 // Two digits for each byte, to out from `at`; the place after them.
@@ -131,14 +86,11 @@ fn put_digits(src: &[u8], out: &mut [u8], at: usize) -> usize
     requires { at + 2 * length src.now ≤ length out.old }
     ensures { (result ≡ at + 2 * length src.now) × (out.new ≡ splice at (Text.parted src.now) out.old) }
 {
-    let mut i = 0;
-    while i < src.len() {
-        let b = src[i];
+    for (i, &b) in src.iter().enumerate() {
         out[at + 2 * i] = glyph_of(b / 16);
         out[at + 2 * i + 1] = glyph_of(b % 16);
-        i += 1;
     }
-    at + 2 * i
+    at + 2 * src.len()
 }
 
 // The word that spells the bytes, to out from `at`; the place after it.
@@ -146,68 +98,37 @@ pub fn encode(src: &[u8], out: &mut [u8], at: usize) -> usize
     requires { at + (2 * length src.now + 1) ≤ length out.old }
     ensures { (result ≡ at + length (Text.spelling src.now)) × (out.new ≡ splice at (Text.spelling src.now) out.old) }
 {
-    if src.len() == 0 {
+    if src.is_empty() {
         out[at] = b'-';
         return at + 1;
     }
     put_digits(src, out, at)
 }
 
-fn wide(x: u8) -> usize
-    ensures { result ≡ x }
-{
-    x as usize
-}
-
-fn spell(w: &[u8]) -> usize
-    requires { (length w.now ≤ 6) × (Text.all_of_base 10 w.now ≡ true) }
-    ensures { result ≡ Text.spelled_number w.now }
-{
-    let mut n = 0;
-    let mut i = 0;
-    while i < w.len() {
-        n = n * 10 + wide(value_of(w[i]));
-        i += 1;
-    }
-    n
-}
-
 // The number that a word of one to six decimal digits spells.
-fn read_number(word: &[u8]) -> NumberWord
+#[tactic(auto, using(std::proofs::lemmas::Bool::Decides::nat_tests, crate::proofs::Numbers::below_million), unfolding(crate::specs::Text::number, crate::specs::Text::is_number))]
+fn read_number(word: &[u8]) -> Option<usize>
     ensures { result ≡ number_read (Text.number word.now) }
 {
-    if word.len() < 1 {
-        return NumberWord::NoNumber;
+    if word.is_empty() || 6 < word.len() {
+        return None;
     }
-    if 6 < word.len() {
-        return NumberWord::NoNumber;
+    let mut n = 0;
+    for &c in word {
+        if !c.is_ascii_digit() {
+            return None;
+        }
+        n = n * 10 + usize::from(c - b'0');
     }
-    if has_digits(10, word) {
-        NumberWord::Is(spell(word))
-    } else {
-        NumberWord::NoNumber
-    }
+    Some(n)
 }
 
 fn places(n: usize) -> usize
-    ensures { result ≡ Text.decimal_places n }
+    requires { n < 1000000 }
+    ensures count { result ≡ Text.decimal_places n }
+    ensures most { result ≤ 6 }
 {
-    if n < 10 {
-        return 1;
-    }
-    if n < 100 {
-        return 2;
-    }
-    if n < 1000 {
-        return 3;
-    }
-    if n < 10000 {
-        return 4;
-    }
-    if n < 100000 {
-        return 5;
-    }
-    6
+    n.checked_ilog10().unwrap_or(0) as usize + 1
 }
 
 // The decimal digits of n, to out from `at`; the place after them.
@@ -216,12 +137,10 @@ fn put_number(n: usize, out: &mut [u8], at: usize) -> usize
     ensures { (result ≡ at + length (Text.decimal_word n)) × (out.new ≡ splice at (Text.decimal_word n) out.old) }
 {
     let k = places(n);
-    let mut i = k;
     let mut rest = n;
-    while 0 < i {
-        i -= 1;
+    for i in (0..k).rev() {
         out[at + i] = glyph_of((rest % 10) as u8);
-        rest = rest / 10;
+        rest /= 10;
     }
     at + k
 }
@@ -231,37 +150,32 @@ pub fn take_bytes(line: &[u8], at: usize, out: &mut [u8], start: usize) -> Taken
     requires { (at ≤ length line.now + 1) × (2 * start ≤ at) × (length line.now ≤ 2 * length out.old) }
     ensures { TakesWord line.now at start out.old out.new result }
 {
+    let none = TakenWord {
+        end: start,
+        next: line.len() + 1,
+    };
     if line.len() < at {
-        return TakenWord {
-            end: start,
-            next: line.len() + 1,
-        };
+        return none;
     }
     let stop = buffer::find(line, at, b' ');
-    let d = decode(&line[at..stop], out, start);
-    match d {
-        BytesWord::Upto(end) => TakenWord {
+    match decode(&line[at..stop], out, start) {
+        Some(end) => TakenWord {
             end,
             next: stop + 1,
         },
-        BytesWord::NoBytes => TakenWord {
-            end: start,
-            next: line.len() + 1,
-        },
+        None => none,
     }
 }
 
 // The number that the line spells from `at`.
-pub fn take_number(line: &[u8], at: usize) -> NumberWord
+pub fn take_number(line: &[u8], at: usize) -> Option<usize>
     ensures { result ≡ number_read (Lines.number_at at line.now) }
 {
-    if line.len() < at {
-        return NumberWord::NoNumber;
-    }
-    read_number(&line[at..])
+    read_number(line.get(at..)?)
 }
 
 // A number and a last character, to out from `at`; the place after both.
+#[tactic(auto, using(crate::proofs::Numbers::decimal_short))]
 pub fn put_field(n: usize, last: u8, out: &mut [u8], at: usize) -> usize
     requires { (n < 1000000) × (at + 7 ≤ length out.old) }
     ensures { (result ≡ at + length (Text.decimal_word n ++ (last ∷ []))) × (out.new ≡ splice at (Text.decimal_word n ++ (last ∷ [])) out.old) × (result ≤ at + 7) }

@@ -1,4 +1,5 @@
 -- A journal is replayed entry by entry: the history so far, and the entries that are left, are the history that the journal keeps.
+use Rattle.std.specs.Prelude.{Err, Ok}
 use mathlib.Core.Path.{◌≡◌, refl, sym, ◌∙◌, ap, subst}
 use mathlib.Core.Bool.{true, false}
 use mathlib.Core.List.{[], ◌∷◌}
@@ -18,7 +19,6 @@ use Rattle.rules.proofs.Steps.{by_test, true_T, and_right}
 use Rattle.histories.specs.History.{History, answer, left_by, record_after}
 use Rattle.lyrecanyon.specs.Answers.{Settled}
 use Rattle.lyrecanyon.specs.Making.{Makes}
-use Rattle.lyrecanyon.specs.declared.Answer.TheVariants.{Done, Refused}
 use Rattle.lyrecanyon.proofs.Settling.{settled_refused, done_back, refused_back}
 use Rattle.journals.specs.Journal.{head_length, length_at, entry_length, whole_entry, entry_call, entry_end, history_from, history_of, replayed, read_after}
 use Rattle.journals.specs.Replay.{Steps, Replays}
@@ -141,23 +141,23 @@ module _ (t j : Bytes) where
 -- ---- the record, and a read of it
 
 module _ (t j stored stored' : Bytes) (room : length stored ≡ longest_new_record) where
-  pub replay_refused : (x : Refusal) → Settled (empty t (length stored)) stored stored' (Refused x) → replayed t j ≡ refused (refusal x)
+  pub replay_refused : (x : Refusal) → Settled (empty t (length stored)) stored stored' (Err x) → replayed t j ≡ refused (refusal x)
   unfolding replayed
   replay_refused x s = rw (ap (empty t) (sym room) ∙ (refused_back (empty t (length stored)) stored stored' x s).0)
 
-  pub replay_start : (n : ℕ) → Settled (empty t (length stored)) stored stored' (Done n) → n ≤ length stored'
+  pub replay_start : (n : ℕ) → Settled (empty t (length stored)) stored stored' (Ok n) → n ≤ length stored'
   replay_start n s = (done_back (empty t (length stored)) (empty_numbered t (length stored)) stored stored' n s).1
 
-  pub replay_done : (n used : ℕ) (made : Bytes) → Settled (empty t (length stored)) stored stored' (Done n) → Replays t j (take n stored') made used → Makes (replayed t j) made (Done used)
+  pub replay_done : (n used : ℕ) (made : Bytes) → Settled (empty t (length stored)) stored stored' (Ok n) → Replays t j (take n stored') made used → Makes (replayed t j) made (Ok used)
   unfolding replayed
   replay_done n used made s r =
       (r.within, rw (ap (empty t) (sym room) ∙ (done_back (empty t (length stored)) (empty_numbered t (length stored)) stored stored' n s).0) (ap done (sym r.after)))
 
 module _ (t j f made : Bytes) (buffer : Bytes) where
-  pub after_refused : (x : Refusal) → Makes (replayed t j) made (Refused x) → Settled (read_after t j f (length buffer)) buffer buffer (Refused x)
+  pub after_refused : (x : Refusal) → Makes (replayed t j) made (Err x) → Settled (read_after t j f (length buffer)) buffer buffer (Err x)
   unfolding read_after
   after_refused x m = settled_refused _ buffer x (rw m)
 
-  pub after_done : (used : ℕ) → Makes (replayed t j) made (Done used) → read_after t j f (length buffer) ≡ read t (take used made) f (length buffer)
+  pub after_done : (used : ℕ) → Makes (replayed t j) made (Ok used) → read_after t j f (length buffer) ≡ read t (take used made) f (length buffer)
   unfolding read_after
   after_done used m = rw m.1

@@ -1,4 +1,6 @@
 -- The contract of an update in place is the step of a history, so calls by the compiled service leave `record_after`.
+use Rattle.std.specs.Prelude.{Err, Ok, Result}
+use Rattle.std.specs.Result.{result_unwrap_or}
 use mathlib.Core.Path.{◌≡◌, sym, ◌∙◌, ap}
 use mathlib.Core.List.{[], ◌∷◌}
 use Prim.Native.Nat.{ℕ, ◌+◌, ◌≤◌}
@@ -15,7 +17,6 @@ use Rattle.buffer.specs.Splice.{splice}
 use Rattle.buffer.proofs.Laws.{take_splice}
 use Rattle.histories.specs.History.{History, answer, left_by, record_after}
 use Rattle.lyrecanyon.specs.Answers.{Settled, Applied}
-use Rattle.lyrecanyon.specs.declared.Answer.TheVariants.{Done, Refused}
 use Rattle.lyrecanyon.proofs.Settling.{done_back, refused_back}
 use Rattle.journals.specs.Carried.{CarriedOut}
 use Rattle.journals.specs.Journal.{head_length, length_at, entry_call}
@@ -53,15 +54,19 @@ module _ (t j : Bytes) (at used : ℕ) (stored stored' : Bytes) (room : length s
   unfolding answer entry_call
   asked_entry = rw (e, f, g, room)
 
-  pub step_done : (n : ℕ) → Settled asked stored stored' (Done n) → Steps t j at stored used stored' n
+  step_done : (n : ℕ) → Settled asked stored stored' (Ok n) → Steps t j at stored used stored' n
   step_done n s =
       let b = done_back asked (update_numbered t (take used stored) (take m (drop (at + head_length) j)) (take k (drop p j)) (length stored)) stored stored' n s in
       record { after = sym (left_done _ (take used stored) _ (asked_entry ∙ b.0)); within = b.1 }
 
-  pub step_refused : (x : Refusal) → used ≤ length stored → Settled asked stored stored' (Refused x) → Steps t j at stored used stored' used
+  step_refused : (x : Refusal) → used ≤ length stored → Settled asked stored stored' (Err x) → Steps t j at stored used stored' used
   step_refused x l s =
       let b = refused_back asked stored stored' x s in
       record {
         after = ap (take used) b.1 ∙ sym (left_refused _ (take used stored) _ (asked_entry ∙ b.0));
         within = omega (arith, l, ap length b.1);
       }
+
+  pub steps : used ≤ length stored → (r : Result ℕ Refusal) → Settled asked stored stored' r → Steps t j at stored used stored' (result_unwrap_or r used)
+  steps l (Ok n) s = step_done n s
+  steps l (Err x) s = step_refused x l s

@@ -13,11 +13,12 @@ use lyrecanyon::Answer;
 // The two lengths before an entry's bytes.
 const HEAD: usize = 4;
 
+#[tactic(auto, unfolding(crate::specs::Journal::length_at))]
 fn length_at(journal: &[u8], at: usize) -> usize
     requires { at + 2 ≤ length journal.now }
     ensures { (result ≡ length_at journal.now at) × (result < 65536) }
 {
-    journal[at] as usize * 256 + journal[at + 1] as usize
+    usize::from(u16::from_be_bytes([journal[at], journal[at + 1]]))
 }
 
 // Where the entry at a place ends; the place itself where no whole entry stands there.
@@ -44,16 +45,14 @@ fn apply_entry(table: &[u8], journal: &[u8], at: usize, stored: &mut [u8], used:
     let format = at + HEAD;
     let buffer = format + length_at(journal, at);
     let end = buffer + length_at(journal, at + 2);
-    match lyrecanyon::apply(
+    lyrecanyon::apply(
         table,
         stored,
         used,
         &journal[format..buffer],
         &journal[buffer..end],
-    ) {
-        Answer::Done(n) => n,
-        Answer::Refused(_) => used,
-    }
+    )
+    .unwrap_or(used)
 }
 
 // The updates of a journal, one after the other.
@@ -77,13 +76,8 @@ fn replay(table: &[u8], journal: &[u8], stored: &mut [u8]) -> Answer
     requires { length stored.old ≡ longest_new_record }
     ensures { Makes (replayed table.now journal.now) stored.new result }
 {
-    match lyrecanyon::empty(table, stored) {
-        Answer::Refused(x) => Answer::Refused(x),
-        Answer::Done(start) => {
-            let used = apply_entries(table, journal, stored, start);
-            Answer::Done(used)
-        }
-    }
+    let start = lyrecanyon::empty(table, stored)?;
+    Ok(apply_entries(table, journal, stored, start))
 }
 
 // Fills the record buffer from the record that the updates of a journal leave, beginning with the empty record of the table.
@@ -91,9 +85,6 @@ pub fn read_after(table: &[u8], journal: &[u8], format: &[u8], buffer: &mut [u8]
     ensures { Settled (read_after table.now journal.now format.now (length buffer.old)) buffer.old buffer.new result }
 {
     let mut stored = [0u8; rules::LONGEST_NEW_RECORD];
-    let answer = replay(table, journal, &mut stored);
-    match answer {
-        Answer::Refused(x) => Answer::Refused(x),
-        Answer::Done(used) => lyrecanyon::read(table, &stored[..used], format, buffer),
-    }
+    let used = replay(table, journal, &mut stored)?;
+    lyrecanyon::read(table, &stored[..used], format, buffer)
 }

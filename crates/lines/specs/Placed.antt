@@ -1,12 +1,17 @@
 -- Where a line stands in the input area.
-use Rattle.std.specs.Prelude.{◌≡◌, List, ℕ, ◌+◌, ◌-◌, ◌≤◌, ◌<◌, length, take, drop}
+use Rattle.std.specs.Prelude.{◌≡◌, List, ℕ, ◌+◌, ◌-◌, ◌≤◌, ◌<◌, length, take, drop, IfSome}
 use Rattle.lines.specs.declared.Line.{Line}
 
--- The area has room for the line and its newline, and what is still to be looked at lies within it.
+-- A line lies in an area of n bytes, which has room for its newline as well.
+pub record LineWithin (n : ℕ) (line : ℕ × ℕ) : Type 0 where
+  pub ordered : line.0 ≤ line.1
+  pub short : line.1 < line.0 + n
+  pub within : line.1 ≤ n
+
+-- So does the line that was found, if one was, and so does what is still to be looked at.
 pub record Placed (n : ℕ) (l : Line) : Type 0 where
-  pub ordered : l.start ≤ l.end
-  pub short : l.end < l.start + n
-  pub within : l.end ≤ n
+  pub room : 0 < n
+  pub found : IfSome l.found (LineWithin n)
   pub next : l.next ≤ l.seen
   pub seen : l.seen ≤ l.filled
   pub filled : l.filled ≤ n

@@ -3,22 +3,19 @@
 
 ghost use Rattle.std.specs.Prelude.{◌≡◌, ◌-◌, ◌≤◌, ◌<◌, length, take, drop, IfOk, OnOk, OnErr};
 ghost use Rattle.std.specs.Io.KnownBytes.{Appends, Keeps};
-ghost use Rattle.buffer.specs.Splice.{splice};
 ghost use Rattle.lines.specs.Placed.{Placed, Begun, HeldAtFront};
 
 use std::io;
 use std::io::{Read, Write};
 
-// A line, if one was found, from start up to end in the input area.
+// A line, if one was found: where it starts and ends in the input area.
 // `more` is how often the next line may be asked for, 0 once the input has ended: a proved loop has to end, and nothing says that
 // the input does, so it counts down from a number that no run uses up.
 // The bytes from next up to filled are still to be looked at, and those before seen have no newline. If `skips`, those up to the
 // next newline belong to a line that was too long.
 #[derive(Clone, Copy)]
 pub struct Line {
-    pub start: usize,
-    pub end: usize,
-    pub found: bool,
+    pub found: Option<(usize, usize)>,
     pub more: u64,
     next: usize,
     seen: usize,
@@ -45,9 +42,7 @@ pub fn begin() -> Line
     ensures { Begun result }
 {
     Line {
-        start: 0,
-        end: 0,
-        found: false,
+        found: None,
         more: u64::MAX,
         next: 0,
         seen: 0,
@@ -59,18 +54,12 @@ pub fn begin() -> Line
 // The bytes from a place on up to another, to the front; how many they are.
 fn move_front(s: &mut [u8], from: usize, to: usize) -> usize
     requires { (from ≤ to) × (to ≤ length s.old) }
-    ensures { (result ≡ to - from) × (s.new ≡ splice 0 (take (to - from) (drop from s.old)) s.old) }
+    ensures { (result ≡ to - from) × (take result s.new ≡ take result (drop from s.old)) }
 {
-    if from == 0 {
-        return to;
+    if 0 < from {
+        s.copy_within(from..to, 0);
     }
-    let n = to - from;
-    let mut i = 0;
-    while i < n {
-        s[i] = s[from + i];
-        i += 1;
-    }
-    n
+    to - from
 }
 
 // One read, to the input from held on; the place after what came, which is held itself if nothing more comes. A read that fails takes
@@ -86,7 +75,6 @@ fn read_more<R: Read>(reader: &mut R, input: &mut [u8], held: usize) -> io::Resu
 }
 
 // One read after the bytes that have no newline, which come to the front. If nothing comes, these are the last line, unless there are none.
-#[tactic(auto, using(crate::proofs::Holding::held_first))]
 fn fill<R: Read>(reader: &mut R, input: &mut [u8], l: Line) -> io::Result<Line>
     requires { Placed (length input.old) l × (0 < l.more) × (l.filled - l.next < length input.old) }
     ensures placed { IfOk result (λ next. Placed (length input.old) next × (next.more < l.more)) }
@@ -97,9 +85,7 @@ fn fill<R: Read>(reader: &mut R, input: &mut [u8], l: Line) -> io::Result<Line>
     let filled = read_more(reader, input, held)?;
     if held < filled {
         return Ok(Line {
-            start: 0,
-            end: 0,
-            found: false,
+            found: None,
             more: l.more - 1,
             next: 0,
             seen: held,
@@ -108,9 +94,7 @@ fn fill<R: Read>(reader: &mut R, input: &mut [u8], l: Line) -> io::Result<Line>
         });
     }
     Ok(Line {
-        start: 0,
-        end: held,
-        found: 0 < held && !l.skips,
+        found: (0 < held && !l.skips).then_some((0, held)),
         more: 0,
         next: 0,
         seen: 0,
@@ -124,8 +108,7 @@ fn find_end(input: &[u8], l: Line) -> usize
     requires { Placed (length input.now) l }
     ensures { (l.seen ≤ result) × (result ≤ l.filled) }
 {
-    let filled = l.filled;
-    buffer::find(&input[..filled], l.seen, b'\n')
+    buffer::find(&input[..l.filled], l.seen, b'\n')
 }
 
 // The next line, if it stands in the input area already; else one read. A line that fills the area is too long: it is found as an
@@ -140,9 +123,7 @@ pub fn next<R: Read>(reader: &mut R, input: &mut [u8], l: Line) -> io::Result<Li
     let end = find_end(input, l);
     if end < l.filled {
         return Ok(Line {
-            start: l.next,
-            end,
-            found: !l.skips,
+            found: (!l.skips).then_some((l.next, end)),
             more: l.more - 1,
             next: end + 1,
             seen: end + 1,
@@ -154,9 +135,7 @@ pub fn next<R: Read>(reader: &mut R, input: &mut [u8], l: Line) -> io::Result<Li
         return fill(reader, input, l);
     }
     Ok(Line {
-        start: 0,
-        end: 0,
-        found: !l.skips,
+        found: (!l.skips).then_some((0, 0)),
         more: l.more - 1,
         next: 0,
         seen: 0,

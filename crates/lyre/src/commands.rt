@@ -1,9 +1,8 @@
 // What each command does: the words are taken, the service is asked, and its answer is said.
-ghost use Rattle.std.specs.Prelude.{◌≡◌, ◌≤◌, length, IfOk};
+ghost use Rattle.std.specs.Prelude.{◌≡◌, ◌≤◌, length, IfOk, IfSome};
 
 use crate::asking::Service;
 use crate::plain::Ended;
-use crate::saving::Saved;
 use crate::words::same;
 use crate::{
     asking, explaining, help, hexadecimal, listing, refusals, saving, tables_shown, words,
@@ -28,13 +27,7 @@ const EMPTY: usize = 3;
 // Whether the command has its words alone, or `-o` and a file too.
 fn has_file(env: &impl Env, words: usize, more: usize) -> bool {
     let n = words::count(env);
-    if n == words {
-        return true;
-    }
-    if n == more {
-        return words::is(env, words, b"-o");
-    }
-    false
+    n == words || n == more && words::is(env, words, b"-o")
 }
 
 // The record, where the service takes one.
@@ -43,49 +36,39 @@ fn take_record(
     err: &impl Print,
     service: Service,
     area: &mut [u8],
-) -> io::Result<words::Input>
-    ensures given { IfOk result (λ given. given.used ≤ length area.new) }
+) -> words::Taken
+    ensures given { IfOk result (λ given. IfSome given (λ used. used ≤ length area.new)) }
     ensures kept { length area.new ≡ length area.old }
 {
     match service {
         Service::Read => words::file(rt, err, 3, area),
         Service::Update => words::file(rt, err, 3, area),
         Service::Record => words::file(rt, err, 3, area),
-        _ => Ok(words::nothing(area, true)),
+        _ => Ok(Some(0)),
     }
 }
 
 // The format, where the service takes one.
-fn take_format(
-    env: &impl Env,
-    err: &impl Print,
-    service: Service,
-    area: &mut [u8],
-) -> io::Result<words::Input>
-    ensures given { IfOk result (λ given. given.used ≤ length area.new) }
+fn take_format(env: &impl Env, err: &impl Print, service: Service, area: &mut [u8]) -> words::Taken
+    ensures given { IfOk result (λ given. IfSome given (λ used. used ≤ length area.new)) }
     ensures kept { length area.new ≡ length area.old }
 {
     match service {
         Service::Read => words::format(env, err, 4, area),
         Service::Update => words::format(env, err, 4, area),
         Service::Explain => words::format(env, err, 3, area),
-        _ => Ok(words::nothing(area, true)),
+        _ => Ok(Some(0)),
     }
 }
 
 // The values, which an update takes.
-fn take_values(
-    env: &impl Env,
-    err: &impl Print,
-    service: Service,
-    area: &mut [u8],
-) -> io::Result<words::Input>
-    ensures given { IfOk result (λ given. given.used ≤ length area.new) }
+fn take_values(env: &impl Env, err: &impl Print, service: Service, area: &mut [u8]) -> words::Taken
+    ensures given { IfOk result (λ given. IfSome given (λ used. used ≤ length area.new)) }
     ensures kept { length area.new ≡ length area.old }
 {
     match service {
         Service::Update => words::bytes(env, err, 5, area),
-        _ => Ok(words::nothing(area, true)),
+        _ => Ok(Some(0)),
     }
 }
 
@@ -105,14 +88,18 @@ fn say_answer(
             hexadecimal::say_line(out, answer)?;
             explaining::say_format(out, t, record, f, true)?;
         }
-        Service::Update => match saving::give(rt, out, err, answer, UPDATE)? {
-            Saved::Told => explaining::say_format(out, t, answer, f, true)?,
-            Saved::Over(ended) => return Ok(ended),
-        },
-        Service::Empty => match saving::give(rt, out, err, answer, EMPTY)? {
-            Saved::Told => listing::show(out, t, answer)?,
-            Saved::Over(ended) => return Ok(ended),
-        },
+        Service::Update => {
+            if let Some(ended) = saving::give(rt, out, err, answer, UPDATE)? {
+                return Ok(ended);
+            }
+            explaining::say_format(out, t, answer, f, true)?;
+        }
+        Service::Empty => {
+            if let Some(ended) = saving::give(rt, out, err, answer, EMPTY)? {
+                return Ok(ended);
+            }
+            listing::show(out, t, answer)?;
+        }
         Service::Explain => explaining::say_format(out, t, record, f, false)?,
         Service::Table => tables_shown::show(out, t)?,
         Service::Record => listing::show(out, t, record)?,
@@ -131,13 +118,13 @@ fn answer(
     values: &[u8],
 ) -> io::Result<Ended> {
     let mut room = [0u8; rules::LONGEST_ITEMS];
-    let a = asking::ask(service, t, record, f, values, &mut room);
-    let used = a.used;
-    if a.number == 0 {
-        return say_answer(rt, out, err, service, t, record, f, &room[..used]);
+    match asking::ask(service, t, record, f, values, &mut room) {
+        Ok(used) => say_answer(rt, out, err, service, t, record, f, &room[..used]),
+        Err(x) => {
+            refusals::refuse(err, service, t, record, f, values, x)?;
+            Ok(Ended::Refused)
+        }
     }
-    refusals::refuse(err, service, t, record, f, values, a)?;
-    Ok(Ended::Refused)
 }
 
 // A service with the words that it takes. A word that is not good has been said so.
@@ -148,29 +135,21 @@ fn run(
     service: Service,
 ) -> io::Result<Ended> {
     let mut table = [0u8; FILE];
-    let t = words::file(rt, err, 2, &mut table)?;
-    if !t.good {
+    let Some(table_end) = words::file(rt, err, 2, &mut table)? else {
         return Ok(Ended::Wrong);
-    }
+    };
     let mut record = [0u8; FILE];
-    let r = take_record(rt, err, service, &mut record)?;
-    if !r.good {
+    let Some(record_end) = take_record(rt, err, service, &mut record)? else {
         return Ok(Ended::Wrong);
-    }
+    };
     let mut format = [0u8; FORMAT];
-    let f = take_format(rt, err, service, &mut format)?;
-    if !f.good {
+    let Some(format_end) = take_format(rt, err, service, &mut format)? else {
         return Ok(Ended::Wrong);
-    }
+    };
     let mut values = [0u8; VALUES];
-    let v = take_values(rt, err, service, &mut values)?;
-    if !v.good {
+    let Some(values_end) = take_values(rt, err, service, &mut values)? else {
         return Ok(Ended::Wrong);
-    }
-    let table_end = t.used;
-    let record_end = r.used;
-    let format_end = f.used;
-    let values_end = v.used;
+    };
     answer(
         rt,
         out,

@@ -13,8 +13,9 @@ fn digit(n: usize) -> u8 {
 // The name alone.
 pub(crate) fn named(name: u16) -> [u8; SIZE] {
     let mut f = [SPACE; SIZE];
-    f[0] = (name / 256) as u8;
-    f[1] = (name % 256) as u8;
+    let [first, second] = name.to_be_bytes();
+    f[0] = first;
+    f[1] = second;
     f[16] = PERIOD;
     f
 }

@@ -4,42 +4,29 @@ ghost use Rattle.rules.specs.Limits.{longest_format};
 ghost use Rattle.tables.specs.Entries.{Valid};
 
 use crate::listing::Manner;
-use crate::meanings::Told;
 use crate::{letters, listing, meanings, plain, refusals, spans_shown};
 use std::io;
 use uses::scopes::Scopes;
 use uses::{INDEXES, Index, Use};
 
-fn manner(u: Use, s: Scopes, valued: bool) -> Manner {
-    match u {
-        Use::Values(x) => Manner {
-            valued,
-            standard: x.standard,
-            format: x.format,
-            size: x.size,
-            scope: s.occurrences,
-            value_scope: s.values,
-            whole: false,
-        },
-        _ => Manner {
-            valued,
-            standard: true,
-            format: 0,
-            size: 0,
-            scope: s.occurrences,
-            value_scope: s.values,
-            whole: false,
-        },
+fn manner(u: Use, scopes: Scopes, valued: bool) -> Manner {
+    let in_effect = match u {
+        Use::Values(s) if !s.standard => Some((s.format, s.size)),
+        _ => None,
+    };
+    Manner {
+        valued,
+        in_effect,
+        scopes,
+        whole: false,
     }
 }
 
 fn say_text(out: &impl Print, f: &[u8], from: usize, upto: usize) -> io::Result<()> {
-    if from <= upto {
-        if upto <= f.len() {
-            plain::say(out, b"the text ")?;
-            letters::say_quoted(out, &f[from..upto])?;
-            plain::say(out, b"\n")?;
-        }
+    if from <= upto && upto <= f.len() {
+        plain::say(out, b"the text ")?;
+        letters::say_quoted(out, &f[from..upto])?;
+        plain::say(out, b"\n")?;
     }
     Ok(())
 }
@@ -71,24 +58,18 @@ fn say_elements(out: &impl Print, t: &[u8], record: &[u8], f: &[u8], valued: boo
     let mut last: [Index; INDEXES] = [0; INDEXES];
     let mut at = 0;
     let mut n = 1;
-    loop {
-        match meanings::next(t, f, at, &mut last) {
-            Told::Refused(_) => {
-                return Ok(());
-            }
-            Told::As(u, s, stop) => {
-                if !valued {
-                    refusals::write_element(out, f, at, stop, n)?;
-                }
-                say_use(out, t, record, f, u, manner(u, s, valued))?;
-                if format_buffer::syntax::is_last(f, stop) {
-                    return Ok(());
-                }
-                at = stop + 1;
-                n += 1;
-            }
+    while let Ok((u, s, stop)) = meanings::next(t, f, at, &mut last) {
+        if !valued {
+            refusals::write_element(out, f, at, stop, n)?;
         }
+        say_use(out, t, record, f, u, manner(u, s, valued))?;
+        if format_buffer::syntax::is_last(f, stop) {
+            break;
+        }
+        at = stop + 1;
+        n += 1;
     }
+    Ok(())
 }
 
 // What a format names by a table: with the values in a record, or with the bytes that each takes.

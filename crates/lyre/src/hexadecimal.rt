@@ -1,12 +1,8 @@
 // Bytes as pairs of hexadecimal digits.
-ghost use Rattle.std.specs.Prelude.{◌+◌, ◌≤◌, ◌<◌, length};
+ghost use Rattle.std.specs.Prelude.{◌≡◌, ◌+◌, ◌≤◌, ◌<◌, length, IfSome};
 
 use crate::plain;
-use crate::words::Input;
 use std::io;
-
-// No digit.
-const NONE: u8 = 16;
 
 fn glyph(d: u8) -> u8
     requires { d < 16 }
@@ -19,8 +15,8 @@ pub(crate) fn write_byte(to: &impl Print, b: u8) -> io::Result<()> {
 }
 
 pub(crate) fn say_bytes(out: &impl Print, bytes: &[u8]) -> io::Result<()> {
-    for i in 0..bytes.len() {
-        write_byte(out, bytes[i])?;
+    for &b in bytes {
+        write_byte(out, b)?;
     }
     Ok(())
 }
@@ -30,91 +26,51 @@ pub(crate) fn say_line(out: &impl Print, bytes: &[u8]) -> io::Result<()> {
     plain::say(out, b"\n")
 }
 
-// The value of a digit, below 16, or NONE.
-fn digit(c: u8) -> u8
-    ensures { result < 17 }
+// The value of a digit.
+fn digit(c: u8) -> Option<u8>
+    ensures { IfSome result (λ d. d < 16) }
 {
     match c {
-        b'0'..=b'9' => c - b'0',
-        b'A'..=b'F' => c - b'A' + 10,
-        b'a'..=b'f' => c - b'a' + 10,
-        _ => NONE,
+        b'0'..=b'9' => Some(c - b'0'),
+        b'A'..=b'F' => Some(c - b'A' + 10),
+        b'a'..=b'f' => Some(c - b'a' + 10),
+        _ => None,
     }
 }
 
 fn is_blank(c: u8) -> bool {
-    match c {
-        b' ' | b'\n' | b'\r' | b'\t' => true,
-        _ => false,
-    }
+    matches!(c, b' ' | b'\n' | b'\r' | b'\t')
 }
 
-// What stands at a place: a pair of digits, which makes a byte, or a blank, which makes none; or neither.
-#[derive(Clone, Copy)]
-struct Pair {
-    good: bool,
-    byte: u8,
-    made: usize,
-    next: usize,
-}
-
-// What stands at a place of the text that ends at another.
-fn take(text: &[u8], at: usize, end: usize) -> Pair
+// The byte that a pair of digits at a place makes.
+fn pair(text: &[u8], at: usize, end: usize) -> Option<u8>
     requires { (at < end) × (end ≤ length text.now) }
-    ensures { (at < result.next) × (result.next ≤ end) × (result.made ≤ 1) }
+    ensures { IfSome result (λ b. at + 2 ≤ end) }
 {
-    let after = at + 1;
-    let high = digit(text[at]);
-    if is_blank(text[at]) {
-        return Pair {
-            good: true,
-            byte: 0,
-            made: 0,
-            next: after,
-        };
+    if end - at < 2 {
+        return None;
     }
-    if after < end {
-        let low = digit(text[after]);
-        if high < NONE {
-            if low < NONE {
-                return Pair {
-                    good: true,
-                    byte: high * 16 + low,
-                    made: 1,
-                    next: after + 1,
-                };
-            }
-        }
-    }
-    Pair {
-        good: false,
-        byte: 0,
-        made: 0,
-        next: after,
-    }
+    let high = digit(text[at])?;
+    let low = digit(text[at + 1])?;
+    Some(high * 16 + low)
 }
 
-// The bytes that the first `used` characters of an area spell, to its front: digits in pairs, with blanks and line ends between them.
-pub(crate) fn decode(area: &mut [u8], used: usize) -> Input
+// How many bytes the first `used` characters of an area spell, which come to its front: digits in pairs, with blanks and line ends between them.
+pub(crate) fn decode(area: &mut [u8], used: usize) -> Option<usize>
     requires { used ≤ length area.old }
-    ensures { result.used ≤ length area.new }
+    ensures made { IfSome result (λ made. made ≤ length area.new) }
+    ensures kept { length area.new ≡ length area.old }
 {
     let mut at = 0;
     let mut made = 0;
     while at < used {
-        let taken = take(area, at, used);
-        if !taken.good {
-            return Input {
-                good: false,
-                used: 0,
-            };
+        if is_blank(area[at]) {
+            at += 1;
+        } else {
+            area[made] = pair(area, at, used)?;
+            made += 1;
+            at += 2;
         }
-        area[made] = taken.byte;
-        made += taken.made;
-        at = taken.next;
     }
-    Input {
-        good: true,
-        used: made,
-    }
+    Some(made)
 }

@@ -17,56 +17,53 @@ const CODES: [u8; CHARACTERS] = *b"\
     \x79\x81\x82\x83\x84\x85\x86\x87\x88\x89\x91\x92\x93\x94\x95\x96\
     \x97\x98\x99\xA2\xA3\xA4\xA5\xA6\xA7\xA8\xA9\xC0\x4F\xD0\xA1";
 
-// The EBCDIC code of a printable character; 0 for any other byte.
-pub(crate) fn ebcdic_of(c: u8) -> u8 {
-    if c < FIRST {
-        return 0;
+// The EBCDIC code of a character, if it is printable.
+pub(crate) fn ebcdic_of(c: u8) -> Option<u8> {
+    if c < FIRST || LAST < c {
+        return None;
     }
-    if LAST < c {
-        return 0;
-    }
-    CODES[(c - FIRST) as usize]
+    Some(CODES[usize::from(c - FIRST)])
 }
 
-// The printable character of an EBCDIC code; 0 for a code that has none.
-pub(crate) fn ascii_of(code: u8) -> u8 {
-    let codes = CODES;
-    let i = buffer::find(&codes, 0, code);
-    if i < CHARACTERS { FIRST + i as u8 } else { 0 }
+// The character of an EBCDIC code, if it is a printable one.
+fn ascii_of(code: u8) -> Option<u8> {
+    for i in 0..CHARACTERS {
+        if CODES[i] == code {
+            return Some(FIRST + i as u8);
+        }
+    }
+    None
 }
 
 // One character, or its code in hexadecimal.
 fn write_letter(to: &impl Print, code: u8) -> io::Result<()> {
-    let c = ascii_of(code);
-    if c == 0 {
-        plain::write(to, b"\\x")?;
-        return hexadecimal::write_byte(to, code);
+    match ascii_of(code) {
+        Some(c) => plain::write(to, &[c]),
+        None => {
+            plain::write(to, b"\\x")?;
+            hexadecimal::write_byte(to, code)
+        }
     }
-    plain::write(to, &[c])
 }
 
 pub(crate) fn write_text(to: &impl Print, text: &[u8]) -> io::Result<()> {
-    for i in 0..text.len() {
-        write_letter(to, text[i])?;
+    for &code in text {
+        write_letter(to, code)?;
     }
     Ok(())
 }
 
 // The same between quotation marks: a quotation mark and a backslash have a backslash before them.
 fn say_letter(out: &impl Print, code: u8) -> io::Result<()> {
-    let c = ascii_of(code);
-    if c == b'"' {
-        plain::say(out, b"\\")?;
-    }
-    if c == b'\\' {
+    if let Some(b'"' | b'\\') = ascii_of(code) {
         plain::say(out, b"\\")?;
     }
     write_letter(out, code)
 }
 
 fn say_letters(out: &impl Print, text: &[u8]) -> io::Result<()> {
-    for i in 0..text.len() {
-        say_letter(out, text[i])?;
+    for &code in text {
+        say_letter(out, code)?;
     }
     Ok(())
 }
@@ -79,5 +76,5 @@ pub(crate) fn say_quoted(out: &impl Print, text: &[u8]) -> io::Result<()> {
 
 // A name, which is two letters.
 pub(crate) fn say_name(out: &impl Print, name: u16) -> io::Result<()> {
-    write_text(out, &[(name / 256) as u8, (name % 256) as u8])
+    write_text(out, &name.to_be_bytes())
 }

@@ -3,33 +3,29 @@ ghost use Rattle.std.specs.Prelude.{◌≤◌, ◌<◌, length};
 ghost use Rattle.tables.specs.Entries.{Valid, entries_of};
 
 use crate::{letters, plain, tables_shown, values_shown};
-use format_buffer::{AS_WRITTEN, LAST_ALONE, UP_TO_LAST};
+use format_buffer::Scope;
 use std::io;
+use uses::scopes;
+use uses::scopes::Scopes;
+use value_formats::Format;
 
-// How lines are made: by values or by bytes, these at the standard of each field or at a format and a length in effect; how far occurrences
-// and values reach; and whether the whole record is listed, by levels.
+// How lines are made: by values or by bytes, these at a format and a length in effect or else at the standard of each field; how far
+// occurrences and values reach; and whether the whole record is listed, by levels.
 #[derive(Clone, Copy)]
 pub struct Manner {
     pub valued: bool,
-    pub standard: bool,
-    pub format: usize,
-    pub size: usize,
-    pub scope: u8,
-    pub value_scope: u8,
+    pub in_effect: Option<(Format, usize)>,
+    pub scopes: Scopes,
     pub whole: bool,
 }
 
 // An index as a format spells it. Where there is no record, N stays what it is.
-fn say_index(out: &impl Print, n: usize, scope: u8, m: Manner) -> io::Result<()> {
-    if !m.valued {
-        if scope == LAST_ALONE {
-            return plain::say(out, b"N");
-        }
-        if scope == UP_TO_LAST {
-            return plain::say(out, b"1-N");
-        }
+fn say_index(out: &impl Print, n: usize, scope: Scope, m: Manner) -> io::Result<()> {
+    match scope {
+        Scope::LastAlone if !m.valued => plain::say(out, b"N"),
+        Scope::UpToLast if !m.valued => plain::say(out, b"1-N"),
+        _ => plain::say_number(out, n),
     }
-    plain::say_number(out, n)
 }
 
 // The name of entry i, with the occurrence where it lies in a periodic group.
@@ -39,7 +35,7 @@ fn say_entry_name(out: &impl Print, t: &[u8], i: usize, o: usize, m: Manner) -> 
     let e = tables::entry_at(t, i);
     letters::say_name(out, e.name)?;
     if values_shown::has_occurrences(t, i) {
-        say_index(out, o, m.scope, m)?;
+        say_index(out, o, m.scopes.occurrences, m)?;
     }
     Ok(())
 }
@@ -61,10 +57,10 @@ fn say_value_name(
     }
     if values_shown::has_occurrences(t, i) {
         plain::say(out, b"(")?;
-        say_index(out, k, m.value_scope, m)?;
+        say_index(out, k, m.scopes.values, m)?;
         return plain::say(out, b")");
     }
-    say_index(out, k, m.value_scope, m)
+    say_index(out, k, m.scopes.values, m)
 }
 
 // Where lines say bytes they stand below their element.
@@ -125,10 +121,7 @@ fn say_value_line(
 
 // Where a line is of all that are stored, each of them takes as many bytes.
 fn say_each(out: &impl Print, m: Manner) -> io::Result<()> {
-    if m.scope == UP_TO_LAST {
-        return plain::say(out, b" each");
-    }
-    if m.value_scope == UP_TO_LAST {
+    if m.scopes.occurrences == Scope::UpToLast || m.scopes.values == Scope::UpToLast {
         plain::say(out, b" each")?;
     }
     Ok(())
@@ -139,10 +132,9 @@ fn say_bytes_taken(out: &impl Print, t: &[u8], i: usize, m: Manner) -> io::Resul
     requires { Valid t.now × (i < length (entries_of t.now)) }
 {
     let e = tables::entry_at(t, i);
-    if m.standard {
-        tables_shown::say_format(out, e.format as usize, e.size as usize)?;
-    } else {
-        tables_shown::say_format(out, m.format, m.size)?;
+    let standard = e.format.map(|format| (format, usize::from(e.size)));
+    if let Some((format, size)) = m.in_effect.or(standard) {
+        tables_shown::say_format(out, format, size)?;
     }
     Ok(())
 }
@@ -311,11 +303,8 @@ fn say_record(out: &impl Print, t: &[u8], record: &[u8]) -> io::Result<()>
 {
     let m = Manner {
         valued: true,
-        standard: true,
-        format: 0,
-        size: 0,
-        scope: AS_WRITTEN,
-        value_scope: AS_WRITTEN,
+        in_effect: None,
+        scopes: scopes::both_written(),
         whole: true,
     };
     let n = tables::count(t);

@@ -55,20 +55,12 @@ pub(crate) fn say_counted(out: &impl Print, n: usize, one: &[u8]) -> io::Result<
     Ok(())
 }
 
-pub(crate) fn wide(b: u8) -> usize
-    ensures { result < 256 }
-{
-    b as usize
-}
-
 // The blanks before a line of a level: two for each level after the first.
 pub(crate) fn indent(out: &impl Print, level: u8) -> io::Result<()> {
     let blanks = BLANKS;
-    let n = 2 * wide(level);
-    if 2 <= n {
-        if n <= 16 {
-            return say(out, &blanks[2..n]);
-        }
+    let n = 2 * usize::from(level);
+    if 2 <= n && n <= 16 {
+        return say(out, &blanks[2..n]);
     }
     Ok(())
 }

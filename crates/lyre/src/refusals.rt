@@ -2,48 +2,15 @@
 ghost use Rattle.std.specs.Prelude.{◌≤◌, ◌<◌, length};
 ghost use Rattle.rules.specs.Limits.{longest_format};
 
-use crate::asking::{Reply, Service};
+use crate::asking::Service;
 use crate::{asking, letters, plain};
 use characters::PERIOD;
 use format_buffer::pieces::Piece;
-use format_buffer::syntax::Step;
+use rules::Refusal;
 use std::io;
 
 fn tell(err: &impl Print, text: &[u8]) -> io::Result<()> {
     plain::write(err, text)
-}
-
-fn tell_meaning(err: &impl Print, number: u8) -> io::Result<()> {
-    match number {
-        1 => tell(err, b"the table is not a field definition table\n"),
-        2 => tell(
-            err,
-            b"the record is not a stored record of this table, or is over 4,096 bytes\n",
-        ),
-        3 => tell(err, b"the format is not well formed\n"),
-        4 => tell(
-            err,
-            b"the format names a field or group that the table does not have\n",
-        ),
-        5 => tell(
-            err,
-            b"the format breaks a use rule: the index, length or format does not suit the name, or the group cannot be named\n",
-        ),
-        6 => tell(err, b"the update names a value twice\n"),
-        7 => tell(
-            err,
-            b"an item ends beyond the values that were given, or beyond 32,767 bytes\n",
-        ),
-        8 => tell(
-            err,
-            b"a value that was given is not a value of its format\n",
-        ),
-        9 => tell(
-            err,
-            b"a value is outside the range of the conversion, or does not fit the length\n",
-        ),
-        _ => tell(err, b"the new record is over 4,096 bytes\n"),
-    }
 }
 
 // Where the element at a place stops: its comma or its period; the end of the format where its syntax is bad.
@@ -52,8 +19,8 @@ pub(crate) fn element_end(f: &[u8], at: usize) -> usize
     ensures { (at ≤ result) × (result ≤ length f.now) }
 {
     match format_buffer::syntax::next(f, at) {
-        Step::At(_, stop) => stop,
-        Step::Bad => f.len(),
+        Some((_, stop)) => stop,
+        None => f.len(),
     }
 }
 
@@ -104,7 +71,7 @@ fn tell_bad(err: &impl Print, f: &[u8], at: usize, n: usize) -> io::Result<()>
     let b = format_buffer::texts::bounds_at(f, at);
     let piece = format_buffer::pieces::piece_at(f, b.first, b.last);
     tell(err, b"  ")?;
-    if let Piece::Element(_) = piece {
+    if let Some(Piece::Element(_)) = piece {
         tell(err, b"what follows ")?;
     }
     write_element(err, f, at, b.end, n)
@@ -164,8 +131,7 @@ fn number_upto(
     let mut first = [0u8; rules::LONGEST_FORMAT];
     let mut room = [0u8; rules::LONGEST_ITEMS];
     let end = put_first(f, stop, &mut first);
-    let a = asking::ask(service, t, record, &first[..end], values, &mut room);
-    a.number
+    lyrecanyon::number(asking::ask(service, t, record, &first[..end], values, &mut room))
 }
 
 // The first element with which the call is refused with this number: the refusals that come before it are those of earlier elements.
@@ -217,22 +183,21 @@ pub(crate) fn refuse(
     record: &[u8],
     f: &[u8],
     values: &[u8],
-    a: Reply,
+    x: Refusal,
 ) -> io::Result<()> {
-    let number = a.number;
     tell(err, b"refused with ")?;
-    plain::write_number(err, number as usize)?;
+    err.print(x.number())?;
     tell(err, b": ")?;
-    tell_meaning(err, number)?;
-    match number {
-        3 => tell_syntax(err, f),
-        4..=9 => {
+    err.println(x)?;
+    match x {
+        Refusal::BadSyntax => tell_syntax(err, f),
+        Refusal::BadTable | Refusal::BadRecord | Refusal::NoRoom => Ok(()),
+        _ => {
             if f.len() <= rules::LONGEST_FORMAT {
-                tell_element(err, service, t, record, f, values, number)?;
-                tell_needed(err, a.needed)?;
+                tell_element(err, service, t, record, f, values, x.number())?;
+                tell_needed(err, x.length())?;
             }
             Ok(())
         }
-        _ => Ok(()),
     }
 }

@@ -1,5 +1,5 @@
 // A new record to standard output, or to a file: as a new file that takes the place of the old one once it is whole.
-// Each function says whether the record has come there and words about it may follow.
+// Where the call has ended with that, it is said how; else words about the record may follow.
 ghost use Rattle.std.specs.Prelude.{◌+◌};
 
 use crate::plain::Ended;
@@ -12,13 +12,6 @@ use std::{fs, io};
 // The room for a path, which leaves enough for the new file's.
 const PATH: usize = 4000;
 
-// What became of a new record: words about it may follow, or the call has ended.
-#[derive(Clone, Copy)]
-pub enum Saved {
-    Told,
-    Over(Ended),
-}
-
 fn failed(err: &impl Print, path: &[u8], why: io::Error) -> io::Result<bool> {
     plain::fail(err, path, why)?;
     plain::complain_of(err, path, b" cannot be written, and nothing was changed")?;
@@ -27,10 +20,7 @@ fn failed(err: &impl Print, path: &[u8], why: io::Error) -> io::Result<bool> {
 
 // Devices and the like cannot be replaced by a file.
 fn is_special(path: &[u8]) -> bool {
-    if 5 <= path.len() {
-        return buffer::stands_at(path, 0, b"/dev/");
-    }
-    false
+    path.starts_with(b"/dev/")
 }
 
 // A new file, where nothing has its name.
@@ -129,15 +119,15 @@ fn give_to(
     err: &impl Print,
     path: &[u8],
     record: &[u8],
-) -> io::Result<Saved> {
+) -> io::Result<Option<Ended>> {
     if words::same(path, b"-") {
         plain::say(out, record)?;
-        return Ok(Saved::Over(Ended::Done));
+        return Ok(Some(Ended::Done));
     }
     if save(rt, out, err, path, record)? {
-        return Ok(Saved::Told);
+        return Ok(None);
     }
-    Ok(Saved::Over(Ended::Wrong))
+    Ok(Some(Ended::Wrong))
 }
 
 // Hexadecimal to standard output; or, where word i is `-o`, to what the next word names.
@@ -147,16 +137,14 @@ pub(crate) fn give(
     err: &impl Print,
     record: &[u8],
     i: usize,
-) -> io::Result<Saved> {
+) -> io::Result<Option<Ended>> {
     if words::count(rt) <= i {
         hexadecimal::say_line(out, record)?;
-        return Ok(Saved::Told);
+        return Ok(None);
     }
     let mut name = [0u8; words::PATH];
-    let given = words::word(rt, err, i + 1, &mut name)?;
-    let used = given.used;
-    if given.good {
-        return give_to(rt, out, err, &name[..used], record);
+    match words::word(rt, err, i + 1, &mut name)? {
+        Some(used) => give_to(rt, out, err, &name[..used], record),
+        None => Ok(Some(Ended::Wrong)),
     }
-    Ok(Saved::Over(Ended::Wrong))
 }

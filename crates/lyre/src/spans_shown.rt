@@ -4,9 +4,8 @@ ghost use Rattle.tables.specs.Entries.{Valid, entries_of};
 
 use crate::listing::Manner;
 use crate::{listing, values_shown};
-use format_buffer::{AS_WRITTEN, LAST_ALONE};
+use format_buffer::Scope;
 use std::io;
-use tables::Found;
 use uses::Span;
 use uses::scopes::{resolved_from, resolved_upto};
 
@@ -22,13 +21,11 @@ fn say_values_meant(
 ) -> io::Result<()>
     requires { Valid t.now × (i < length (entries_of t.now)) }
 {
-    if m.valued {
-        if m.value_scope != AS_WRITTEN {
-            let n = values_shown::count(t, record, i, o);
-            let from = resolved_from(m.value_scope, s.value_from, s.value_upto, n);
-            let upto = resolved_upto(m.value_scope, s.value_from, s.value_upto, n);
-            return listing::say_values(out, t, record, i, o, from, upto, m);
-        }
+    if m.valued && m.scopes.values != Scope::AsWritten {
+        let n = values_shown::count(t, record, i, o);
+        let from = resolved_from(m.scopes.values, s.value_from, s.value_upto, n);
+        let upto = resolved_upto(m.scopes.values, s.value_from, s.value_upto, n);
+        return listing::say_values(out, t, record, i, o, from, upto, m);
     }
     listing::say_values(out, t, record, i, o, s.value_from, s.value_upto, m)
 }
@@ -57,10 +54,9 @@ fn occurrences_stored(t: &[u8], record: &[u8], i: usize) -> usize
     requires { Valid t.now × (i < length (entries_of t.now)) }
     ensures { result < 256 }
 {
-    let home = tables::periodic_group(t, i);
-    match home {
-        Found::At(g) => values_shown::count(t, record, g, 1),
-        Found::Nothing => 0,
+    match tables::periodic_group(t, i) {
+        Some(g) => values_shown::count(t, record, g, 1),
+        None => 0,
     }
 }
 
@@ -68,10 +64,13 @@ fn occurrences_stored(t: &[u8], record: &[u8], i: usize) -> usize
 fn upto_meant(t: &[u8], record: &[u8], i: usize, from: usize, upto: usize, m: Manner) -> usize
     requires { Valid t.now × (i < length (entries_of t.now)) }
 {
-    if m.valued {
-        if m.scope != AS_WRITTEN {
-            return resolved_upto(m.scope, from, upto, occurrences_stored(t, record, i));
-        }
+    if m.valued && m.scopes.occurrences != Scope::AsWritten {
+        return resolved_upto(
+            m.scopes.occurrences,
+            from,
+            upto,
+            occurrences_stored(t, record, i),
+        );
     }
     upto
 }
@@ -83,7 +82,7 @@ fn span_meant(t: &[u8], record: &[u8], s: Span, m: Manner) -> Span
 {
     let mut meant = s;
     meant.upto = upto_meant(t, record, s.first, s.from, s.upto, m);
-    if m.scope == LAST_ALONE {
+    if m.scopes.occurrences == Scope::LastAlone {
         meant.from = meant.upto;
     }
     meant

@@ -4,19 +4,20 @@ ghost use Rattle.tables.specs.Entries.{Valid, entries_of};
 
 use crate::{letters, plain};
 use std::io;
+use value_formats::Format;
 
 // The name of a format.
-fn say_letter(out: &impl Print, format: usize) -> io::Result<()> {
+fn say_letter(out: &impl Print, format: Format) -> io::Result<()> {
     match format {
-        value_formats::ALPHA => plain::say(out, b"alphanumeric, "),
-        value_formats::BINARY => plain::say(out, b"binary, "),
-        value_formats::FIXED => plain::say(out, b"fixed point, "),
-        value_formats::PACKED => plain::say(out, b"packed, "),
-        _ => plain::say(out, b"unpacked, "),
+        Format::Alpha => plain::say(out, b"alphanumeric, "),
+        Format::Binary => plain::say(out, b"binary, "),
+        Format::Fixed => plain::say(out, b"fixed point, "),
+        Format::Packed => plain::say(out, b"packed, "),
+        Format::Unpacked => plain::say(out, b"unpacked, "),
     }
 }
 
-pub(crate) fn say_format(out: &impl Print, format: usize, size: usize) -> io::Result<()> {
+pub(crate) fn say_format(out: &impl Print, format: Format, size: usize) -> io::Result<()> {
     say_letter(out, format)?;
     if size == 0 {
         return plain::say(out, b"variable length");
@@ -35,7 +36,9 @@ fn say_what(out: &impl Print, t: &[u8], i: usize) -> io::Result<()>
         return plain::say(out, b"group\n");
     }
     let e = tables::entry_at(t, i);
-    say_format(out, e.format as usize, e.size as usize)?;
+    if let Some(format) = e.format {
+        say_format(out, format, usize::from(e.size))?;
+    }
     if e.multiple {
         plain::say(out, b", multiple-value field")?;
     }

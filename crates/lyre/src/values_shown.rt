@@ -3,8 +3,9 @@ ghost use Rattle.std.specs.Prelude.{◌≤◌, ◌<◌, length};
 ghost use Rattle.tables.specs.Entries.{Valid, entries_of};
 
 use crate::elements::SIZE;
-use crate::{asking, elements, hexadecimal, letters, plain};
+use crate::{elements, hexadecimal, letters, plain};
 use std::io;
+use value_formats::Format;
 
 // Room for the longest value, with its length byte.
 const ROOM: usize = 256;
@@ -16,10 +17,7 @@ const MINUS: u8 = 0xD;
 pub(crate) fn has_occurrences(t: &[u8], i: usize) -> bool
     requires { Valid t.now × (i < length (entries_of t.now)) }
 {
-    if tables::periodic_at(t, i) {
-        return false;
-    }
-    tables::inside(t, i)
+    !tables::periodic_at(t, i) && tables::inside(t, i)
 }
 
 // The format of value k of entry i in occurrence o.
@@ -46,8 +44,8 @@ fn count_of(t: &[u8], record: &[u8], f: [u8; SIZE]) -> usize
     ensures { result < 256 }
 {
     let mut room = [0u8; 1];
-    asking::read(t, record, &f, &mut room);
-    plain::wide(room[0])
+    let _ = lyrecanyon::read(t, record, &f, &mut room);
+    usize::from(room[0])
 }
 
 // The count of entry i, a periodic group or an MU field, which may stand in occurrence o of one.
@@ -68,14 +66,12 @@ fn first_digit(digits: &[u8], last: usize) -> usize
     requires { last < length digits.now }
     ensures { result ≤ last }
 {
-    let mut i = 0;
-    while i < last {
+    for i in 0..last {
         if digits[i] % 16 != 0 {
             return i;
         }
-        i += 1;
     }
-    i
+    last
 }
 
 fn say_digit(out: &impl Print, b: u8) -> io::Result<()> {
@@ -83,8 +79,8 @@ fn say_digit(out: &impl Print, b: u8) -> io::Result<()> {
 }
 
 fn say_digits(out: &impl Print, digits: &[u8]) -> io::Result<()> {
-    for i in 0..digits.len() {
-        say_digit(out, digits[i])?;
+    for &b in digits {
+        say_digit(out, b)?;
     }
     Ok(())
 }
@@ -106,8 +102,7 @@ fn say_unpacked(out: &impl Print, digits: &[u8]) -> io::Result<()> {
 fn say_text(out: &impl Print, t: &[u8], record: &[u8], f: [u8; SIZE]) -> io::Result<()> {
     let f = elements::variable(f);
     let mut room = [0u8; ROOM];
-    let a = asking::read(t, record, &f, &mut room);
-    let used = a.used;
+    let used = lyrecanyon::read(t, record, &f, &mut room).unwrap_or(0);
     if 0 < used {
         letters::say_quoted(out, &room[1..used])?;
     }
@@ -116,8 +111,7 @@ fn say_text(out: &impl Print, t: &[u8], record: &[u8], f: [u8; SIZE]) -> io::Res
 
 fn say_stored(out: &impl Print, t: &[u8], record: &[u8], f: [u8; SIZE]) -> io::Result<()> {
     let mut room = [0u8; ROOM];
-    let a = asking::read(t, record, &f, &mut room);
-    let used = a.used;
+    let used = lyrecanyon::read(t, record, &f, &mut room).unwrap_or(0);
     plain::say(out, b"hexadecimal ")?;
     hexadecimal::say_bytes(out, &room[..used])
 }
@@ -126,14 +120,10 @@ fn say_stored(out: &impl Print, t: &[u8], record: &[u8], f: [u8; SIZE]) -> io::R
 fn say_number(out: &impl Print, t: &[u8], record: &[u8], f: [u8; SIZE]) -> io::Result<()> {
     let digits = elements::unpacked(f);
     let mut room = [0u8; ROOM];
-    let a = asking::read(t, record, &digits, &mut room);
-    let used = a.used;
-    if a.number == 0 {
-        say_unpacked(out, &room[..used])?;
-    } else {
-        say_stored(out, t, record, f)?;
+    match lyrecanyon::read(t, record, &digits, &mut room) {
+        Ok(used) => say_unpacked(out, &room[..used]),
+        Err(_) => say_stored(out, t, record, f),
     }
-    Ok(())
 }
 
 // Value k of entry i in occurrence o.
@@ -149,7 +139,7 @@ pub(crate) fn say_value(
 {
     let e = tables::entry_at(t, i);
     let f = occurrence(t, i, o, k);
-    if e.format as usize == value_formats::ALPHA {
+    if e.format == Some(Format::Alpha) {
         say_text(out, t, record, f)?;
     } else {
         say_number(out, t, record, f)?;

@@ -1,6 +1,6 @@
 // The words of the command line, and the files that they name, each into an area, which keeps its length. Where a read or a message fails
 // the area may hold any bytes.
-ghost use Rattle.std.specs.Prelude.{◌≡◌, ◌≤◌, length, IfOk};
+ghost use Rattle.std.specs.Prelude.{◌≡◌, ◌≤◌, length, IfOk, IfSome};
 
 use crate::{hexadecimal, letters, plain};
 use std::env::FillError;
@@ -14,19 +14,12 @@ const HEAD: u8 = 0xE5;
 // The longest name of a file that is taken.
 pub const PATH: usize = 4096;
 
-// What a word gave: the bytes at the front of an area. Where it gave nothing good, a message has said so.
-#[derive(Clone, Copy)]
-pub struct Input {
-    pub good: bool,
-    pub used: usize,
-}
+// How many bytes a word or a file gave to the front of an area; none where a message has said what is wrong.
+pub(crate) type Taken = io::Result<Option<usize>>;
 
 // Whether a word is this one.
 pub(crate) fn same(word: &[u8], text: &[u8]) -> bool {
-    if word.len() == text.len() {
-        return buffer::stands_at(word, 0, text);
-    }
-    false
+    word.len() == text.len() && buffer::stands_at(word, 0, text)
 }
 
 // How many words the command line has, the program's own name among them.
@@ -43,10 +36,7 @@ pub(crate) fn count(env: &impl Env) -> usize {
 pub(crate) fn short(env: &impl Env, i: usize, area: &mut [u8]) -> usize
     ensures { result ≤ length area.new }
 {
-    match env.arg(i, area) {
-        Ok(used) => used,
-        Err(_) => 0,
-    }
+    env.arg(i, area).unwrap_or(0)
 }
 
 // Whether word i is this one.
@@ -56,26 +46,19 @@ pub(crate) fn is(env: &impl Env, i: usize, text: &[u8]) -> bool {
     same(&area[..used], text)
 }
 
-// No bytes: none were asked for, or a message has said what is wrong.
-pub(crate) fn nothing(area: &[u8], good: bool) -> Input
-    ensures { result.used ≤ length area.now }
-{
-    Input { good, used: 0 }
-}
-
 // Word i, as it is.
-pub(crate) fn word(env: &impl Env, err: &impl Print, i: usize, area: &mut [u8]) -> io::Result<Input>
-    ensures given { IfOk result (λ given. given.used ≤ length area.new) }
+pub(crate) fn word(env: &impl Env, err: &impl Print, i: usize, area: &mut [u8]) -> Taken
+    ensures given { IfOk result (λ given. IfSome given (λ used. used ≤ length area.new)) }
     ensures kept { length area.new ≡ length area.old }
 {
     if let Ok(used) = env.arg(i, area) {
-        return Ok(Input { good: true, used });
+        return Ok(Some(used));
     }
     plain::complain(
         err,
         b"a word is too long: a format has up to 8,192 characters, the values up to 131,072",
     )?;
-    Ok(nothing(area, false))
+    Ok(None)
 }
 
 // Each character of a format in EBCDIC, in its place.
@@ -84,57 +67,42 @@ fn translate(area: &mut [u8], used: usize) -> bool
     ensures { used ≤ length area.new }
 {
     for i in 0..used {
-        let code = letters::ebcdic_of(area[i]);
-        if code == 0 {
+        let Some(code) = letters::ebcdic_of(area[i]) else {
             return false;
-        }
+        };
         area[i] = code;
     }
     true
 }
 
 // Word i, a format.
-pub(crate) fn format(
-    env: &impl Env,
-    err: &impl Print,
-    i: usize,
-    area: &mut [u8],
-) -> io::Result<Input>
-    ensures given { IfOk result (λ given. given.used ≤ length area.new) }
+pub(crate) fn format(env: &impl Env, err: &impl Print, i: usize, area: &mut [u8]) -> Taken
+    ensures given { IfOk result (λ given. IfSome given (λ used. used ≤ length area.new)) }
     ensures kept { length area.new ≡ length area.old }
 {
-    let given = word(env, err, i, area)?;
-    let used = given.used;
-    if !given.good {
-        return Ok(nothing(area, false));
-    }
+    let Some(used) = word(env, err, i, area)? else {
+        return Ok(None);
+    };
     if translate(area, used) {
-        return Ok(Input { good: true, used });
+        return Ok(Some(used));
     }
     plain::complain(
         err,
         b"the format has a character that EBCDIC 037 does not print: use printable ASCII",
     )?;
-    Ok(nothing(area, false))
+    Ok(None)
 }
 
 // Word i, bytes in hexadecimal.
-pub(crate) fn bytes(
-    env: &impl Env,
-    err: &impl Print,
-    i: usize,
-    area: &mut [u8],
-) -> io::Result<Input>
-    ensures given { IfOk result (λ given. given.used ≤ length area.new) }
+pub(crate) fn bytes(env: &impl Env, err: &impl Print, i: usize, area: &mut [u8]) -> Taken
+    ensures given { IfOk result (λ given. IfSome given (λ used. used ≤ length area.new)) }
     ensures kept { length area.new ≡ length area.old }
 {
-    let given = word(env, err, i, area)?;
-    let used = given.used;
-    if !given.good {
-        return Ok(nothing(area, false));
-    }
+    let Some(used) = word(env, err, i, area)? else {
+        return Ok(None);
+    };
     let bytes = hexadecimal::decode(area, used);
-    if !bytes.good {
+    if bytes.is_none() {
         plain::complain(
             err,
             b"the values are not hexadecimal: use pairs of digits, as in 'F5F0 00150F'",
@@ -173,30 +141,25 @@ fn read_full(source: &mut impl Read, area: &mut [u8]) -> io::Result<usize>
 }
 
 // What was read of a file. One that fills the area may be longer.
-fn loaded(err: &impl Print, path: &[u8], area: &[u8], read: io::Result<usize>) -> io::Result<Input>
+fn loaded(err: &impl Print, path: &[u8], area: &[u8], read: io::Result<usize>) -> Taken
     requires { IfOk read (λ used. used ≤ length area.now) }
-    ensures { IfOk result (λ given. given.used ≤ length area.now) }
+    ensures { IfOk result (λ given. IfSome given (λ used. used ≤ length area.now)) }
 {
     let used = read.unwrap_or(0);
     if used == 0 {
         plain::complain_of(err, path, b" is empty or cannot be read")?;
-        return Ok(nothing(area, false));
+        return Ok(None);
     }
     if used == area.len() {
         plain::complain_of(err, path, b" is too long: a file has up to 65,535 bytes")?;
-        return Ok(nothing(area, false));
+        return Ok(None);
     }
-    Ok(Input { good: true, used })
+    Ok(Some(used))
 }
 
 // What a file holds by its name, or standard input by `-`, as it is.
-fn load(
-    rt: &(impl Files + io::Input),
-    err: &impl Print,
-    path: &[u8],
-    area: &mut [u8],
-) -> io::Result<Input>
-    ensures given { IfOk result (λ given. given.used ≤ length area.new) }
+fn load(rt: &(impl Files + io::Input), err: &impl Print, path: &[u8], area: &mut [u8]) -> Taken
+    ensures given { IfOk result (λ given. IfSome given (λ used. used ≤ length area.new)) }
     ensures kept { length area.new ≡ length area.old }
 {
     if same(path, b"-") {
@@ -215,16 +178,13 @@ fn load(
                 path,
                 b" cannot be opened: name a file, or - for standard input",
             )?;
-            Ok(nothing(area, false))
+            Ok(None)
         }
     }
 }
 
 fn is_binary(bytes: &[u8]) -> bool {
-    if bytes.len() == 0 {
-        return false;
-    }
-    bytes[0] == HEAD
+    bytes.first() == Some(&HEAD)
 }
 
 // Word i, a file with a table or a record, in binary or in hexadecimal.
@@ -233,27 +193,23 @@ pub(crate) fn file(
     err: &impl Print,
     i: usize,
     area: &mut [u8],
-) -> io::Result<Input>
-    ensures given { IfOk result (λ given. given.used ≤ length area.new) }
+) -> Taken
+    ensures given { IfOk result (λ given. IfSome given (λ used. used ≤ length area.new)) }
     ensures kept { length area.new ≡ length area.old }
 {
     let mut name = [0u8; PATH];
-    let given = word(rt, err, i, &mut name)?;
-    let end = given.used;
-    if !given.good {
-        return Ok(nothing(area, false));
-    }
+    let Some(end) = word(rt, err, i, &mut name)? else {
+        return Ok(None);
+    };
     let path = &name[..end];
-    let given = load(rt, err, path, area)?;
-    let used = given.used;
-    if !given.good {
-        return Ok(given);
-    }
+    let Some(used) = load(rt, err, path, area)? else {
+        return Ok(None);
+    };
     if is_binary(area) {
-        return Ok(given);
+        return Ok(Some(used));
     }
     let bytes = hexadecimal::decode(area, used);
-    if !bytes.good {
+    if bytes.is_none() {
         plain::complain_of(
             err,
             path,

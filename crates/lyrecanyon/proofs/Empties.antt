@@ -36,18 +36,10 @@ valid_empty t room v = by_outcome (table t)
     (λ es e. rw (e, empty_body_from false es) refl)
     (λ n e. absurd (not_both (sym (ap is_done e) ∙ v)))
 
-pub empty_over : (t : Bytes) (room : ℕ) → Valid t → longest_new_record < length (empty_bytes t) → empty t room ≡ refused (by 10)
+pub empty_cramped : (t : Bytes) (room : ℕ) → Valid t → min room longest_new_record < length (empty_bytes t) → empty t room ≡ refused (by 10)
 unfolding fitting
-empty_over t room v h = valid_empty t room v ∙ rw (lt-leb (length (empty_bytes t)) (min room longest_new_record) (omega arith)) refl
-
-pub empty_cramped : (t : Bytes) (room : ℕ) → Valid t → room < length (empty_bytes t) → empty t room ≡ refused (by 10)
-unfolding fitting
-empty_cramped t room v h = valid_empty t room v ∙ rw (lt-leb (length (empty_bytes t)) (min room longest_new_record) (omega arith)) refl
+empty_cramped t room v h = valid_empty t room v ∙ rw (lt-leb (length (empty_bytes t)) (min room longest_new_record) h) refl
 
 pub empty_done : (t : Bytes) (room : ℕ) → Valid t → length (empty_bytes t) ≤ longest_new_record → length (empty_bytes t) ≤ room → empty t room ≡ done (empty_bytes t)
 unfolding fitting
 empty_done t room v h k = valid_empty t room v ∙ rw (le-leb (length (empty_bytes t)) (min room longest_new_record) (omega arith)) refl
-
--- The same of the length by its entries.
-pub over_settled : (t : Bytes) (room : ℕ) → Valid t → longest_new_record < 5 + length (empty_from false (entries_of t)) → empty t room ≡ refused (by 10)
-over_settled t room v h = empty_over t room v (omega (arith, empty_size t))

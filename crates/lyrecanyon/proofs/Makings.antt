@@ -1,5 +1,8 @@
 -- A new record is made as the rules say: what is put into the array is the record by entries, a full stage is refusal 10, and what the format
 -- names comes before what the record buffer gives.
+use Rattle.std.specs.Prelude.{Err, Ok, Result}
+use Rattle.std.specs.Result.{IsErrAnd, MatchResult}
+use Rattle.std.proofs.lemmas.Result.{err_from_is_err_and}
 use mathlib.Core.Path.{◌≡◌, refl, sym, ◌∙◌, ap, subst}
 use mathlib.Core.Bool.{true, false, not}
 use mathlib.Core.List.{List, [], ◌++◌}
@@ -32,8 +35,6 @@ use Rattle.uses.specs.Meant.{uses_of}
 use Rattle.uses.specs.Kept.{uses_kept, GoodUses, numbers_kept}
 use Rattle.assignments.specs.Notes.{Indexed}
 use Rattle.filling.specs.Filling.{in_room, Filling}
-use Rattle.filling.specs.declared.Next.{Next}
-use Rattle.filling.specs.declared.Next.TheVariants as next
 use Rattle.filling.proofs.Continues.{put_on, put_off}
 use Rattle.records.specs.Places.{IsRecord}
 use Rattle.assignments.specs.Notes.{bytes_given}
@@ -43,8 +44,6 @@ use Rattle.updating.proofs.Counted.{update_laid}
 use Rattle.updating.proofs.Fitting.{fits, too_long}
 use Rattle.updating.proofs.Staged.{staged_beyond}
 use Rattle.lyrecanyon.specs.Making.{Makes, new_record, Apart, given}
-use Rattle.lyrecanyon.specs.declared.Answer.{Answer}
-use Rattle.lyrecanyon.specs.declared.Answer.TheVariants.{Done, Refused}
 
 pub tabled : (t : Bytes) → Valid t → table t ≡ done (entries_of t)
 unfolding entries_of
@@ -60,7 +59,7 @@ unfolding in_room
 room_off room k bs p = by_test (leb (length bs) room) (λ t. absurd (not_done (sym (rw t at p)))) (λ t. leb-false (length bs) room t)
 
 -- The record that was put, or did not find room.
-module _ (t : Bytes) (valid : Valid t) {b : Bytes} {places kept list : List ℕ} {stage entry exit : Bytes} {n : Next} (long : length entry ≡ longest_new_record)
+module _ (t : Bytes) (valid : Valid t) {b : Bytes} {places kept list : List ℕ} {stage entry exit : Bytes} {n : (Result ℕ Refusal)} (long : length entry ≡ longest_new_record)
     (f : Puts (entries_of t) b places kept list stage (λ w r. record_head ++ laid_from w (group_count_at (parts (entries_of t)) r) false (entries_of t)) 0 longest_new_record entry exit n)
     (r : Record) (ws : List Assignment) (held : IsRecord (entries_of t) b places r) (a : Assigns (entries_of t) kept list stage ws) where
   abbrev new : Bytes
@@ -69,7 +68,7 @@ module _ (t : Bytes) (valid : Valid t) {b : Bytes} {places kept list : List ℕ}
   put : Filling (in_room (longest_new_record - 0) (done new)) 0 true entry exit n
   put = subst (λ (z : Bytes). Filling (in_room (longest_new_record - 0) (done z)) 0 true entry exit n) (sym (update_laid t (entries_of t) r ws (tabled t valid))) (f r ws held a)
 
-  pub record_made : (k : ℕ) → n ≡ next.At k → Makes (new_record (entries_of t) r ws) exit (Done k)
+  record_made : (k : ℕ) → n ≡ Ok k → Makes (new_record (entries_of t) r ws) exit (Ok k)
   unfolding bytes_of
   record_made k q = put_on put k q λ c h e w.
       let (same, l) = room_done (longest_new_record - 0) new c h in
@@ -79,8 +78,16 @@ module _ (t : Bytes) (valid : Valid t) {b : Bytes} {places kept list : List ℕ}
       let d : fitting longest_new_record new ≡ done new = fits longest_new_record new (omega arith) (omega arith) in
       (omega (arith, put.same, m, z), d ∙ ap done (same ∙ sym (ap (take k) v ∙ take_splice c entry k z)))
 
-  pub record_over : (x : Refusal) → n ≡ next.Refused x → Makes (new_record (entries_of t) r ws) exit (Refused NoRoom)
+  record_over : (x : Refusal) → n ≡ Err x → Makes (new_record (entries_of t) r ws) exit (Err NoRoom)
   record_over x q = let l = room_off (longest_new_record - 0) (refusal x) new (put_off put x q) in too_long longest_new_record new (omega arith)
+
+  -- The answer, in which any refusal is one for want of room.
+  pub record_answered : (P : Refusal → Refusal → Type 0) → ((x y : Refusal) → P x y → y ≡ NoRoom) → (m : Result ℕ Refusal) → MatchResult n (λ k. m ≡ Ok k) (λ x. IsErrAnd m (P x)) → Makes (new_record (entries_of t) r ws) exit m
+  record_answered P only m = answered n refl
+    where
+      answered : (o : Result ℕ Refusal) → n ≡ o → MatchResult o (λ k. m ≡ Ok k) (λ x. IsErrAnd m (P x)) → Makes (new_record (entries_of t) r ws) exit m
+      answered (Ok k) q h = rw h (record_made k q)
+      answered (Err x) q h = let p = err_from_is_err_and m h in rw (p.1, only x p.0 p.2) (record_over x q)
 
 -- What uses that are kept stand for.
 meant_by : (es : List Entry) (f : Bytes) (us : List Use) → uses_of es f ≡ done us → (xs : List Element) × (uses es [] xs ≡ done us)
@@ -140,7 +147,7 @@ module _ (es : List Entry) (f buffer : Bytes) where
   format_long l = uses_refused (by 3) (long_off l)
 
 -- What is made by an outcome is made by one that is the same.
-pub makes_by : (es : List Entry) (r : Record) {o p : Outcome (List Assignment)} (made : Bytes) (n : Answer) → o ≡ p → Makes (p >>= new_record es r) made n → Makes (o >>= new_record es r) made n
+pub makes_by : (es : List Entry) (r : Record) {o p : Outcome (List Assignment)} (made : Bytes) (n : Result ℕ Refusal) → o ≡ p → Makes (p >>= new_record es r) made n → Makes (o >>= new_record es r) made n
 makes_by es r made n e m = subst (λ (z : Outcome (List Assignment)). Makes (z >>= new_record es r) made n) (sym e) m
 
 -- What is known of uses in which no occurrence is named twice.

@@ -1,4 +1,5 @@
 -- Read is refused by its table and its record in this order, and else it is the items of its format in the buffer, within 32,767 bytes. What is made in less room is made in more, and is refused so too, unless for want of room.
+use Rattle.std.specs.Prelude.{Err, Ok, Result}
 use mathlib.Core.Path.{◌≡◌, refl, sym, ◌∙◌, ap}
 use mathlib.Core.Bool.{Bool, true, false}
 use mathlib.Core.List.{List}
@@ -24,13 +25,10 @@ use Rattle.tables.specs.Entries.{Valid, entries_of}
 use Rattle.records.specs.Places.{HasRecord}
 use Rattle.uses.specs.Meanings.{meanings_of}
 use Rattle.filling.specs.Filling.{ended, placed, Filling}
-use Rattle.filling.specs.declared.Next.{Next}
-use Rattle.filling.specs.declared.Next.TheVariants as next
 use Rattle.reading.specs.Scan.{Scans}
 use Rattle.reading.proofs.Items.{filled_length}
 use Rattle.reading.proofs.Rooms.{more_room, more_room_refused}
 use Rattle.lyrecanyon.specs.Answers.{Settled}
-use Rattle.lyrecanyon.specs.declared.Answer.TheVariants.{Done, Refused}
 use Rattle.lyrecanyon.proofs.Settling.{settled_refused, settled_done}
 
 pub read_no_table : (t b f : Bytes) (room : ℕ) → is_done (table t) ≡ false → read t b f room ≡ refused (by 1)
@@ -70,11 +68,11 @@ module _ (es : List Entry) (f : Bytes) (r : Record) where
       (λ k u. rw u (rw u at e))
 
 -- An outcome by where it ends.
-placed_refused : (o : Outcome Bytes) (x : Refusal) → ended (next.Refused x) ≡ placed 0 o → o ≡ refused (refusal x)
+placed_refused : (o : Outcome Bytes) (x : Refusal) → ended (Err x) ≡ placed 0 o → o ≡ refused (refusal x)
 placed_refused (done bs) x e = absurd (not_done e)
 placed_refused (refused k) x e = ap refused (sym (refused_inj e))
 
-placed_at : (o : Outcome Bytes) (n : ℕ) → ended (next.At n) ≡ placed 0 o → (bs : Bytes) × (o ≡ done bs) × (n ≡ length bs)
+placed_at : (o : Outcome Bytes) (n : ℕ) → ended (Ok n) ≡ placed 0 o → (bs : Bytes) × (o ≡ done bs) × (n ≡ length bs)
 placed_at (done bs) n e = (bs, refl, omega (arith, done_inj e))
 placed_at (refused k) n e = absurd (not_done (sym e))
 
@@ -93,56 +91,57 @@ module _ {t b : Bytes} {places : List ℕ} {f out : Bytes} {end : ℕ} (s : Read
   read_given = read_stored t b f (length out) s.valid ∙ rw (s.holds.1.stands, s.room) refl
 
   -- A pass in room of a length.
-  module _ (room : ℕ) {write : Bool} {area area' : Bytes} {m : Next} (g : Scans (entries_of t) b places f room write area area' m) where
+  module _ (room : ℕ) {write : Bool} {area area' : Bytes} {m : (Result ℕ Refusal)} (g : Scans (entries_of t) b places f room write area area' m) where
     filling : Filling (given room) 0 write area area' m
     filling = g s.holds.0 s.holds.1
 
     -- One that is refused.
-    module _ {x : Refusal} (e : m ≡ next.Refused x) where
+    module _ {x : Refusal} (e : m ≡ Err x) where
       refused_with : given room ≡ refused (refusal x)
       refused_with = placed_refused _ x (sym (ap ended e) ∙ filling.answer)
 
-      pub all_refused : room ≡ end → Settled (read t b f (length out)) out out (Refused x)
+      pub all_refused : room ≡ end → Settled (read t b f (length out)) out out (Err x)
       all_refused l = settled_refused _ out x (read_given ∙ ap given (sym l) ∙ refused_with)
 
-      pub less_refused : room ≤ end → (refusal_number x ≡ 7 → ⊥) → Settled (read t b f (length out)) out out (Refused x)
+      pub less_refused : room ≤ end → (refusal_number x ≡ 7 → ⊥) → Settled (read t b f (length out)) out out (Err x)
       less_refused l z = settled_refused _ out x (read_given ∙ made_refused (entries_of t) f s.holds.0 room end (refusal x) l z refused_with)
 
     -- One that makes all items.
-    module _ {n : ℕ} (e : m ≡ next.At n) where
+    module _ {n : ℕ} (e : m ≡ Ok n) where
       bytes_made : (bs : Bytes) × (given room ≡ done bs) × (n ≡ length bs)
       bytes_made = placed_at (given room) n (sym (ap ended e) ∙ filling.answer)
 
       pub made_within : n ≤ room
       made_within = let o = bytes_made in omega (arith, o.2, made_length (entries_of t) f s.holds.0 room o.0 o.1)
 
-      made_read : room ≤ end → {out' : Bytes} → out' ≡ splice 0 bytes_made.0 out → Settled (read t b f (length out)) out out' (Done n)
+      made_read : room ≤ end → {out' : Bytes} → out' ≡ splice 0 bytes_made.0 out → Settled (read t b f (length out)) out out' (Ok n)
       made_read l w =
           let o = bytes_made in
           settled_done _ o.0 out _ n (read_given ∙ made_more (entries_of t) f s.holds.0 room end o.0 l o.1) o.2 w
 
   -- A test writes nothing, and else what is done is written.
-  unwritten : (room : ℕ) {area area' : Bytes} {m : Next} → Scans (entries_of t) b places f room false area area' m → area' ≡ area
+  unwritten : (room : ℕ) {area area' : Bytes} {m : (Result ℕ Refusal)} → Scans (entries_of t) b places f room false area area' m → area' ≡ area
   unwritten room g = (filling room g).bytes (λ w. absurd (not_both w))
 
-  pub tested_refused : {out' : Bytes} {m : Next} → Scans (entries_of t) b places f end false out out' m → {x : Refusal} → m ≡ next.Refused x
-      → Settled (read t b f (length out)) out out' (Refused x)
+  pub tested_refused : {out' : Bytes} {m : (Result ℕ Refusal)} → Scans (entries_of t) b places f end false out out' m → {x : Refusal} → m ≡ Err x
+      → Settled (read t b f (length out)) out out' (Err x)
   tested_refused g e = rw (unwritten end g) (all_refused end g e refl)
 
-  written : (room : ℕ) {area area' : Bytes} {m : Next} → Scans (entries_of t) b places f room true area area' m → (bs : Bytes) → given room ≡ done bs → area' ≡ splice 0 bs area
+  written : (room : ℕ) {area area' : Bytes} {m : (Result ℕ Refusal)} → Scans (entries_of t) b places f room true area area' m → (bs : Bytes) → given room ≡ done bs → area' ≡ splice 0 bs area
   unfolding bytes_of
   written room {area} g bs e = (filling room g).bytes (λ w. ap is_done e) ∙ ap (λ o. splice 0 (bytes_of o) area) e
 
   -- What was written to the front of an area, put to the front of the buffer.
-  pub short_read : (room : ℕ) {area area' : Bytes} {m : Next} → Scans (entries_of t) b places f room true area area' m → {n : ℕ} → m ≡ next.At n → room ≤ end
-      → {out' : Bytes} → out' ≡ splice 0 (take n area') out → Settled (read t b f (length out)) out out' (Done n)
+  pub short_read : (room : ℕ) {area area' : Bytes} {m : (Result ℕ Refusal)} → Scans (entries_of t) b places f room true area area' m → {n : ℕ} → m ≡ Ok n → room ≤ end
+      → {out' : Bytes} → out' ≡ splice 0 (take n area') out → Settled (read t b f (length out)) out out' (Ok n)
   short_read room {area} g {n} e l w =
       let o = bytes_made room g e in
       made_read room g e l (w ∙ ap (λ bs. splice 0 bs out) (ap (take n) (written room g o.0 o.1) ∙ take_splice o.0 area n o.2))
 
-  -- A test that is passed, and then the writing.
-  pub long_read : {out' out'' : Bytes} {m m' : Next} → Scans (entries_of t) b places f end false out out' m → {n : ℕ} → m ≡ next.At n
-      → Scans (entries_of t) b places f end true out' out'' m' → Settled (read t b f (length out)) out out'' (Done n)
-  long_read g e k =
-      let o = bytes_made end g e in
-      made_read end g e (omega arith) (written end k o.0 o.1 ∙ ap (splice 0 o.0) (unwritten end g))
+  -- A test that is passed, and then the writing, which answers the same.
+  pub long_read : {out' out'' : Bytes} {m : (Result ℕ Refusal)} → Scans (entries_of t) b places f end false out out' m → {n : ℕ} → m ≡ Ok n
+      → (m' : Result ℕ Refusal) → Scans (entries_of t) b places f end true out' out'' m' → Settled (read t b f (length out)) out out'' m'
+  long_read g e (Ok k) s =
+      let o = bytes_made end s refl in
+      made_read end s refl (omega arith) (written end s o.0 o.1 ∙ ap (splice 0 o.0) (unwritten end g))
+  long_read g e (Err x) s = let o = bytes_made end g e in absurd (not_done (sym (refused_with end s refl) ∙ o.1))

@@ -1,12 +1,12 @@
 -- Update is refused by its table and its record in this order, and else it is the new record by what is assigned: first within its own limit,
 -- and then within the room that is lent.
-use mathlib.Core.Path.{◌≡◌, refl, sym, ◌∙◌}
+use Rattle.std.specs.Prelude.{Err, Result}
+use mathlib.Core.Path.{◌≡◌, refl, ◌∙◌}
 use mathlib.Core.Bool.{false}
-use Prim.Native.Nat.{ℕ, ◌≤◌, ◌<◌}
-use native.Mathlib.Omega.{arith}
+use Prim.Native.Nat.{ℕ}
 use borrow.Author.Tests.{leb-false, le-leb, lt-leb}
 use lib.Dec.{leb, leb→le}
-use lib.ListN.{length, take}
+use lib.ListN.{length}
 use lib.Seq.{length-take-le}
 use Rattle.rules.specs.Outcome.{Outcome, done, refused, by, ◌>>=◌, is_done}
 use Rattle.rules.specs.Limits.{longest_new_record}
@@ -18,15 +18,11 @@ use Rattle.rules.specs.Services.{assignments_of, fitting, update}
 use Rattle.rules.proofs.Refusals.{no_table, no_record}
 use Rattle.rules.proofs.Steps.{by_outcome, by_test, true_T}
 use Rattle.tables.specs.Entries.{Valid, entries_of}
-use Rattle.buffer.specs.Splice.{splice}
 use Rattle.updating.proofs.Fitting.{fits, too_long, fitting_twice}
 use Rattle.lyrecanyon.specs.Answers.{Settled}
 use Rattle.lyrecanyon.specs.Making.{Makes, new_record, in_lent}
-use Rattle.lyrecanyon.specs.declared.Answer.{Answer}
-use Rattle.lyrecanyon.specs.declared.Answer.TheVariants.{Done, Refused}
 use Rattle.rules.specs.declared.Refusal.{Refusal}
-use Rattle.rules.specs.declared.Refusal.TheVariants.{NoRoom}
-use Rattle.lyrecanyon.proofs.Settling.{settled_refused, settled_done}
+use Rattle.lyrecanyon.proofs.Settling.{settled_refused}
 use Rattle.lyrecanyon.proofs.Makings.{tabled}
 
 pub update_no_table : (t b f buffer : Bytes) (room : ℕ) → is_done (table t) ≡ false → update t b f buffer room ≡ refused (by 1)
@@ -61,22 +57,12 @@ update_lent t b f buffer room = by_outcome (table t)
 
 -- What was made, in the room that is lent.
 module _ {o : Outcome Bytes} (made : Bytes) where
-  pub lent_refused : (room : Bytes) (x : Refusal) → Makes o made (Refused x) → Settled (in_lent (length room) o) room room (Refused x)
+  pub lent_refused : (room : Bytes) (x : Refusal) → Makes o made (Err x) → Settled (in_lent (length room) o) room room (Err x)
   lent_refused room x m = settled_refused _ room x (rw m)
-
-  module _ (n : ℕ) (m : Makes o made (Done n)) where
-    made_long : length (take n made) ≡ n
-    made_long = length-take-le n made m.0
-
-    pub lent_over : (room : Bytes) → length room < n → Settled (in_lent (length room) o) room room (Refused NoRoom)
-    lent_over room l = settled_refused _ room NoRoom (rw (m.1, lt-leb (length (take n made)) (length room) (omega (arith, made_long))))
-
-    pub lent_done : (room exit : Bytes) → n ≤ length room → exit ≡ splice 0 (take n made) room → Settled (in_lent (length room) o) room exit (Done n)
-    lent_done room exit l w = settled_done _ (take n made) room exit n (rw (m.1, le-leb (length (take n made)) (length room) (omega (arith, made_long)))) (sym made_long) w
 
 -- What tells whether it finds room.
 pub ruleset lending = (length-take-le, lt-leb, le-leb)
 
 -- The same bytes, otherwise said.
-pub settled_as : {o p : Outcome Bytes} (entry exit : Bytes) (a : Answer) → o ≡ p → Settled p entry exit a → Settled o entry exit a
+pub settled_as : {o p : Outcome Bytes} (entry exit : Bytes) (a : Result ℕ Refusal) → o ≡ p → Settled p entry exit a → Settled o entry exit a
 settled_as {p = p} entry exit a e s = rw e s

@@ -1,24 +1,23 @@
 -- What an answer says, by document 01, "Numbers returned", and what a service leaves in the slice that was lent to it.
-use Rattle.std.specs.Prelude.{◌≡◌, ◌++◌, ℕ, length, drop}
+use Rattle.std.specs.Prelude.{◌≡◌, ◌++◌, ℕ, length, drop, Err, Ok, Result}
+use Rattle.rules.specs.declared.Refusal.{Refusal}
 use Rattle.rules.specs.Outcome.{Outcome, done, refused}
 use Rattle.rules.specs.Lists.{Bytes, bytes_of}
 use Rattle.rules.specs.Numbers.{refusal_number, refusal_length}
-use Rattle.lyrecanyon.specs.declared.Answer.{Answer}
-use Rattle.lyrecanyon.specs.declared.Answer.TheVariants.{Done, Refused}
 
 -- "0: done; the length used is returned"; "A refusal returns length 0".
-abbrev pub answer_number : Answer → ℕ
-answer_number (Done n) = 0
-answer_number (Refused x) = refusal_number x
+abbrev pub answer_number : Result ℕ Refusal → ℕ
+answer_number (Ok n) = 0
+answer_number (Err x) = refusal_number x
 
-abbrev pub answer_length : Answer → ℕ
-answer_length (Done n) = n
-answer_length (Refused x) = 0
+abbrev pub answer_length : Result ℕ Refusal → ℕ
+answer_length (Ok n) = n
+answer_length (Err x) = 0
 
 -- "With 9, a read shall also return the smallest length .. All other answers carry 0 there."
-abbrev pub answer_needed : Answer → ℕ
-answer_needed (Done n) = 0
-answer_needed (Refused x) = refusal_length x
+abbrev pub answer_needed : Result ℕ Refusal → ℕ
+answer_needed (Ok n) = 0
+answer_needed (Err x) = refusal_length x
 
 -- The number of an outcome of the rules, and its length of that kind.
 abbrev pub outcome_number : {A : Type 0} → Outcome A → ℕ
@@ -38,7 +37,7 @@ pub record Returns (o : Outcome Bytes) (entry exit : Bytes) (number size needed 
   pub needed_is : needed ≡ outcome_needed o
 
 -- The same of an answer.
-abbrev pub Settled : Outcome Bytes → Bytes → Bytes → Answer → Type 0
+abbrev pub Settled : Outcome Bytes → Bytes → Bytes → Result ℕ Refusal → Type 0
 Settled o entry exit r = Returns o entry exit (answer_number r) (answer_length r) (answer_needed r)
 
 -- The same as C has it: the length used is written, and the number returned; and with the length that is needed.

@@ -1,5 +1,6 @@
 -- A new record that is made in an array of its own.
-use Rattle.std.specs.Prelude.{◌≡◌, false, List, ℕ, ◌*◌, ◌≤◌, ◌<◌, leb, length, take, get_or}
+use Rattle.std.specs.Prelude.{◌≡◌, false, List, ℕ, ◌*◌, ◌≤◌, ◌<◌, leb, length, take, get_or, Err, Ok, Result}
+use Rattle.rules.specs.declared.Refusal.{Refusal}
 use Rattle.rules.specs.Outcome.{Outcome, done, refused, ◌>>=◌, need}
 use Rattle.rules.specs.Limits.{longest_new_record}
 use Rattle.rules.specs.Lists.{Bytes}
@@ -13,20 +14,18 @@ use Rattle.uses.specs.Meant.{uses_of}
 use Rattle.uses.specs.Kept.{numbers_kept, uses_kept, GoodUses}
 use Rattle.records.specs.Places.{IsRecord}
 use Rattle.assignments.specs.Notes.{note_bound, note_place}
-use Rattle.lyrecanyon.specs.declared.Answer.{Answer}
-use Rattle.lyrecanyon.specs.declared.Answer.TheVariants.{Done, Refused}
 
 -- An outcome stands at the front of an array, or it is refused.
-abbrev pub Makes : Outcome Bytes → Bytes → Answer → Type 0
-Makes o made (Done n) = (n ≤ length made) × (o ≡ done (take n made))
-Makes o made (Refused x) = o ≡ refused (refusal x)
+abbrev pub Makes : Outcome Bytes → Bytes → Result ℕ Refusal → Type 0
+Makes o made (Ok n) = (n ≤ length made) × (o ≡ done (take n made))
+Makes o made (Err x) = o ≡ refused (refusal x)
 
 -- The new record by what is assigned, as far as its own limit.
 abbrev pub new_record : List Entry → Record → List Assignment → Outcome Bytes
 new_record es r ws = fitting longest_new_record (record_bytes (parts es) (after_update (parts es) r ws))
 
 -- The same of whatever record the bytes hold.
-abbrev pub MakesNew : List Entry → Bytes → List ℕ → Outcome (List Assignment) → Bytes → Answer → Type 0
+abbrev pub MakesNew : List Entry → Bytes → List ℕ → Outcome (List Assignment) → Bytes → Result ℕ Refusal → Type 0
 MakesNew es b places o made n = (r : Record) → IsRecord es b places r → Makes (o >>= new_record es r) made n
 
 -- The uses of a format are kept, and no two of them name an occurrence in common.
@@ -47,7 +46,7 @@ abbrev pub given : List Entry → Bytes → List ℕ → ℕ → Bytes → Outco
 given es f kept n buffer = assignments (items (uses_kept es f kept n)) buffer
 
 -- The new record by the items of the uses that are kept, whichever format has them.
-abbrev pub MakesItems : List Entry → Bytes → List ℕ → List ℕ → ℕ → Bytes → Bytes → Answer → Type 0
+abbrev pub MakesItems : List Entry → Bytes → List ℕ → List ℕ → ℕ → Bytes → Bytes → Result ℕ Refusal → Type 0
 MakesItems es stored places kept count buffer made n = (f : Bytes) → Apart es f kept count → MakesNew es stored places (given es f kept count buffer) made n
 
 -- A list is fresh for as many uses as can be kept.

@@ -10,7 +10,6 @@ ghost use Rattle.lyrecanyon.specs.Answers.{Settled, answer_number, answer_length
 
 mod making;
 
-use filling::Next;
 use rules::Refusal;
 
 // An answer up to this length is made in a work area first, so that one pass over the format is enough.
@@ -23,49 +22,34 @@ const SHORT_FORMAT: usize = 64;
 
 const SHORT_RECORD: usize = 256;
 
-// What a service answers: done, with the number of bytes written, or refused with nothing changed.
-#[derive(Clone, Copy)]
-pub enum Answer {
-    Done(usize),
-    Refused(Refusal),
-}
+// What a service answers: the number of bytes written, or why it is refused, with nothing changed.
+pub type Answer = Result<usize, Refusal>;
 
-impl Answer {
-    // 0 where it is done, else the number of the refusal.
-    pub fn number(self) -> u8
-        ensures { result ≡ answer_number self }
-    {
-        match self {
-            Answer::Done(_) => 0,
-            Answer::Refused(x) => rules::refusal_number(x),
-        }
-    }
-
-    // The length used, 0 where it is refused.
-    pub fn length(self) -> usize
-        ensures { result ≡ answer_length self }
-    {
-        match self {
-            Answer::Done(n) => n,
-            Answer::Refused(_) => 0,
-        }
-    }
-
-    // With 9 the smallest length that would have held the value that is read, or 0 outside the conversion range. Elsewhere 0.
-    pub fn needed(self) -> u8
-        ensures { result ≡ answer_needed self }
-    {
-        match self {
-            Answer::Done(_) => 0,
-            Answer::Refused(x) => rules::refusal_length(x),
-        }
-    }
-}
-
-fn least(a: usize, b: usize) -> usize
-    ensures { result ≡ min a b }
+// The number that is returned: 0 where it is done, else that of the refusal.
+pub fn number(answer: Answer) -> u8
+    ensures { result ≡ answer_number answer }
 {
-    if a < b { a } else { b }
+    match answer {
+        Ok(_) => 0,
+        Err(x) => x.number(),
+    }
+}
+
+// The length used, 0 where it is refused.
+pub fn length_used(answer: Answer) -> usize
+    ensures { result ≡ answer_length answer }
+{
+    answer.unwrap_or(0)
+}
+
+// With 9 the smallest length that would have held the value that is read, or 0 outside the conversion range. Elsewhere 0.
+pub fn length_needed(answer: Answer) -> u8
+    ensures { result ≡ answer_needed answer }
+{
+    match answer {
+        Ok(_) => 0,
+        Err(x) => x.length(),
+    }
 }
 
 // The items of a format. All are tested first, in their order, so that a refusal changes no byte.
@@ -80,14 +64,8 @@ fn read_long(
     requires { Valid table.now × HasRecord (entries_of table.now) stored.now places.now × (end ≡ min (length buffer.old) longest_items) }
     ensures { Settled (Rules.read table.now stored.now format.now (length buffer.old)) buffer.old buffer.new result }
 {
-    let next = reading::scan(table, stored, places, format, buffer, end, false);
-    match next {
-        Next::Refused(x) => Answer::Refused(x),
-        Next::At(used) => {
-            reading::scan(table, stored, places, format, buffer, end, true);
-            Answer::Done(used)
-        }
-    }
+    reading::scan(table, stored, places, format, buffer, end, false)?;
+    reading::scan(table, stored, places, format, buffer, end, true)
 }
 
 // The same, made in a work area first: a refusal for want of room there tells nothing of a longer buffer.
@@ -102,22 +80,18 @@ fn read_short(
     requires { Valid table.now × HasRecord (entries_of table.now) stored.now places.now }
     ensures { Settled (Rules.read table.now stored.now format.now (length buffer.old)) buffer.old buffer.new result }
 {
-    let end = least(buffer.len(), rules::LONGEST_ITEMS);
-    let room = least(end, area.len());
-    let next = reading::scan(table, stored, places, format, area, room, true);
-    match next {
-        Next::Refused(x) => match x {
-            Refusal::BeyondBuffer => {
-                if room < end {
-                    return read_long(table, stored, places, format, buffer, end);
-                }
-                Answer::Refused(x)
-            }
-            _ => Answer::Refused(x),
-        },
-        Next::At(made) => {
+    let end = buffer.len().min(rules::LONGEST_ITEMS);
+    let room = end.min(area.len());
+    match reading::scan(table, stored, places, format, area, room, true) {
+        Ok(made) => {
             buffer::put(&area[..made], buffer, 0);
-            Answer::Done(made)
+            Ok(made)
+        }
+        Err(x) => {
+            if room < end && x == Refusal::BeyondBuffer {
+                return read_long(table, stored, places, format, buffer, end);
+            }
+            Err(x)
         }
     }
 }
@@ -133,11 +107,9 @@ fn read_items(
     requires { Valid table.now × HasRecord (entries_of table.now) stored.now places.now }
     ensures { Settled (Rules.read table.now stored.now format.now (length buffer.old)) buffer.old buffer.new result }
 {
-    if format.len() <= SHORT_FORMAT {
-        if stored.len() <= SHORT_RECORD {
-            let mut area = [0u8; SMALL];
-            return read_short(table, stored, places, format, buffer, &mut area);
-        }
+    if format.len() <= SHORT_FORMAT && stored.len() <= SHORT_RECORD {
+        let mut area = [0u8; SMALL];
+        return read_short(table, stored, places, format, buffer, &mut area);
     }
     let mut area = [0u8; LARGE];
     read_short(table, stored, places, format, buffer, &mut area)
@@ -148,11 +120,11 @@ pub fn read(table: &[u8], stored: &[u8], format: &[u8], buffer: &mut [u8]) -> An
     ensures { Settled (Rules.read table.now stored.now format.now (length buffer.old)) buffer.old buffer.new result }
 {
     if !tables::valid(table) {
-        return Answer::Refused(Refusal::BadTable);
+        return Err(Refusal::BadTable);
     }
     let mut places = [0u16; records::DIRECTORY];
     if !records::walk::check(table, stored, &mut places) {
-        return Answer::Refused(Refusal::BadRecord);
+        return Err(Refusal::BadRecord);
     }
     read_items(table, stored, &places, format, buffer)
 }
@@ -171,29 +143,25 @@ pub fn update(table: &[u8], stored: &[u8], format: &[u8], buffer: &[u8], room: &
 pub fn apply(table: &[u8], stored: &mut [u8], used: usize, format: &[u8], buffer: &[u8]) -> Answer
     ensures { Settled (Rules.update table.now (take used stored.old) format.now buffer.now (length stored.old)) stored.old stored.new result }
 {
-    let end = least(stored.len(), used);
+    let end = stored.len().min(used);
     let mut new = [0u8; rules::LONGEST_NEW_RECORD];
     let answer = making::make(table, &stored[..end], format, buffer, &mut new);
     making::lend(answer, &new, stored)
 }
 
 // The empty record of a table, to the front of the room. It is built by itself first, so that a refusal changes nothing.
-#[tactic(auto, using(crate::proofs::Empties::over_settled), unfolding(rules::specs::Lists::bytes_of))]
 pub fn empty(table: &[u8], room: &mut [u8]) -> Answer
     ensures { Settled (Rules.empty table.now (length room.old)) room.old room.new result }
 {
     if !tables::valid(table) {
-        return Answer::Refused(Refusal::BadTable);
+        return Err(Refusal::BadTable);
     }
     let size = records::empty::empty_length(table);
-    if rules::LONGEST_NEW_RECORD < size {
-        return Answer::Refused(Refusal::NoRoom);
-    }
-    if room.len() < size {
-        return Answer::Refused(Refusal::NoRoom);
+    if rules::LONGEST_NEW_RECORD < size || room.len() < size {
+        return Err(Refusal::NoRoom);
     }
     let mut record = [0u8; rules::LONGEST_NEW_RECORD];
     records::empty::write_empty(table, &mut record);
     buffer::put(&record[..size], room, 0);
-    Answer::Done(size)
+    Ok(size)
 }

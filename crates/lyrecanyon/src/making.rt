@@ -13,13 +13,10 @@ ghost use Rattle.rules.specs.Update.{Assignment};
 ghost use Rattle.lyrecanyon.specs.Answers.{Settled};
 ghost use Rattle.lyrecanyon.specs.Making.{Makes, MakesNew, Apart, Fresh, in_lent, MakesItems, FreshFor};
 
-use crate::{Answer, least};
-use filling::Next;
+use crate::Answer;
 use records::DIRECTORY;
 use rules::Refusal;
-use taking::Taken;
 use uses::Index;
-use uses::kept::Decoded;
 
 // The longest of the formats whose uses are kept in the smaller areas: areas are cleared, and most calls are short. An element takes three
 // bytes of a format at least.
@@ -42,10 +39,8 @@ fn make_record(
     requires { Valid table.now × HasBoth (entries_of table.now) stored.now places.now kept.now list.now stage.now × (length made.old ≡ longest_new_record) }
     ensures { (ws : List Assignment) → Assigns (entries_of table.now) kept.now list.now stage.now ws → MakesNew (entries_of table.now) stored.now places.now (done ws) made.new result }
 {
-    match updating::put_record(table, stored, places, kept, list, stage, made) {
-        Next::Refused(_) => Answer::Refused(Refusal::NoRoom),
-        Next::At(n) => Answer::Done(n),
-    }
+    let answer = updating::put_record(table, stored, places, kept, list, stage, made);
+    answer.map_err(|_| Refusal::NoRoom)
 }
 
 // The same, by the items of the uses that are kept.
@@ -63,16 +58,12 @@ fn make_items(
     ensures { MakesItems (entries_of table.now) stored.now places.now kept.now count buffer.now made.new result }
 {
     let mut stage = [0u8; rules::LONGEST_NEW_RECORD];
-    match taking::take(table, buffer, kept, count, list, &mut stage) {
-        Taken::Refused(x) => Answer::Refused(x),
-        Taken::At(s) => {
-            if s.full {
-                return Answer::Refused(Refusal::NoRoom);
-            }
-            assignments::index(table, kept, list, count);
-            make_record(table, stored, places, kept, list, &stage, made)
-        }
+    let taken = taking::take(table, buffer, kept, count, list, &mut stage)?;
+    if taken.full {
+        return Err(Refusal::NoRoom);
     }
+    assignments::index(table, kept, list, count);
+    make_record(table, stored, places, kept, list, &stage, made)
 }
 
 // The same, by the record buffer up to its limit.
@@ -89,7 +80,7 @@ fn make_limited(
     requires { Valid table.now × HasRecord (entries_of table.now) stored.now places.now × ((f : Bytes) × Apart (entries_of table.now) f kept.now count) × Fresh count list.old × (length made.old ≡ longest_new_record) }
     ensures { MakesItems (entries_of table.now) stored.now places.now kept.now count (take longest_items buffer.now) made.new result }
 {
-    let end = least(buffer.len(), rules::LONGEST_ITEMS);
+    let end = buffer.len().min(rules::LONGEST_ITEMS);
     make_items(
         table,
         stored,
@@ -117,15 +108,11 @@ fn make_decoded(
     requires { Valid table.now × HasRecord (entries_of table.now) stored.now places.now × (numbers_kept * length format.now ≤ element_bytes * length kept.old) × FreshFor kept.old list.old × (length made.old ≡ longest_new_record) }
     ensures { MakesNew (entries_of table.now) stored.now places.now (assignments_of (entries_of table.now) format.now buffer.now) made.new result }
 {
-    match uses::kept::decode(table, format, kept) {
-        Decoded::Refused(x) => Answer::Refused(x),
-        Decoded::Uses(n) => {
-            if uses::twice::named_twice(table, kept, n) {
-                return Answer::Refused(Refusal::NamedTwice);
-            }
-            make_limited(table, stored, places, buffer, kept, n, list, made)
-        }
+    let n = uses::kept::decode(table, format, kept)?;
+    if uses::twice::named_twice(table, kept, n) {
+        return Err(Refusal::NamedTwice);
     }
+    make_limited(table, stored, places, buffer, kept, n, list, made)
 }
 
 // The same, in areas for the uses by the length of the format.
@@ -148,7 +135,7 @@ fn make_assigned(
         );
     }
     if rules::LONGEST_FORMAT < format.len() {
-        return Answer::Refused(Refusal::BadSyntax);
+        return Err(Refusal::BadSyntax);
     }
     let mut kept: [Index; uses::kept::NUMBERS * MOST_USES] = [0; uses::kept::NUMBERS * MOST_USES];
     let mut list = [0u16; assignments::USES + assignments::NUMBERS * MOST_USES];
@@ -163,11 +150,11 @@ pub fn make(table: &[u8], stored: &[u8], format: &[u8], buffer: &[u8], made: &mu
     ensures { Makes (Rules.update table.now stored.now format.now buffer.now longest_new_record) made.new result }
 {
     if !tables::valid(table) {
-        return Answer::Refused(Refusal::BadTable);
+        return Err(Refusal::BadTable);
     }
     let mut places = [0u16; DIRECTORY];
     if !records::walk::check(table, stored, &mut places) {
-        return Answer::Refused(Refusal::BadRecord);
+        return Err(Refusal::BadRecord);
     }
     make_assigned(table, stored, &places, format, buffer, made)
 }
@@ -178,14 +165,10 @@ pub fn lend(answer: Answer, made: &[u8], room: &mut [u8]) -> Answer
     requires { (o : Outcome Bytes) × Makes o made.now answer }
     ensures { (o : Outcome Bytes) → Makes o made.now answer → Settled (in_lent (length room.old) o) room.old room.new result }
 {
-    match answer {
-        Answer::Refused(x) => Answer::Refused(x),
-        Answer::Done(n) => {
-            if room.len() < n {
-                return Answer::Refused(Refusal::NoRoom);
-            }
-            buffer::put(&made[..n], room, 0);
-            Answer::Done(n)
-        }
+    let n = answer?;
+    if room.len() < n {
+        return Err(Refusal::NoRoom);
     }
+    buffer::put(&made[..n], room, 0);
+    Ok(n)
 }

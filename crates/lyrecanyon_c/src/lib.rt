@@ -2,11 +2,11 @@
 // these functions.
 #![tactic(auto)]
 
-ghost use Rattle.std.specs.Prelude.{◌≡◌, length, take};
+ghost use Rattle.std.specs.Prelude.{length, take};
 ghost use Rattle.rules.specs.Services as Rules;
 ghost use Rattle.lyrecanyon.specs.Answers.{Exported, ExportedNeeding, Applied};
 
-use lyrecanyon::{Answer, apply, empty, read, update};
+use lyrecanyon::{apply, empty, read, update};
 
 // Fills the record buffer with the items of a format.
 #[unsafe(no_mangle)]
@@ -20,8 +20,8 @@ pub extern "C" fn lyrecanyon_read(
     ensures { Exported (Rules.read table.now stored.now format.now (length buffer.old)) buffer.old buffer.new used.new result }
 {
     let answer = read(table, stored, format, buffer);
-    *used = answer.length();
-    answer.number()
+    *used = lyrecanyon::length_used(answer);
+    lyrecanyon::number(answer)
 }
 
 // The same, with the length that is needed too.
@@ -37,9 +37,9 @@ pub extern "C" fn lyrecanyon_read_needing(
     ensures { ExportedNeeding (Rules.read table.now stored.now format.now (length buffer.old)) buffer.old buffer.new used.new needed.new result }
 {
     let answer = read(table, stored, format, buffer);
-    *used = answer.length();
-    *needed = answer.needed() as usize;
-    answer.number()
+    *used = lyrecanyon::length_used(answer);
+    *needed = usize::from(lyrecanyon::length_needed(answer));
+    lyrecanyon::number(answer)
 }
 
 // Stores new values: the new record, to the front of the room.
@@ -55,8 +55,8 @@ pub extern "C" fn lyrecanyon_update(
     ensures { Exported (Rules.update table.now stored.now format.now buffer.now (length room.old)) room.old room.new used.new result }
 {
     let answer = update(table, stored, format, buffer, room);
-    *used = answer.length();
-    answer.number()
+    *used = lyrecanyon::length_used(answer);
+    lyrecanyon::number(answer)
 }
 
 // Stores new values where the record stands, which is the first `used` bytes of a slice. The length is that of the new record, or stays where
@@ -72,13 +72,8 @@ pub extern "C" fn lyrecanyon_apply(
     ensures { Applied (Rules.update table.now (take used.old stored.old) format.now buffer.now (length stored.old)) stored.old stored.new used.old used.new result }
 {
     let answer = apply(table, stored, *used, format, buffer);
-    match answer {
-        Answer::Done(n) => {
-            *used = n;
-            0
-        }
-        Answer::Refused(x) => rules::refusal_number(x),
-    }
+    *used = answer.unwrap_or(*used);
+    lyrecanyon::number(answer)
 }
 
 // The empty record of a table, to the front of the room.
@@ -87,6 +82,6 @@ pub extern "C" fn lyrecanyon_empty(table: &[u8], room: &mut [u8], used: &mut usi
     ensures { Exported (Rules.empty table.now (length room.old)) room.old room.new used.new result }
 {
     let answer = empty(table, room);
-    *used = answer.length();
-    answer.number()
+    *used = lyrecanyon::length_used(answer);
+    lyrecanyon::number(answer)
 }

@@ -16,24 +16,24 @@ abbrev pub field : ℕ → ℕ → Bytes
 field n last = decimal_word n ++ (last ∷ [])
 
 module _ (number at : ℕ) (bytes out : Bytes) where
-  pub words : (a b e : ℕ) (out₁ out₂ out₃ : Bytes) → at + (2 * length bytes + 15) ≤ length out
-      → (a ≡ at + length (field number 32)) × (out₁ ≡ splice at (field number 32) out) × (a ≤ at + 7)
+  pub words : (m a b e : ℕ) (out₁ out₂ out₃ : Bytes) → m ≡ number → at + (2 * length bytes + 15) ≤ length out
+      → (a ≡ at + length (field m 32)) × (out₁ ≡ splice at (field m 32) out) × (a ≤ at + 7)
       → (b ≡ a + length (field (length bytes) 32)) × (out₂ ≡ splice a (field (length bytes) 32) out₁) × (b ≤ a + 7)
       → (e ≡ b + length (spelling bytes)) × (out₃ ≡ splice b (spelling bytes) out₂)
       → AnswersWords number bytes at out out₃ e
   unfolding answer_words
-  words a b e out₁ out₂ out₃ h f g k =
-      let n = field number 32 in
+  words m a b e out₁ out₂ out₃ q h f g k =
+      let n = field m 32 in
       let l = field (length bytes) 32 in
       let s = spelling_short bytes in
       let nl = length-append n l in
       let nls = length-append (n ++ l) (spelling bytes) in
       let one = splice_chain at n l out out₁ out₂ a f.1 g.1 f.0 (omega arith) in
-      record {
+      rw (← q) (record {
         after = splice_chain at (n ++ l) (spelling bytes) out out₂ out₃ b one k.1 (omega arith) (omega arith);
         end = omega arith;
         short = omega arith;
-      }
+      })
 
   pub answers : (e : ℕ) (out₁ : Bytes) → at + (2 * length bytes + 16) ≤ length out → AnswersWords number bytes at out out₁ e
       → Answers number bytes at out (set out₁ e 10) (e + 1)

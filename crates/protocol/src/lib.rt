@@ -1,18 +1,25 @@
 // Calls and answers as lines: tests/vectors/README.md has their form.
 #![tactic(auto)]
 
-ghost use Rattle.std.specs.Prelude.{◌≡◌, ◌+◌, ◌*◌, ◌≤◌, ◌<◌, length};
+ghost use Rattle.std.specs.Prelude.{◌≡◌, ◌+◌, ◌*◌, ◌≤◌, ◌<◌, length, IfSome};
 ghost use Rattle.buffer.specs.Splice.{splice};
 ghost use Rattle.protocol.specs.Calls.{TakesThree, Called};
 ghost use Rattle.protocol.specs.Answers.{no_call_line, AnswersWords, Answers, AnswersRead};
 
-use hexadecimal::NumberWord;
+// The service that a call is for; a history is a read of what a journal leaves of a record.
+#[derive(Clone, Copy, Debug, PartialEq, Eq)]
+pub enum CallKind {
+    Read,
+    History,
+    Update,
+    Empty,
+}
 
-// A call that a line makes: its letter, where the bytes of its table, record, format and record buffer end, and the length that it
-// asks for. A word that the call does not have is empty, and what is no call has the letter 0.
+// A call that a line makes: its kind, where the bytes of its table, record, format and record buffer end, and the length that it
+// asks for. A word that the call does not have is empty.
 #[derive(Clone, Copy)]
 pub struct CallLine {
-    pub letter: u8,
+    pub kind: CallKind,
     pub table: usize,
     pub record: usize,
     pub format: usize,
@@ -45,95 +52,67 @@ fn take_three(line: &[u8], out: &mut [u8]) -> Three
     }
 }
 
-fn no_call() -> CallLine
-    ensures { Called 0 result }
-{
-    CallLine {
-        letter: 0,
-        table: 0,
-        record: 0,
-        format: 0,
-        buffer: 0,
-        asked: 0,
-    }
-}
-
 // A read, or a read after a history, which has a journal in the place of the record.
-fn take_read(letter: u8, line: &[u8], out: &mut [u8]) -> CallLine
+fn take_read(kind: CallKind, line: &[u8], out: &mut [u8]) -> Option<CallLine>
     requires { (2 ≤ length line.now) × (length line.now ≤ 2 * length out.old) }
-    ensures { Called (length out.old) result }
+    ensures { IfSome result (Called (length out.old)) }
 {
-    let s = take_three(line, out);
-    let n = hexadecimal::take_number(line, s.next);
-    match n {
-        NumberWord::Is(asked) => CallLine {
-            letter,
-            table: s.table,
-            record: s.record,
-            format: s.format,
-            buffer: s.format,
-            asked,
-        },
-        NumberWord::NoNumber => no_call(),
-    }
+    let words = take_three(line, out);
+    let asked = hexadecimal::take_number(line, words.next)?;
+    Some(CallLine {
+        kind,
+        table: words.table,
+        record: words.record,
+        format: words.format,
+        buffer: words.format,
+        asked,
+    })
 }
 
-fn take_update(line: &[u8], out: &mut [u8]) -> CallLine
+fn take_update(line: &[u8], out: &mut [u8]) -> Option<CallLine>
     requires { (2 ≤ length line.now) × (length line.now ≤ 2 * length out.old) }
-    ensures { Called (length out.old) result }
+    ensures { IfSome result (Called (length out.old)) }
 {
-    let s = take_three(line, out);
-    let buffer = hexadecimal::take_bytes(line, s.next, out, s.format);
-    let n = hexadecimal::take_number(line, buffer.next);
-    match n {
-        NumberWord::Is(asked) => CallLine {
-            letter: b'U',
-            table: s.table,
-            record: s.record,
-            format: s.format,
-            buffer: buffer.end,
-            asked,
-        },
-        NumberWord::NoNumber => no_call(),
-    }
+    let words = take_three(line, out);
+    let buffer = hexadecimal::take_bytes(line, words.next, out, words.format);
+    let asked = hexadecimal::take_number(line, buffer.next)?;
+    Some(CallLine {
+        kind: CallKind::Update,
+        table: words.table,
+        record: words.record,
+        format: words.format,
+        buffer: buffer.end,
+        asked,
+    })
 }
 
-fn take_empty(line: &[u8], out: &mut [u8]) -> CallLine
+fn take_empty(line: &[u8], out: &mut [u8]) -> Option<CallLine>
     requires { (2 ≤ length line.now) × (length line.now ≤ 2 * length out.old) }
-    ensures { Called (length out.old) result }
+    ensures { IfSome result (Called (length out.old)) }
 {
     let table = hexadecimal::take_bytes(line, 2, out, 0);
-    let n = hexadecimal::take_number(line, table.next);
-    match n {
-        NumberWord::Is(asked) => CallLine {
-            letter: b'E',
-            table: table.end,
-            record: table.end,
-            format: table.end,
-            buffer: table.end,
-            asked,
-        },
-        NumberWord::NoNumber => no_call(),
-    }
+    let asked = hexadecimal::take_number(line, table.next)?;
+    Some(CallLine {
+        kind: CallKind::Empty,
+        table: table.end,
+        record: table.end,
+        format: table.end,
+        buffer: table.end,
+        asked,
+    })
 }
 
 // The call that a line makes, by its first word, which is one letter; the bytes of its words, to out one after the other.
-pub fn take_call(line: &[u8], out: &mut [u8]) -> CallLine
+pub fn take_call(line: &[u8], out: &mut [u8]) -> Option<CallLine>
     requires { length line.now ≤ 2 * length out.old }
-    ensures { Called (length out.old) result }
+    ensures { IfSome result (Called (length out.old)) }
 {
-    if line.len() < 2 {
-        return no_call();
-    }
-    if line[1] != b' ' {
-        return no_call();
-    }
-    match line[0] {
-        b'R' => take_read(b'R', line, out),
-        b'H' => take_read(b'H', line, out),
-        b'U' => take_update(line, out),
-        b'E' => take_empty(line, out),
-        _ => no_call(),
+    match line {
+        [b'R', b' ', ..] => take_read(CallKind::Read, line, out),
+        [b'H', b' ', ..] => take_read(CallKind::History, line, out),
+        [b'U', b' ', ..] => take_update(line, out),
+        [b'E', b' ', ..] => take_empty(line, out),
+        _ => None,
     }
 }
 
@@ -142,7 +121,7 @@ fn put_words(number: u8, bytes: &[u8], out: &mut [u8], at: usize) -> usize
     requires { (length bytes.now < 1000000) × (at + (2 * length bytes.now + 15) ≤ length out.old) }
     ensures { AnswersWords number bytes.now at out.old out.new result }
 {
-    let after_number = hexadecimal::put_field(number as usize, b' ', out, at);
+    let after_number = hexadecimal::put_field(usize::from(number), b' ', out, at);
     let after_length = hexadecimal::put_field(bytes.len(), b' ', out, after_number);
     hexadecimal::encode(bytes, out, after_length)
 }
@@ -153,7 +132,7 @@ pub fn put_answer(number: u8, bytes: &[u8], out: &mut [u8], at: usize) -> usize
     ensures { Answers number bytes.now at out.old out.new result }
 {
     let end = put_words(number, bytes, out, at);
-    out[end] = 10;
+    out[end] = b'\n';
     end + 1
 }
 
@@ -164,7 +143,7 @@ pub fn put_read_answer(number: u8, bytes: &[u8], needed: usize, out: &mut [u8], 
 {
     let end = put_words(number, bytes, out, at);
     out[end] = b' ';
-    hexadecimal::put_field(needed, 10, out, end + 1)
+    hexadecimal::put_field(needed, b'\n', out, end + 1)
 }
 
 // The line that answers what is no call.

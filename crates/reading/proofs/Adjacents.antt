@@ -1,7 +1,8 @@
 -- Occurrences of a span that stand one after the other are put in one piece: each fills the buffer by its bytes, and so do all by theirs together.
+use Rattle.std.specs.Prelude.{Err, Ok, Result}
 use mathlib.Core.Path.{◌≡◌, refl, sym, ◌∙◌, ap, subst}
 use mathlib.Core.Bool.{Bool, true, false}
-use mathlib.Core.List.{List, [], ◌++◌, map, append_assoc, append-nil}
+use mathlib.Core.List.{List, [], ◌++◌, map, append_assoc}
 use Prim.Native.Nat.{ℕ, zero, suc, ◌+◌, ◌*◌, ◌-◌, ◌≤◌, ◌<◌, min}
 use native.Mathlib.Numerals.{add-one}
 use native.Mathlib.Omega.{arith}
@@ -27,9 +28,7 @@ use Rattle.records.specs.Places.{IsRecord, HasRecord, values_of, Celled, Occurre
 use Rattle.records.specs.declared.paths.Path.{Path}
 use Rattle.filling.specs.Filling.{in_room, Filling, together}
 use Rattle.reading.specs.Spans.{Fills, occurrence_items, span_items, occurrences_items, Whole, Adjacent}
-use Rattle.filling.specs.declared.Next.{Next}
-use Rattle.filling.specs.declared.Next.TheVariants.{At, Refused}
-use Rattle.reading.proofs.Running.{Running, run_start, run_on, run_off, run_end}
+use Rattle.reading.proofs.Running.{Running, run_start, run_on, run_off}
 use Rattle.filling.proofs.Together.{together_done}
 use Rattle.reading.proofs.SpanItems.{bounds, row_once}
 use Rattle.reading.proofs.Pieces.{row_single, row_filled}
@@ -83,7 +82,7 @@ module _ (es : List Entry) (b : Bytes) (places : List ℕ) (s : Span) (held : Go
   -- What is found in one piece is put so.
   module _ {path : Path} {n : ℕ} (some : 1 ≤ s.from) (whole : Whole es b places s path n) (width from : ℕ)
       (found : (r : Record) → IsRecord es b places r → OccurrencesOf es b path.group s.from n width r from) where
-    pub rows_put : (upto : ℕ) → upto ≡ from + n * width → (at end : ℕ) (write : Bool) {out out' : Bytes} {m : Next}
+    pub rows_put : (upto : ℕ) → upto ≡ from + n * width → (at end : ℕ) (write : Bool) {out out' : Bytes} {m : (Result ℕ Refusal)}
         → Filling (in_room (end - at) (done (take (upto - from) (drop from b)))) at write out out' m → Fills es b places (occurrences_items es s s.from (s.from + n - 1)) at end write out out' m
     rows_put upto u at end write {out} {out'} {m} f r h =
         let x = found r h in
@@ -119,15 +118,9 @@ module _ {es : List Entry} (b : Bytes) (places : List ℕ) {s : Span} (held : Go
         whole = λ some. record { inside = inside; first = first; end = end; exist = λ r h. omega (arith, counted r h) };
       }
 
--- Items of which the first are filled, and then the rest.
-pub fills_rest : {es : List Entry} {b : Bytes} {places : List ℕ} {end : ℕ} {whole rest : List Item} {start at : ℕ} {write : Bool} {out₀ out out' : Bytes} {m : Next}
-    → Running es b places end (λ r. whole) (λ r. rest) start at write out₀ out → Fills es b places rest at end write out out' m → Fills es b places whole start end write out₀ out' m
-fills_rest {rest = rest} {m = At p} g f = run_end (run_on g (λ r. rest) (λ r. []) (λ r. sym (append-nil rest)) f p refl) (λ r. refl)
-fills_rest {rest = rest} {m = Refused k} g f = run_off g (λ r. rest) (λ r. []) (λ r. sym (append-nil rest)) f k refl
-
 -- A span whose first n occurrences are put.
 module _ {es : List Entry} {b : Bytes} {places : List ℕ} {s : Span} (held : GoodSpan es s) (n : ℕ) (fit : s.from + n ≤ s.upto + 1)
-    {at end : ℕ} {write : Bool} {out out' : Bytes} {m : Next} (holds : HasRecord es b places) (h : at ≤ end) (l : end ≤ length out)
+    {at end : ℕ} {write : Bool} {out out' : Bytes} {m : (Result ℕ Refusal)} (holds : HasRecord es b places) (h : at ≤ end) (l : end ≤ length out)
     (f : Fills es b places (occurrences_items es s s.from (s.from + n - 1)) at end write out out' m) where
   start : Running es b places end (λ r. span_items es s s.from) (λ r. span_items es s s.from) at at write out out
   start = run_start es b places end (λ r. span_items es s s.from) at write out holds h l
@@ -135,9 +128,8 @@ module _ {es : List Entry} {b : Bytes} {places : List ℕ} {s : Span} (held : Go
   split : span_items es s s.from ≡ occurrences_items es s s.from (s.from + n - 1) ++ span_items es s (s.from + n)
   split = rows_split es s n s.from (bounds s.from s.upto held.occurrences).0 fit
 
-  pub rows_begun : (p : ℕ) → m ≡ At p → Running es b places end (λ r. span_items es s s.from) (λ r. span_items es s (s.from + n)) at p write out out'
+  pub rows_begun : (p : ℕ) → m ≡ Ok p → Running es b places end (λ r. span_items es s s.from) (λ r. span_items es s (s.from + n)) at p write out out'
   rows_begun p q = run_on start (λ r. occurrences_items es s s.from (s.from + n - 1)) (λ r. span_items es s (s.from + n)) (λ r. split) f p q
 
-  pub rows_refused : (k : Refusal) → m ≡ Refused k → Fills es b places (span_items es s s.from) at end write out out' m
-  rows_refused k q = subst (λ (o : Next). Fills es b places (span_items es s s.from) at end write out out' o) (sym q)
-      (run_off start (λ r. occurrences_items es s s.from (s.from + n - 1)) (λ r. span_items es s (s.from + n)) (λ r. split) f k q)
+  pub rows_refused : (k : Refusal) → m ≡ Err k → Fills es b places (span_items es s s.from) at end write out out' (Err k)
+  rows_refused k q = run_off start (λ r. occurrences_items es s s.from (s.from + n - 1)) (λ r. span_items es s (s.from + n)) (λ r. split) f k q

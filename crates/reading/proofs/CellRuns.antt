@@ -1,5 +1,6 @@
 -- What is wanted of a cell, run by run: those of its values that exist, and null for the others; values at their own format and length
 -- are the bytes that are stored.
+use Rattle.std.specs.Prelude.{Err, Ok, Result, Some}
 use mathlib.Core.Path.{◌≡◌, refl, sym, ◌∙◌, ap, subst}
 use mathlib.Core.Bool.{Bool}
 use mathlib.Core.List.{List, [], ◌∷◌, ◌++◌, map, map-id}
@@ -11,7 +12,8 @@ use lib.Seq.{drop-cons, take-nil, take_at}
 use Rattle.rules.specs.Outcome.{Outcome, done}
 use Rattle.rules.specs.Limits.{greatest_count, highest_index}
 use Rattle.rules.specs.Lists.{Bytes, run, join}
-use Rattle.rules.specs.Values.{Format, content, converted_bytes, read_value, null}
+use Rattle.rules.specs.Values.{content, converted_bytes, read_value, null}
+use Rattle.rules.specs.Values as Rules
 use Rattle.rules.proofs.Lengths.{read_done}
 use Rattle.rules.specs.Record.{times, stored_value}
 use Rattle.rules.specs.Format.{Range}
@@ -20,12 +22,13 @@ use Rattle.rules.specs.declared.Refusal.{Refusal}
 use Rattle.rules.proofs.Readers.{times_sound, value_sound}
 use Rattle.values.proofs.Meant.{null_converted, converted_itself}
 use Rattle.value_formats.specs.Formats.{format_at}
+use Rattle.value_formats.specs.declared.Format.{Format}
 use Rattle.buffer.proofs.Cases.{by_order}
+use Rattle.records.specs.Walk.{rest_of, Ends, Walked}
+use Rattle.rules.proofs.Steps.{done_inj}
 use Rattle.records.proofs.Cells.{times_first, times_none, times_length, value_first}
 use Rattle.filling.specs.Filling.{in_room, Filling, Continues, together}
 use Rattle.reading.specs.Cells.{Wants, values_meant, converted_to, wanted, existing, Stand, Exist}
-use Rattle.filling.specs.declared.Next.{Next}
-use Rattle.filling.specs.declared.Next.TheVariants.{At, Refused}
 use Rattle.reading.specs.declared.cells.ValueRun.{ValueRun}
 use Rattle.reading.specs.declared.cells.Wanted.{Wanted}
 use Rattle.filling.proofs.Continues.{continues_start, continues_last, turn, turn_within, stop}
@@ -54,7 +57,7 @@ module _ (f : Bytes → Outcome Bytes) (d : Bytes) (vs : List Bytes) where
       ∙ by_number (r.upto + 1 - r.from) (r.from - 1)
 
 -- Values that stand in the bytes, converted to their own format and length.
-own_converted : (f : Format) (m n : ℕ) (bs rest : Bytes) (us : List Bytes) → times n (stored_value f m) bs ≡ done (us, rest)
+own_converted : (f : Rules.Format) (m n : ℕ) (bs rest : Bytes) (us : List Bytes) → times n (stored_value f m) bs ≡ done (us, rest)
     → map (λ v. read_value f f m (content m v)) us ≡ map done us
 own_converted f m zero bs rest us p = let e = (times_none (stored_value f m) bs p).0 in rw e refl
 own_converted f m (suc n) bs rest us p = times_first (stored_value f m) n bs p λ v ys mid e h t.
@@ -65,29 +68,33 @@ own_converted f m (suc n) bs rest us p = times_first (stored_value f m) n bs p �
 module _ (w : Wanted) (b : Bytes) (at n : ℕ) (us : List Bytes) (s : Stand w b at n us) where
   pub as_stored : w.own ≡ w.format → w.standard ≡ w.size → map (converted_to w) us ≡ map done us
   as_stored e e₂ =
-      ap (λ (k : ℕ). map (λ (v : Bytes). read_value (format_at w.own) (format_at k) w.size (content w.standard v)) us) (sym e)
+      ap (λ (f : Format). map (λ (v : Bytes). read_value (format_at w.own) (format_at f) w.size (content w.standard v)) us) (sym e)
       ∙ ap (λ (k : ℕ). map (λ (v : Bytes). read_value (format_at w.own) (format_at w.own) k (content w.standard v)) us) (sym e₂)
       ∙ own_converted (format_at w.own) w.standard n (drop at b) s.0 us s.1
 
-  -- They are the bytes up to where they end.
-  pub stored_bytes : (upto : ℕ) → at ≤ length b → upto ≤ length b → s.0 ≡ drop upto b → (at ≤ upto) × (take (upto - at) (drop at b) ≡ join us)
-  stored_bytes upto h h₂ e =
-      let q : drop at b ≡ join us ++ drop upto b =
-      (times_sound (stored_value (format_at w.own) w.standard) (λ v. v) (value_sound (format_at w.own) w.standard) n (drop at b) us s.0 s.1).1
-      ∙ ap (λ (vs : List Bytes). join vs ++ s.0) (map-id us) ∙ ap (λ (r : Bytes). join us ++ r) e in
-      let l : length b - at ≡ length (join us) + (length b - upto) = sym (length-drop at b) ∙ ap length q ∙ length-append (join us) (drop upto b) ∙ ap (λ (k : ℕ). length (join us) + k) (length-drop upto b) in
-      let m : length (join us) ≡ upto - at = omega arith in
-      (omega arith, ap (take (upto - at)) q ∙ take_at (join us) (drop upto b) (upto - at) m)
+  -- They end somewhere, and are the bytes up to there.
+  pub they_end : Ends (rest_of (times n (stored_value (format_at w.own) w.standard) (drop at b)))
+  they_end = (s.0, ap rest_of s.1)
 
-  -- Copied in one piece they are put as each by itself.
-  module _ (own : w.own ≡ w.format) (size : w.standard ≡ w.size) (upto room start : ℕ) (write : Bool) {out out' : Bytes} {m : Next} where
-    pub copied : at ≤ length b → upto ≤ length b → s.0 ≡ drop upto b → Filling (in_room room (done (take (upto - at) (drop at b)))) start write out out' m
+  module _ (h : at ≤ length b) {upto : ℕ} (y : Walked b (rest_of (times n (stored_value (format_at w.own) w.standard) (drop at b))) (Some upto)) where
+    pub stored_bytes : (at ≤ upto) × (take (upto - at) (drop at b) ≡ join us)
+    stored_bytes =
+        let place = y.place in
+        let q : drop at b ≡ join us ++ drop upto b =
+        (times_sound (stored_value (format_at w.own) w.standard) (λ v. v) (value_sound (format_at w.own) w.standard) n (drop at b) us s.0 s.1).1
+        ∙ ap (λ (vs : List Bytes). join vs ++ s.0) (map-id us) ∙ ap (λ (r : Bytes). join us ++ r) (done_inj (sym (ap rest_of s.1) ∙ sym y.answer)) in
+        let l : length b - at ≡ length (join us) + (length b - upto) = sym (length-drop at b) ∙ ap length q ∙ length-append (join us) (drop upto b) ∙ ap (λ (k : ℕ). length (join us) + k) (length-drop upto b) in
+        let m : length (join us) ≡ upto - at = omega arith in
+        (omega arith, ap (take (upto - at)) q ∙ take_at (join us) (drop upto b) (upto - at) m)
+
+    -- Copied in one piece they are put as each by itself.
+    pub copied : w.own ≡ w.format → w.standard ≡ w.size → (room : ℕ) {start : ℕ} {write : Bool} {out out' : Bytes} {m : (Result ℕ Refusal)} → Filling (in_room room (done (take (upto - at) (drop at b)))) start write out out' m
         → Filling (together room (map (converted_to w) us)) start write out out' m
-    copied h h₂ e = subst (λ (o : Outcome Bytes). Filling o start write out out' m)
-        (ap (λ (bs : Bytes). in_room room (done bs)) (stored_bytes upto h h₂ e).1 ∙ sym (ap (together room) (as_stored own size) ∙ together_done us room))
+    copied own size room {start} {write} {out} {out'} {m} = subst (λ (o : Outcome Bytes). Filling o start write out out' m)
+        (ap (λ (bs : Bytes). in_room room (done bs)) stored_bytes.1 ∙ sym (ap (together room) (as_stored own size) ∙ together_done us room))
 
 -- What is wanted of a cell is put: the run of those that exist, and then nulls.
-module _ (w : Wanted) (h : Wants w) (b : Bytes) (vs : List Bytes) (few : length vs ≤ greatest_count) (r : ValueRun) (x : Exist w b vs r) where
+module _ {w : Wanted} (h : Wants w) {b : Bytes} {vs : List Bytes} (few : length vs ≤ greatest_count) {r : ValueRun} (x : Exist w b vs r) where
   pub missing_few : r.missing ≤ highest_index
   missing_few = omega (arith, x.missing, meant_lies w (length vs) h few)
 
@@ -106,17 +113,17 @@ module _ (w : Wanted) (h : Wants w) (b : Bytes) (vs : List Bytes) (few : length 
       ∙ ap (λ (o : Outcome Bytes). map (converted_to w) (existing w vs) ++ replicate r.missing o)
       (read_done (format_at w.own) (format_at w.format) w.size _ (null_converted (format_at w.own) (format_at w.format) w.standard w.size h.converts h.standard h.size))
 
-  module _ (at end : ℕ) (write : Bool) {out out' : Bytes} {m : Next} (fits : at ≤ end) (room : end ≤ length out) (f : Filling (together (end - at) (map (converted_to w) (existing w vs))) at write out out' m) where
+  module _ {at end : ℕ} {write : Bool} {out out' : Bytes} {m : (Result ℕ Refusal)} (fits : at ≤ end) (room : end ≤ length out) (f : Filling (together (end - at) (map (converted_to w) (existing w vs))) at write out out' m) where
     begun : Continues (together (end - at) (wanted w vs)) (together (end - at) (map (converted_to w) (existing w vs) ++ nulls)) at at write out out
     begun = subst (λ (os : List (Outcome Bytes)). Continues (together (end - at) (wanted w vs)) (together (end - at) os) at at write out out) in_runs (continues_start (together (end - at) (wanted w vs)) at write out)
 
-    pub cell_off : (k : Refusal) → m ≡ Refused k → Filling (together (end - at) (wanted w vs)) at write out out' (Refused k)
+    pub cell_off : (k : Refusal) → m ≡ Err k → Filling (together (end - at) (wanted w vs)) at write out out' (Err k)
     cell_off k e = stop end (map (converted_to w) (existing w vs)) nulls begun f fits room k e
 
-    pub cell_within : (p : ℕ) → m ≡ At p → p ≤ end
+    pub cell_within : (p : ℕ) → m ≡ Ok p → p ≤ end
     cell_within p e = (turn_within end (map (converted_to w) (existing w vs)) nulls begun f fits room p e).1
 
-    pub cell_on : (p : ℕ) → m ≡ At p → {out'' : Bytes} {m₂ : Next}
+    pub cell_on : (p : ℕ) → m ≡ Ok p → {out'' : Bytes} {m₂ : (Result ℕ Refusal)}
         → Filling (in_room (end - p) (done (join (replicate r.missing (null (format_at w.format) w.size))))) p write out' out'' m₂
         → Filling (together (end - at) (wanted w vs)) at write out out'' m₂
     cell_on p e {out''} {m₂} f₂ = continues_last (turn end (map (converted_to w) (existing w vs)) nulls begun f fits room p e)

@@ -1,9 +1,9 @@
 -- A loop over values that stand in the bytes, each converted: what is left of them, from where it stands, ends and writes as all of them do.
+use Rattle.std.specs.Prelude.{Err, Ok, Result}
 use mathlib.Core.Path.{◌≡◌, refl, sym, ◌∙◌, ap, subst}
 use mathlib.Core.Bool.{Bool, true}
 use mathlib.Core.List.{List, [], ◌∷◌, map}
 use Prim.Native.Nat.{ℕ, suc, ◌+◌, ◌-◌, ◌≤◌, ◌<◌}
-use native.Mathlib.Nat.{sub-zero}
 use native.Mathlib.Omega.{arith}
 use lib.ListN.{length, take, drop, length-take, length-drop}
 use Rattle.rules.specs.Outcome.{Outcome, done, with_needed, is_done}
@@ -16,8 +16,6 @@ use Rattle.rules.proofs.Steps.{from_done}
 use Rattle.value_formats.specs.Formats.{format_at}
 use Rattle.values.specs.Places.{Located}
 use Rattle.values.specs.Fits.{Convertible}
-use Rattle.values.specs.declared.FirstValue.{FirstValue}
-use Rattle.values.specs.declared.FirstValue.TheVariants.{Value, Refused as Bad}
 use Rattle.values.proofs.Meant.{form_means}
 use Rattle.records.specs.Places.{ContentOf}
 use Rattle.records.proofs.Cells.{times_first, times_none, value_first}
@@ -25,10 +23,8 @@ use Rattle.records.proofs.Contents.{content_found, content_none}
 use Rattle.records.proofs.Normals.{first_at}
 use Rattle.filling.specs.Filling.{in_room, Filling, Continues, together}
 use Rattle.reading.specs.Cells.{Wants, converted_to, Stand}
-use Rattle.filling.specs.declared.Next.{Next}
-use Rattle.filling.specs.declared.Next.TheVariants.{At, Refused}
 use Rattle.reading.specs.declared.cells.Wanted.{Wanted}
-use Rattle.filling.proofs.Continues.{continues_start, continues_end, turn, turn_within, stop}
+use Rattle.filling.proofs.Continues.{continues_end, turn, turn_within, stop}
 use Rattle.filling.proofs.Together.{together_one}
 use Rattle.filling.proofs.Held.{read_at, read_refused}
 
@@ -39,17 +35,6 @@ pub record Converting (w : Wanted) (b : Bytes) (end n : ℕ) (us : List Bytes) (
   pub fits : at ≤ end
   pub room : end ≤ length out
   pub continues : Continues (together (end - start) (map (converted_to w) us)) (together (end - at) (map (converted_to w) left)) start at write out₀ out
-
-pub convert_start : (w : Wanted) (b : Bytes) (end n : ℕ) (us : List Bytes) (q at : ℕ) (write : Bool) (out : Bytes) → Stand w b q n us → q ≤ length b → at ≤ end → end ≤ length out
-    → Converting w b end n us 0 q at at write out out
-convert_start w b end n us q at write out s h f r = record {
-  left = us;
-  stand = subst (λ (k : ℕ). Stand w b q k us) (sym (sub-zero n)) s;
-  place = h;
-  fits = f;
-  room = r;
-  continues = continues_start (together (end - at) (map (converted_to w) us)) at write out;
-}
 
 -- The value that stands first of those that are left, between two places, and those after it.
 pub record Ahead (w : Wanted) (b : Bytes) (us : List Bytes) (n from next : ℕ) : Type 0 where
@@ -62,14 +47,14 @@ pub record Ahead (w : Wanted) (b : Bytes) (us : List Bytes) (n from next : ℕ) 
 
 module _ {w : Wanted} (h : Wants w) {b : Bytes} {end n : ℕ} {us : List Bytes} {i q start at : ℕ} {write : Bool} {out₀ out : Bytes}
     (g : Converting w b end n us i q start at write out₀ out) where
-  module _ (more : i < n) {first : FirstValue} (f : Located b q (first_value w.standard (drop q b)) first) where
+  module _ (more : i < n) {first : (Result (ℕ × ℕ) Refusal)} (f : Located b q (first_value w.standard (drop q b)) first) where
     next_there : {C : Type 0} → ((v mid : Bytes) (vs : List Bytes) → g.left ≡ v ∷ vs → stored_value (format_at w.own) w.standard (drop q b) ≡ done (v, mid)
         → times (n - (i + 1)) (stored_value (format_at w.own) w.standard) mid ≡ done (vs, g.stand.0) → C) → C
     next_there k =
         let e : n - i ≡ suc (n - (i + 1)) = omega arith in
         times_first (stored_value (format_at w.own) w.standard) (n - (i + 1)) (drop q b) (rw e at g.stand.1) λ v vs mid l p t. k v mid vs l p t
 
-    pub convert_ahead : {from next : ℕ} → first ≡ Value from next → Ahead w b g.left (n - (i + 1)) from next
+    pub convert_ahead : {from next : ℕ} → first ≡ Ok (from, next) → Ahead w b g.left (n - (i + 1)) from next
     convert_ahead {from} {next} e = next_there λ v mid vs l p t.
         value_first (format_at w.own) w.standard (drop q b) p λ c c₂ c₃ c₄ c₅ c₆.
         from_done (sym c₂ ∙ (first_at f e).0) λ same after. record {
@@ -81,7 +66,7 @@ module _ {w : Wanted} (h : Wants w) {b : Bytes} {end n : ℕ} {us : List Bytes} 
           stand = (g.stand.0, rw (← after) t);
         }
 
-    pub convert_none : {k : Refusal} → first ≡ Bad k → ⊥
+    pub convert_none : {k : Refusal} → first ≡ Err k → ⊥
     convert_none e = next_there λ v mid vs l p t. content_none b q w.standard f (format_at w.own) v mid h.standard p e
 
   module _ {from next : ℕ} (x : Ahead w b g.left (n - (i + 1)) from next) where
@@ -92,10 +77,10 @@ module _ {w : Wanted} (h : Wants w) {b : Bytes} {end n : ℕ} {us : List Bytes} 
         ap (allowed (format_at w.own)) e ∙ y.long
 
     pub value_asked : Convertible w.own w.format w.size (take (next - from) (drop from b))
-    value_asked = record { source = h.own; target = h.format; size = value_long; length_there = h.size; value = x.means }
+    value_asked = record { size = value_long; length_there = h.size; value = x.means }
 
-    module _ {out' : Bytes} {m : Next} (f : Filling (in_room (end - at) (converted_bytes (format_at w.own) (format_at w.format) w.size (take (next - from) (drop from b)))) at write out out' m) where
-      put : {s : Next} → Filling (in_room (end - at) (read_value (format_at w.own) (format_at w.format) w.size (take (next - from) (drop from b)))) at write out out' s
+    module _ {out' : Bytes} {m : (Result ℕ Refusal)} (f : Filling (in_room (end - at) (converted_bytes (format_at w.own) (format_at w.format) w.size (take (next - from) (drop from b)))) at write out out' m) where
+      put : {s : (Result ℕ Refusal)} → Filling (in_room (end - at) (read_value (format_at w.own) (format_at w.format) w.size (take (next - from) (drop from b)))) at write out out' s
           → Filling (together (end - at) (converted_to w x.value ∷ [])) at write out out' s
       put {s} q = subst (λ (o : Outcome Bytes). Filling o at write out out' s)
           (ap (λ (v : Bytes). in_room (end - at) (read_value (format_at w.own) (format_at w.format) w.size v)) (sym x.content.is) ∙ sym (together_one (end - at) (converted_to w x.value))) q
@@ -103,7 +88,7 @@ module _ {w : Wanted} (h : Wants w) {b : Bytes} {end n : ℕ} {us : List Bytes} 
       parted : Continues (together (end - start) (map (converted_to w) us)) (together (end - at) (converted_to w x.value ∷ map (converted_to w) x.others)) start at write out₀ out
       parted = subst (λ (vs : List Bytes). Continues (together (end - start) (map (converted_to w) us)) (together (end - at) (map (converted_to w) vs)) start at write out₀ out) x.is g.continues
 
-      pub convert_on : (at' : ℕ) → m ≡ At at' → Converting w b end n us (i + 1) next start at' write out₀ out'
+      pub convert_on : (at' : ℕ) → m ≡ Ok at' → Converting w b end n us (i + 1) next start at' write out₀ out'
       convert_on at' e =
           let q = put (read_at (format_at w.own) (format_at w.format) w.size _ (end - at) at f e) in
           let t = turn end (converted_to w x.value ∷ []) (map (converted_to w) x.others) parted q g.fits g.room at' refl in
@@ -116,13 +101,13 @@ module _ {w : Wanted} (h : Wants w) {b : Bytes} {end n : ℕ} {us : List Bytes} 
             continues = t;
           }
 
-      pub convert_off : {k : Refusal} → m ≡ Refused k → (y : Refusal) → refusal y ≡ with_needed (smallest_length (format_at w.own) (format_at w.format) (take (next - from) (drop from b))) (refusal k)
-          → Filling (together (end - start) (map (converted_to w) us)) start write out₀ out' (Refused y)
+      pub convert_off : {k : Refusal} → m ≡ Err k → (y : Refusal) → refusal y ≡ with_needed (smallest_length (format_at w.own) (format_at w.format) (take (next - from) (drop from b))) (refusal k)
+          → Filling (together (end - start) (map (converted_to w) us)) start write out₀ out' (Err y)
       convert_off e y h =
           let q = put (read_refused (format_at w.own) (format_at w.format) w.size _ (end - at) at f e y h) in
           stop end (converted_to w x.value ∷ []) (map (converted_to w) x.others) parted q g.fits g.room y refl
 
-  pub convert_end : n ≤ i → Filling (together (end - start) (map (converted_to w) us)) start write out₀ out (At at)
+  pub convert_end : n ≤ i → Filling (together (end - start) (map (converted_to w) us)) start write out₀ out (Ok at)
   convert_end over =
       let z : n - i ≡ 0 = omega arith in
       let e = (times_none (stored_value (format_at w.own) w.standard) (drop q b) (rw z at g.stand.1)).0 in

@@ -11,8 +11,8 @@ pub mod Scanning
 pub mod SpanItems
 pub mod Turns
 pub mod Unbare
-pub mod Values
 pub mod Nulls
+pub mod Passing
 pub mod Pieces
 pub mod Adjacents
 pub mod Reaching

@@ -1,18 +1,19 @@
 -- An occurrence that does not exist: each field of the group is null at its own format and length, one after the other.
+use Rattle.std.specs.Prelude.{Err, None, Ok, Result}
 use mathlib.Core.Path.{◌≡◌, refl, sym, ◌∙◌, ap, subst}
 use mathlib.Core.Bool.{Bool, true, false}
 use mathlib.Core.List.{List, [], ◌∷◌, ◌++◌, map}
 use Prim.Native.Nat.{ℕ, suc, ◌+◌, ◌-◌, ◌≤◌, ◌<◌}
 use native.Mathlib.Numerals.{add-one}
 use native.Mathlib.Omega.{arith}
-use lib.ListN.{length, take, drop, get_or, replicate, length-take, length-drop, drop_of_length-le}
-use lib.Seq.{slice, slice-cons, get_or-take}
+use lib.ListN.{length, take, drop, get_or, replicate, length-drop, drop_of_length-le}
+use lib.Seq.{drop-cons}
 use Rattle.rules.specs.Outcome.{Outcome, done}
 use Rattle.rules.specs.Limits.{most_entries}
 use Rattle.rules.specs.Lists.{Bytes, join, run}
 use Rattle.rules.specs.Values.{allowed, null}
 use Rattle.rules.proofs.Lengths.{read_done}
-use Rattle.rules.specs.Table.{Entry, Field, parts, fields_below}
+use Rattle.rules.specs.Table.{What, Entry, Field, parts, fields_below}
 use Rattle.rules.specs.Record.{Record, values_at, value_at}
 use Rattle.rules.specs.Use.{as_stored}
 use Rattle.rules.specs.Services.{item_bytes, filled}
@@ -20,77 +21,69 @@ use Rattle.rules.specs.declared.Refusal.{Refusal}
 use Rattle.rules.proofs.Ranges.{one_field}
 use Rattle.buffer.proofs.Laws.{take_splice}
 use Rattle.values.proofs.Meant.{null_converted}
-use Rattle.value_formats.specs.Formats.{format_at}
-use Rattle.tables.specs.Entries.{Valid, entries_of, blank, decoded, is_group}
+use Rattle.tables.specs.Entries.{Valid, entries_of, blank, is_group, field_format, size_of}
 use Rattle.tables.specs.Places.{inside_at}
 use Rattle.tables.specs.Groups.{group_end, numbers_below, field_at, FieldsOf}
-use Rattle.tables.specs.declared.Entry.{Entry as Row}
 use Rattle.tables.proofs.Tables.{valid_most}
 use Rattle.tables.proofs.Nesting.{numbers_short, numbers_each, run_short}
 use Rattle.format_buffer.specs.Elements.{range}
 use Rattle.uses.specs.Meant.{fields_from, GoodSpan}
 use Rattle.uses.specs.declared.Span.{Span}
-use Rattle.uses.proofs.Fields.{group_fields}
+use Rattle.uses.proofs.Fields.{group_fields, format_of_field, size_at}
 use Rattle.records.specs.Places.{IsRecord, PieceOf}
-use Rattle.records.specs.declared.places.Extent.TheVariants.{Nothing}
 use Rattle.filling.specs.Filling.{in_room, Filling, Continues, together}
 use Rattle.reading.specs.Spans.{Fills, FieldsNumbered, nulls_of, occurrence_items}
-use Rattle.filling.specs.declared.Next.{Next}
-use Rattle.filling.specs.declared.Next.TheVariants.{At, Refused}
-use Rattle.filling.proofs.Continues.{continues_start, continues_end, turn, turn_within, stop}
+use Rattle.filling.proofs.Continues.{continues_end, turn, turn_within, stop}
 use Rattle.reading.proofs.Items.{filled_together}
 use Rattle.filling.proofs.Together.{together_copies}
 use Rattle.reading.proofs.SpanItems.{stored_items, row_once, each_field}
 use Rattle.tables.proofs.EntryFields.{name_at}
+use Rattle.tables.proofs.Known.{field_known}
 use Rattle.uses.proofs.Effects.{converts_itself}
-use Rattle.reading.proofs.Values.{own_allowed, own_format, own_size}
 
 -- A loop over the numbers of fields: what is left of their nulls ends and writes as all of them do from the start.
-pub record Nulling (es : List Entry) (fields : List ℕ) (n end k start at : ℕ) (write : Bool) (out₀ out : Bytes) : Type 0 where
+pub record Nulling (es : List Entry) (fields : List ℕ) (end k start at : ℕ) (write : Bool) (out₀ out : Bytes) : Type 0 where
   pub fits : at ≤ end
   pub room : end ≤ length out
-  pub continues : Continues (together (end - start) (nulls_of (map (field_at es) (take n fields)))) (together (end - at) (nulls_of (map (field_at es) (slice k n fields)))) start at write out₀ out
+  pub continues : Continues (together (end - start) (nulls_of (map (field_at es) fields))) (together (end - at) (nulls_of (map (field_at es) (drop k fields)))) start at write out₀ out
 
-pub null_start : (es : List Entry) (fields : List ℕ) (n end at : ℕ) (write : Bool) (out : Bytes) → at ≤ end → end ≤ length out → Nulling es fields n end 0 at at write out out
-null_start es fields n end at write out h l = record { fits = h; room = l; continues = continues_start (together (end - at) (nulls_of (map (field_at es) (take n fields)))) at write out }
-
-module _ (t : Bytes) (v : Valid t) {fields : List ℕ} {n end k start at : ℕ} {write : Bool} {out₀ out : Bytes} (g : Nulling (entries_of t) fields n end k start at write out₀ out) where
+module _ (t : Bytes) (v : Valid t) {fields : List ℕ} {end k start at : ℕ} {write : Bool} {out₀ out : Bytes} (g : Nulling (entries_of t) fields end k start at write out₀ out) where
   abbrev es : List Entry
   es = entries_of t
 
-  pub null_end : n ≤ k → Filling (together (end - start) (nulls_of (map (field_at es) (take n fields)))) start write out₀ out (At at)
+  pub null_end : length fields ≤ k → Filling (together (end - start) (nulls_of (map (field_at es) fields))) start write out₀ out (Ok at)
   null_end h =
-      let z : slice k n fields ≡ [] = drop_of_length-le (take n fields) {i = k} (omega (arith, length-take n fields)) in
-      continues_end (end - at) (subst (λ (ns : List ℕ). Continues (together (end - start) (nulls_of (map (field_at es) (take n fields)))) (together (end - at) (nulls_of (map (field_at es) ns))) start at write out₀ out) z g.continues)
+      let z : drop k fields ≡ [] = drop_of_length-le fields h in
+      continues_end (end - at) (subst (λ (ns : List ℕ). Continues (together (end - start) (nulls_of (map (field_at es) fields))) (together (end - at) (nulls_of (map (field_at es) ns))) start at write out₀ out) z g.continues)
 
-  -- The entry of the next field, as the code has it. A turn puts its null.
-  abbrev e : Row
-  e = decoded (get_or es (get_or fields k 0) blank)
+  -- What the entry of the next field says. A turn puts its null.
+  abbrev e : What
+  e = (get_or es (get_or fields k 0) blank).what
 
-  module _ (less : k < n) (most : n ≤ length fields) (here : (get_or fields k 0 < length es) × (is_group (get_or es (get_or fields k 0) blank).what ≡ false))
-      {out' : Bytes} {m : Next} (f : Filling (in_room (end - at) (done (join (replicate 1 (null (format_at e.format) e.size))))) at write out out' m) where
+  module _ (less : k < length fields) (here : (get_or fields k 0 < length es) × (is_group (get_or es (get_or fields k 0) blank).what ≡ false))
+      {out' : Bytes} {m : (Result ℕ Refusal)} (f : Filling (in_room (end - at) (done (join (replicate 1 (null (field_format e) (size_of e)))))) at write out out' m) where
     abbrev ahead : List (Outcome Bytes)
-    ahead = nulls_of (map (field_at es) (slice (suc k) n fields))
+    ahead = nulls_of (map (field_at es) (drop (suc k) fields))
 
     abbrev own : List (Outcome Bytes)
-    own = done (null (format_at e.format) e.size) ∷ []
+    own = done (null (field_format e) (size_of e)) ∷ []
 
-    opened : nulls_of (map (field_at es) (slice k n fields)) ≡ own ++ ahead
-    opened = ap (λ (ns : List ℕ). nulls_of (map (field_at es) ns)) (slice-cons k n fields 0 less most)
-        ∙ rw (own_format t v here.0 here.1 e refl, own_size t v here.0 here.1 e refl) refl
+    opened : nulls_of (map (field_at es) (drop k fields)) ≡ own ++ ahead
+    opened = ap (λ (ns : List ℕ). nulls_of (map (field_at es) ns)) (drop-cons fields k 0 less)
+        ∙ rw (format_of_field es (get_or fields k 0), size_at es (get_or fields k 0)) refl
 
-    left : Continues (together (end - start) (nulls_of (map (field_at es) (take n fields)))) (together (end - at) (own ++ ahead)) start at write out₀ out
-    left = subst (λ (os : List (Outcome Bytes)). Continues (together (end - start) (nulls_of (map (field_at es) (take n fields)))) (together (end - at) os) start at write out₀ out) opened g.continues
+    left : Continues (together (end - start) (nulls_of (map (field_at es) fields))) (together (end - at) (own ++ ahead)) start at write out₀ out
+    left = subst (λ (os : List (Outcome Bytes)). Continues (together (end - start) (nulls_of (map (field_at es) fields))) (together (end - at) os) start at write out₀ out) opened g.continues
 
     put : Filling (together (end - at) own) at write out out' m
-    put = subst (λ (o : Outcome Bytes). Filling o at write out out' m) (sym (together_copies 1 (null (format_at e.format) e.size) (end - at))) f
+    put = subst (λ (o : Outcome Bytes). Filling o at write out out' m) (sym (together_copies 1 (null (field_format e) (size_of e)) (end - at))) f
 
-    pub null_on : (at' : ℕ) → m ≡ At at' → Nulling es fields n end (k + 1) start at' write out₀ out'
+    pub null_on : (at' : ℕ) → m ≡ Ok at' → Nulling es fields end (k + 1) start at' write out₀ out'
     null_on at' p =
         let x = turn end own ahead left put g.fits g.room at' p in
         rw (add-one k) (record { fits = (turn_within end own ahead left put g.fits g.room at' p).1; room = omega (arith, f.same, g.room); continues = x })
 
-    pub null_off : (i : Refusal) → m ≡ Refused i → Filling (together (end - start) (nulls_of (map (field_at es) (take n fields)))) start write out₀ out' (Refused i)
+    pub null_off : (i : Refusal) → m ≡ Err i → Filling (together (end - start) (nulls_of (map (field_at es) fields))) start write out₀ out' (Err i)
     null_off i p = stop end own ahead left put g.fits g.room i p
 
 -- The numbers that the expansion of a group leaves are those of its fields: for a span in a periodic group, of the span's.
@@ -111,11 +104,11 @@ module _ (t : Bytes) (v : Valid t) (s : Span) (held : GoodSpan (entries_of t) s)
     known : i + 1 ≤ length (entries_of t)
     known = omega (arith, (held.grouped standard inside).1, held.ordered, held.upto)
 
-    pub fields_numbered : FieldsNumbered (entries_of t) after n
+    pub fields_numbered : FieldsNumbered (entries_of t) (take n after)
     fields_numbered k less =
         let numbers = numbers_below level (i + 1) later in
-        let e : get_or after k 0 ≡ get_or numbers k 0 = sym (get_or-take n after k 0 less) ∙ ap (λ (ns : List ℕ). get_or ns k 0) (ap (take n) x.written ∙ take_splice numbers before n x.counted) in
-        let m = numbers_each (entries_of t) level (i + 1) k known (omega (arith, x.counted)) in
+        let e : take n after ≡ numbers = ap (take n) x.written ∙ take_splice numbers before n x.counted in
+        let m = numbers_each (entries_of t) level (i + 1) k known (omega (arith, ap length e)) in
         rw e (omega (arith, m.below, known, run_short level later, length-drop (i + 1) (entries_of t)), m.field)
 
     fields_row : map (field_at (entries_of t)) (take n after) ≡ fields_from (entries_of t) s.first s.end
@@ -127,7 +120,7 @@ module _ (t : Bytes) (v : Valid t) (s : Span) (held : GoodSpan (entries_of t) s)
         ∙ ap (λ (k : ℕ). fields_from (entries_of t) k (group_end (entries_of t) i)) first
         ∙ ap (fields_from (entries_of t) s.first) (ap (group_end (entries_of t)) own ∙ sym g.3)
 
-    pub nulls_row : (at end : ℕ) (write : Bool) {out out' : Bytes} {m : Next} → Filling (together (end - at) (nulls_of (map (field_at (entries_of t)) (take n after)))) at write out out' m
+    pub nulls_row : (at end : ℕ) (write : Bool) {out out' : Bytes} {m : (Result ℕ Refusal)} → Filling (together (end - at) (nulls_of (map (field_at (entries_of t)) (take n after)))) at write out out' m
         → Filling (together (end - at) (nulls_of (fields_from (entries_of t) s.first s.end))) at write out out' m
     nulls_row at end write {out} {out'} {m} = subst (λ (fs : List Field). Filling (together (end - at) (nulls_of fs)) at write out out' m) fields_row
 
@@ -142,10 +135,9 @@ module _ (t b : Bytes) (places : List ℕ) (v : Valid t) (s : Span) (held : Good
 
   own_fits : (k : ℕ) → k < length (entries_of t) → is_group (get_or (entries_of t) k blank).what ≡ false → allowed (field_at (entries_of t) k).format (field_at (entries_of t) k).size ≡ true
   own_fits k known single =
-      let row = decoded (get_or (entries_of t) k blank) in
-      rw (own_format t v known single row refl, own_size t v known single row refl) (own_allowed t v known single row refl)
+      rw (format_of_field (entries_of t) k, size_at (entries_of t) k) (field_known t v k known single)
 
-  pub row_null : ((r : Record) → IsRecord (entries_of t) b places r → PieceOf (entries_of t) b s.first s.end o r Nothing) → (at end : ℕ) (write : Bool) {out out' : Bytes} {m : Next}
+  pub row_null : ((r : Record) → IsRecord (entries_of t) b places r → PieceOf (entries_of t) b s.first s.end o r None) → (at end : ℕ) (write : Bool) {out out' : Bytes} {m : (Result ℕ Refusal)}
       → Filling (together (end - at) (nulls_of (fields_from (entries_of t) s.first s.end))) at write out out' m
       → Fills (entries_of t) b places (occurrence_items (entries_of t) s o) at end write out out' m
   row_null found at end write {out} {out'} {m} f r h =

@@ -1,4 +1,6 @@
 -- A row of fields as they are stored is put in one piece: each field has one value, converted to its own format and length it is itself, and they stand one after the other.
+use Rattle.std.specs.Prelude.{Result, Some}
+use Rattle.rules.specs.declared.Refusal.{Refusal}
 use mathlib.Core.Path.{◌≡◌, refl, sym, ◌∙◌, ap, subst}
 use mathlib.Core.Bool.{Bool, true, false, false≢true}
 use mathlib.Core.List.{List, [], ◌∷◌, ◌++◌, map, map-map, append-nil}
@@ -29,12 +31,10 @@ use Rattle.uses.proofs.SpanFields.{field_entry, group_entry}
 use Rattle.records.specs.Paths.{Wide, Leads}
 use Rattle.records.specs.Places.{IsRecord, values_of, Celled, PieceOf}
 use Rattle.records.specs.declared.paths.Path.{Path}
-use Rattle.records.specs.declared.places.Extent.TheVariants.{At as Lies}
 use Rattle.records.proofs.Cells.{counted_once, value_first}
 use Rattle.records.proofs.Ends.{slice_run}
 use Rattle.filling.specs.Filling.{in_room, Filling, together}
 use Rattle.reading.specs.Spans.{Fills, Way, occurrence_items}
-use Rattle.filling.specs.declared.Next.{Next}
 use Rattle.reading.proofs.Items.{filled_together}
 use Rattle.filling.proofs.Together.{together_done}
 use Rattle.reading.proofs.SpanItems.{stored_items, row_once, each_field}
@@ -111,8 +111,8 @@ module _ (es : List Entry) (b : Bytes) (places : List ℕ) (s : Span) (held : Go
   row_single = none_multiple es (s.end - s.first) s.first s.end (omega (arith, held.ordered)) held.upto (held.single standard)
 
   -- What is found in one piece is put so.
-  module _ (from upto : ℕ) (found : (r : Record) → IsRecord es b places r → PieceOf es b s.first s.end o r (Lies from upto)) where
-    pub row_put : (at end : ℕ) (write : Bool) {out out' : Bytes} {m : Next} → Filling (in_room (end - at) (done (take (upto - from) (drop from b)))) at write out out' m
+  module _ (from upto : ℕ) (found : (r : Record) → IsRecord es b places r → PieceOf es b s.first s.end o r (Some (from, upto))) where
+    pub row_put : (at end : ℕ) (write : Bool) {out out' : Bytes} {m : (Result ℕ Refusal)} → Filling (in_room (end - at) (done (take (upto - from) (drop from b)))) at write out out' m
         → Fills es b places (occurrence_items es s o) at end write out out' m
     row_put at end write {out} {out'} {m} f r h =
         let p = found r h in

@@ -1,20 +1,20 @@
 -- How far indexes reach, by what is stored: as they are written the items stay, and the occurrences up to the last are those of the one periodic group in which the entries of a span lie.
-use mathlib.Core.Path.{◌≡◌, refl, sym, ◌∙◌, ap, subst}
+use Rattle.std.specs.Prelude.{Result}
+use Rattle.rules.specs.declared.Refusal.{Refusal}
+use mathlib.Core.Path.{◌≡◌, refl, sym, ◌∙◌, ap}
 use mathlib.Core.Bool.{Bool, true, false, true≢false, false≢true}
 use mathlib.Core.List.{List, ◌∷◌, map}
 use Prim.Native.Nat.{ℕ, zero, suc, ◌+◌, ◌-◌, ◌≤◌, ◌<◌}
 use native.Mathlib.Numerals.{add-one}
 use native.Mathlib.Omega.{arith}
-use borrow.Author.Tests.{eqb-true, eqb-false}
-use lib.Dec.{eqb}
 use lib.ListN.{length, get_or, drop, length-drop}
 use Rattle.rules.specs.Limits.{highest_index}
 use Rattle.rules.specs.Lists.{Bytes}
 use Rattle.rules.specs.Table.{Entry, Field, parts, part_holding}
 use Rattle.rules.specs.Format.{Range}
-use Rattle.rules.specs.Record.{Record, group_count_at, value_count_at}
-use Rattle.rules.specs.Use.{Item, as_stored, in_order, items_over, value_items, just}
-use Rattle.rules.specs.Last.{Scope, resolved, counts_in, occurrences_stored}
+use Rattle.rules.specs.Record.{Record, group_count_at}
+use Rattle.rules.specs.Use.{as_stored, in_order, value_items, just}
+use Rattle.rules.specs.Last.{resolved, counts_in, occurrences_stored}
 use Rattle.rules.proofs.Steps.{by_test}
 use Rattle.tables.specs.Entries.{Valid, entries_of, blank, is_group, is_multiple}
 use Rattle.tables.specs.Places.{inside_at, Home}
@@ -24,42 +24,38 @@ use Rattle.tables.proofs.EntryFields.{name_at}
 use Rattle.tables.proofs.Known.{member_next}
 use Rattle.tables.proofs.Nesting.{run_more, run_short, members_inside}
 use Rattle.tables.proofs.Tables.{valid_levels, valid_names, valid_sound}
-use Rattle.records.specs.Places.{IsRecord}
 use Rattle.records.proofs.Holding.{holding}
 use Rattle.records.proofs.Placed.{multiple_field}
-use Rattle.format_buffer.specs.Elements.{range, written_scope, last_scope}
+use Rattle.format_buffer.specs.Elements.{range}
+use Rattle.format_buffer.specs.declared.Scope.{Scope}
+use Rattle.format_buffer.specs.declared.Scope.TheVariants.{AsWritten, LastAlone, UpToLast}
 use Rattle.uses.specs.Meant.{fields_from, asked_of, GoodSpan}
 use Rattle.uses.specs.Scopes.{scope_at}
 use Rattle.uses.specs.declared.Span.{Span}
-use Rattle.uses.proofs.Scoping.{written_at, last_at, all_at}
 use Rattle.uses.proofs.SpanFields.{asked_one, asked_stored, field_entry, group_entry}
-use Rattle.filling.specs.declared.Next.{Next}
-use Rattle.reading.specs.Spans.{Fills, FillsBy, with_rows, span_items, scoped_items, ScopedValues, OccurrenceMeant, MeantSpan}
+use Rattle.reading.specs.Spans.{Fills, FillsBy, with_rows, span_items, scoped_items, ScopedValues, StoredCount, OccurrenceMeant, MeantSpan}
 use Rattle.reading.proofs.SpanItems.{in_bounds}
 
--- As they are written, values are those of the span, whatever is stored.
-written_items : (es : List Entry) (s : Span) (scope : ℕ) → scope ≡ written_scope → (o : ℕ) (r : Record) → span_items es s o ≡ scoped_items es r s scope o
-unfolding value_items
-written_items es s scope e o r =
-    ap (λ (x : Scope). items_over (asked_of es s) (range o s.upto) (λ f i. resolved x (range s.value_from s.value_upto) (value_count_at (parts es) r f.name i)) false)
-    (sym (written_at scope e))
-
-standard_written : (es : List Entry) (s : Span) (scope : ℕ) → ScopedValues es s scope → s.standard ≡ true → scope ≡ written_scope
-standard_written es s scope h standard = by_test (eqb scope written_scope)
-    (eqb-true scope written_scope)
-    (λ d. absurd (true≢false (sym standard ∙ (h (eqb-false scope written_scope d)).0)))
-
-pub fills_written : {es : List Entry} {b : Bytes} {places : List ℕ} (s : Span) (scope at end : ℕ) {write : Bool} {out out' : Bytes} {n : Next} → ScopedValues es s scope → s.standard ≡ true
+-- The values of fields as they are stored are as written, whatever is stored.
+pub fills_written : {es : List Entry} {b : Bytes} {places : List ℕ} (s : Span) (scope : Scope) (at end : ℕ) {write : Bool} {out out' : Bytes} {n : (Result ℕ Refusal)} → ScopedValues es s scope → s.standard ≡ true
     → Fills es b places (span_items es s s.from) at end write out out' n → FillsBy es b places (λ r. scoped_items es r s scope s.from) at end write out out' n
-fills_written {es} {b} {places} s scope at end {write} {out} {out'} {n} h standard f r k =
-    subst (λ (xs : List Item). Fills es b places xs at end write out out' n) (written_items es s scope (standard_written es s scope h standard) s.from r) f r k
+unfolding value_items
+fills_written s AsWritten at end h standard f = f
+fills_written s LastAlone at end h standard f = absurd (true≢false (sym standard ∙ (h λ e. cc).0))
+fills_written s UpToLast at end h standard f = absurd (true≢false (sym standard ∙ (h λ e. cc).0))
 
 -- With N, indexes begin at 1 or above, and end within their bound where the number of the stored ones does.
-with_last : (scope : ℕ) → (scope ≡ written_scope → ⊥) → (x : Range) (n : ℕ) → n ≤ highest_index
+with_last : (scope : Scope) → (scope ≡ AsWritten → ⊥) → (x : Range) (n : ℕ) → n ≤ highest_index
     → (1 ≤ (resolved (scope_at scope) x n).from) × ((resolved (scope_at scope) x n).upto ≤ highest_index)
-with_last scope d x n h = by_test (eqb scope last_scope)
-    (λ e. rw (last_at scope (eqb-true scope last_scope e)) (omega arith, omega arith))
-    (λ e. rw (all_at scope d (eqb-false scope last_scope e)) (omega arith, h))
+with_last AsWritten d x n h = absurd (d refl)
+with_last LastAlone d x n h = (omega arith, omega arith)
+with_last UpToLast d x n h = (omega arith, h)
+
+-- The last one, N.
+last_from : (scope : Scope) → (scope ≡ AsWritten → ⊥) → (scope ≡ UpToLast → ⊥) → (x : Range) (n : ℕ) → 1 ≤ (resolved (scope_at scope) x n).upto
+last_from AsWritten d last x n = absurd (d refl)
+last_from LastAlone d last x n = omega arith
+last_from UpToLast d last x n = absurd (last refl)
 
 -- The first field among the entries from one on.
 record FirstField (es : List Entry) (k end : ℕ) : Type 0 where
@@ -142,7 +138,7 @@ module _ (t : Bytes) (v : Valid t) where
       occurrences = ordered;
       values = held.values;
       single = held.single;
-      alone = λ e. let x = held.alone e in record { next = x.next; field = x.field; format = x.format; allowed = x.allowed; converts = x.converts; value = x.value };
+      alone = λ e. let x = held.alone e in record { next = x.next; field = x.field; allowed = x.allowed; converts = x.converts; value = x.value };
       only = λ j low high out. absurd (false≢true (sym out ∙ (span_home j low high).inside));
       begins = held.begins;
       once = held.once;
@@ -152,20 +148,13 @@ module _ (t : Bytes) (v : Valid t) where
       grouped = held.grouped;
     }
 
--- The count that the code has of the periodic group in which an entry lies.
-abbrev pub Counted : List Entry → Bytes → List ℕ → ℕ → ℕ → Type 0
-Counted es b places i n = (g : ℕ) → Home es i g → (r : Record) → IsRecord es b places r → n ≡ group_count_at (parts es) r (get_or es g blank).name
-
-module _ (t b : Bytes) (places : List ℕ) (v : Valid t) (scope : ℕ) where
+module _ (t : Bytes) {b : Bytes} {places : List ℕ} (v : Valid t) {scope : Scope} where
   -- The occurrences of a span that are meant.
-  module _ (s : Span) (held : GoodSpan (entries_of t) s) where
-    pub meant_written : scope ≡ written_scope → MeantSpan (entries_of t) b places s scope s
-    meant_written e = record { same = refl; good = λ h. held; meant = λ r k. rw (written_at scope e) refl }
-
-    pub meant_last : (scope ≡ written_scope → ⊥) → inside_at (entries_of t) s.first ≡ true → (n : ℕ) → n ≤ highest_index → Counted (entries_of t) b places s.first n
-        → (from upto : ℕ) → from ≡ (resolved (scope_at scope) (range s.from s.upto) n).from → upto ≡ (resolved (scope_at scope) (range s.from s.upto) n).upto
+  module _ {s : Span} (held : GoodSpan (entries_of t) s) where
+    pub meant_last : (scope ≡ AsWritten → ⊥) → inside_at (entries_of t) s.first ≡ true → {n : ℕ} → n ≤ highest_index → StoredCount (entries_of t) b places s.first n
+        → {from upto : ℕ} → from ≡ (resolved (scope_at scope) (range s.from s.upto) n).from → upto ≡ (resolved (scope_at scope) (range s.from s.upto) n).upto
         → MeantSpan (entries_of t) b places s scope (with_rows s from upto)
-    meant_last d inside n most counted from upto p q =
+    meant_last d inside {n} most counted {from} {upto} p q =
         let (g, home) = homed (entries_of t) (valid_levels t v) (valid_sound t v) s.first (omega (arith, held.ordered, held.upto)) inside in
         let x = with_last scope d (range s.from s.upto) n most in
         record {
@@ -175,17 +164,13 @@ module _ (t b : Bytes) (places : List ℕ) (v : Valid t) (scope : ℕ) where
         }
 
   -- The occurrence of an MU field that is meant.
-  module _ (i o : ℕ) where
-    pub occurrence_written : 1 ≤ o → (inside_at (entries_of t) i ≡ false → o ≡ 1) → scope ≡ written_scope → OccurrenceMeant (entries_of t) b places i o scope o
-    occurrence_written some only e = record { first = some; only = only; meant = λ r k. rw (written_at scope e) refl }
-
-    pub occurrence_last : (scope ≡ written_scope → ⊥) → scope ≤ last_scope → i < length (entries_of t) → is_multiple (get_or (entries_of t) i blank).what ≡ true → inside_at (entries_of t) i ≡ true
-        → (n : ℕ) → Counted (entries_of t) b places i n → (k : ℕ) → k ≡ (resolved (scope_at scope) (just o) n).upto → OccurrenceMeant (entries_of t) b places i o scope k
-    occurrence_last d last less mu inside n counted k e =
+  module _ {i o : ℕ} where
+    pub occurrence_last : (scope ≡ AsWritten → ⊥) → (scope ≡ UpToLast → ⊥) → i < length (entries_of t) → is_multiple (get_or (entries_of t) i blank).what ≡ true → inside_at (entries_of t) i ≡ true
+        → {n : ℕ} → StoredCount (entries_of t) b places i n → {k : ℕ} → k ≡ (resolved (scope_at scope) (just o) n).upto → OccurrenceMeant (entries_of t) b places i o scope k
+    occurrence_last d last less mu inside {n} counted e =
         let (g, home) = homed (entries_of t) (valid_levels t v) (valid_sound t v) i less inside in
-        let alone = rw (last_at scope (omega arith)) at e in
         record {
-          first = omega (arith, alone);
+          first = rw e (last_from scope d last (just o) n);
           only = λ out. absurd (false≢true (sym out ∙ inside));
           meant = λ r h. rw (holding (entries_of t) (valid_names t v) i g less (multiple_field (get_or (entries_of t) i blank).what mu) home, ← counted g home r h) e;
         }

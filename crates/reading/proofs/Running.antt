@@ -1,4 +1,5 @@
 -- A loop over items for whatever record the bytes hold, on which they may depend: its start, a turn that takes some items off the front, a stop and its end.
+use Rattle.std.specs.Prelude.{Err, Ok, Result}
 use mathlib.Core.Path.{◌≡◌, sym, ◌∙◌, ap, subst}
 use mathlib.Core.Bool.{Bool}
 use mathlib.Core.List.{List, [], ◌∷◌, ◌++◌, map, map-append}
@@ -15,8 +16,6 @@ use Rattle.rules.specs.declared.Refusal.{Refusal}
 use Rattle.records.specs.Places.{IsRecord, HasRecord}
 use Rattle.filling.specs.Filling.{Filling, in_room, Continues, together}
 use Rattle.reading.specs.Spans.{Fills, FillsBy}
-use Rattle.filling.specs.declared.Next.{Next}
-use Rattle.filling.specs.declared.Next.TheVariants.{At, Refused}
 use Rattle.filling.proofs.Continues.{continues_start, continues_end, turn, turn_within, stop}
 use Rattle.reading.proofs.Items.{filled_together}
 use Rattle.filling.proofs.Together.{together_one}
@@ -53,11 +52,11 @@ module _ {es : List Entry} {b : Bytes} {places : List ℕ} {end : ℕ} {whole re
     parted : (r : Record) → IsRecord es b places r → Parted r
     parted r p = subst (Left r) (ap (filled (parts es) r (end - at)) (e r) ∙ filled_both es r (end - at) (xs r) (ys r)) (g.continues r p)
 
-    module _ {out' : Bytes} {n : Next} (f : FillsBy es b places xs at end write out out' n) where
+    module _ {out' : Bytes} {n : (Result ℕ Refusal)} (f : FillsBy es b places xs at end write out out' n) where
       put : (r : Record) → IsRecord es b places r → Filling (together (end - at) (map (item_bytes (parts es) r) (xs r))) at write out out' n
       put r p = subst (λ (o : Outcome Bytes). Filling o at write out out' n) (filled_together (parts es) r (xs r) (end - at)) (f r p)
 
-      pub run_on : (at' : ℕ) → n ≡ At at' → Running es b places end whole ys start at' write out₀ out'
+      pub run_on : (at' : ℕ) → n ≡ Ok at' → Running es b places end whole ys start at' write out₀ out'
       run_on at' q =
           let r = g.holds.0 in
           let p = g.holds.1 in
@@ -70,10 +69,10 @@ module _ {es : List Entry} {b : Bytes} {places : List ℕ} {end : ℕ} {whole re
                 (sym (filled_together (parts es) r (ys r) (end - at'))) (turn end _ _ (parted r p) (put r p) g.fits g.room at' q);
           }
 
-      pub run_off : (k : Refusal) → n ≡ Refused k → FillsBy es b places whole start end write out₀ out' (Refused k)
+      pub run_off : (k : Refusal) → n ≡ Err k → FillsBy es b places whole start end write out₀ out' (Err k)
       run_off k q r p = stop end _ _ (parted r p) (put r p) g.fits g.room k q
 
-  pub run_end : ((r : Record) → rest r ≡ []) → FillsBy es b places whole start end write out₀ out (At at)
+  pub run_end : ((r : Record) → rest r ≡ []) → FillsBy es b places whole start end write out₀ out (Ok at)
   run_end e r p = continues_end (end - at) (subst (Left r) (ap (filled (parts es) r (end - at)) (e r) ∙ filled_together (parts es) r [] (end - at)) (g.continues r p))
 
 -- One item in its room.
@@ -86,5 +85,5 @@ run_same g = (g.continues g.holds.0 g.holds.1).same
 
 -- No item: nothing changes.
 pub fills_none : (es : List Entry) (b : Bytes) (places : List ℕ) {xs : List Item} → xs ≡ [] → (at end : ℕ) (write : Bool) {out : Bytes} → HasRecord es b places → at ≤ end → end ≤ length out
-    → Fills es b places xs at end write out out (At at)
+    → Fills es b places xs at end write out out (Ok at)
 fills_none es b places {xs} none at end write {out} k h l = run_end (run_start es b places end (λ r. xs) at write out k h l) (λ r. none)

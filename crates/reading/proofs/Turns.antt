@@ -1,4 +1,5 @@
 -- What is left of a format after its first element, by what the element means: a refusal stands unless what is left is refused before it, and items come off the front.
+use Rattle.std.specs.Prelude.{Err, Ok, Result}
 use mathlib.Core.Path.{◌≡◌, refl, ap, ◌∙◌}
 use mathlib.Core.Bool.{Bool}
 use mathlib.Core.List.{List, [], ◌∷◌, ◌++◌}
@@ -18,11 +19,7 @@ use Rattle.rules.specs.declared.Refusal.{Refusal}
 use Rattle.rules.specs.Numbers.{refusal}
 use Rattle.format_buffer.specs.Syntax.{element_before}
 use Rattle.filling.specs.Filling.{Filling, Continues}
-use Rattle.reading.specs.Scan.{filled_upto, left_of}
-use Rattle.filling.specs.declared.Next.{Next}
-use Rattle.filling.specs.declared.Next.TheVariants as next
-use Rattle.reading.specs.declared.Progress.{Progress}
-use Rattle.reading.specs.declared.Progress.TheVariants.{At, ItemRefused, ElementRefused}
+use Rattle.reading.specs.Scan.{Progress, filled_upto, left_of}
 use Rattle.filling.proofs.Continues.{outcome_before, continues_start, continues_on, continues_both_off, put_off, put_unwritten, room_left}
 use Rattle.reading.proofs.Items.{items_on, filled_on, filled_off}
 
@@ -89,34 +86,33 @@ module _ (es : List Entry) (r : Record) (end : ℕ) (ls : Indexes) (ns : Lasts) 
   abbrev filling : ℕ → List Meaning → Outcome Bytes
   filling room ms = filled (parts es) r room (items_read (parts es) (counts_in (parts es) r) ms)
 
-  left_refused : (xs : Outcome (List rules.Element)) (n : Refusal) → left_of es r end ls ns xs (ElementRefused n) ≡ refused (unless xs (refusal n))
+  left_refused : (xs : Outcome (List rules.Element)) (n : Refusal) → left_of es r end ls ns xs (Err n) ≡ refused (unless xs (refusal n))
   unfolding left_of
   left_refused xs n = refused_then xs (refusal n)
 
   pub left_bad : (s : Progress) (n : outcome.Refusal) → left_of es r end ls ns (refused n) s ≡ refused n
   unfolding left_of
-  left_bad (At p) n = refl
-  left_bad (ItemRefused k) n = refl
-  left_bad (ElementRefused k) n = refl
+  left_bad (Ok (Ok p)) n = refl
+  left_bad (Ok (Err k)) n = refl
+  left_bad (Err k) n = refl
 
   -- The element x comes first, and the elements xs after it.
   module _ (x : rules.Element) (xs : Outcome (List rules.Element)) where
     -- One that is not looked at, since one before it is refused.
-    pub passed : (n : Refusal) {write : Bool} {out : Bytes} → Continues (left_of es r end ls ns (element_before x xs) (ElementRefused n)) (left_of es r end ls ns xs (ElementRefused n)) 0 0 write out out
+    pub passed : (n : Refusal) {write : Bool} {out : Bytes} → Continues (left_of es r end ls ns (element_before x xs) (Err n)) (left_of es r end ls ns xs (Err n)) 0 0 write out out
     passed n = continues_both_off (unless xs (refusal n)) (left_refused (element_before x xs) n ∙ ap refused (unless_then xs (λ ys. x ∷ ys) (refusal n))) (left_refused xs n) refl (λ e. refl)
 
     -- One that is refused.
     module _ (n : Refusal) (h : refused (refusal n) ≡ meaning_of es ls ns x) where
-      before_off : (s : Progress) → ((k : Refusal) → s ≡ ElementRefused k → ⊥) → left_of es r end ls ns (element_before x xs) s ≡ refused (unless xs (refusal n))
+      before_off : (items : Result ℕ Refusal) → left_of es r end ls ns (element_before x xs) (Ok items) ≡ refused (unless xs (refusal n))
       unfolding left_of
-      before_off (At p) k = ap (λ o. o >>= filling (end - p)) (before_refused es ls ns x xs (refusal n) h)
-      before_off (ItemRefused m) k = ap (λ (o : Outcome (List Meaning)). o >>= λ ms. refused (refusal m)) (before_refused es ls ns x xs (refusal n) h)
-      before_off (ElementRefused m) k = absurd (k m refl)
+      before_off (Ok p) = ap (λ o. o >>= filling (end - p)) (before_refused es ls ns x xs (refusal n) h)
+      before_off (Err m) = ap (λ (o : Outcome (List Meaning)). o >>= λ ms. refused (refusal m)) (before_refused es ls ns x xs (refusal n) h)
 
-      pub refused_use : (s : Progress) → ((k : Refusal) → s ≡ ElementRefused k → ⊥) → (ls' : Indexes) (ns' : Lasts) {write : Bool} {out : Bytes}
-          → Continues (left_of es r end ls ns (element_before x xs) s) (left_of es r end ls' ns' xs (ElementRefused n)) (filled_upto s) 0 write out out
+      pub refused_use : (items : Result ℕ Refusal) (ls' : Indexes) (ns' : Lasts) {write : Bool} {out : Bytes}
+          → Continues (left_of es r end ls ns (element_before x xs) (Ok items)) (left_of es r end ls' ns' xs (Err n)) (filled_upto (Ok items)) 0 write out out
       unfolding left_of
-      refused_use s k ls' ns' = continues_both_off (unless xs (refusal n)) (before_off s k) (refused_then xs (refusal n)) refl (λ e. refl)
+      refused_use items ls' ns' = continues_both_off (unless xs (refusal n)) (before_off items) (refused_then xs (refusal n)) refl (λ e. refl)
 
     -- One that means m.
     module _ (m : Meaning) (h : done m ≡ meaning_of es ls ns x) where
@@ -124,7 +120,7 @@ module _ (es : List Entry) (r : Record) (end : ℕ) (ls : Indexes) (ns : Lasts) 
       more = xs >>= meanings es (indexes_after m.meant ls) (lasts_after m ns)
 
       -- After an item that is refused.
-      pub used_after : (n : Refusal) {write : Bool} {out : Bytes} → Continues (left_of es r end ls ns (element_before x xs) (ItemRefused n)) (left_of es r end (indexes_after m.meant ls) (lasts_after m ns) xs (ItemRefused n)) 0 0 write out out
+      pub used_after : (n : Refusal) {write : Bool} {out : Bytes} → Continues (left_of es r end ls ns (element_before x xs) (Ok (Err n))) (left_of es r end (indexes_after m.meant ls) (lasts_after m ns) xs (Ok (Err n))) 0 0 write out out
       unfolding left_of
       used_after k =
           let n = refusal k in
@@ -132,24 +128,24 @@ module _ (es : List Entry) (r : Record) (end : ℕ) (ls : Indexes) (ns : Lasts) 
           (refused_then (element_before x xs >>= meanings es ls ns) n ∙ ap (λ o. refused (unless o n)) (before_done es ls ns x xs m h) ∙ ap refused (unless_then more (λ ms. m ∷ ms) n))
           (refused_then more n) refl (λ e. refl)
 
-      before_used : (p : ℕ) → left_of es r end ls ns (element_before x xs) (At p) ≡ (more >>= (λ ms. done (m ∷ ms)) >>= filling (end - p))
+      before_used : (p : ℕ) → left_of es r end ls ns (element_before x xs) (Ok (Ok p)) ≡ (more >>= (λ ms. done (m ∷ ms)) >>= filling (end - p))
       unfolding left_of
       before_used p = ap (λ o. o >>= filling (end - p)) (before_done es ls ns x xs m h)
 
-      module _ {p : ℕ} {write : Bool} {out out' : Bytes} {z : Next} (g : Filling (filled (parts es) r (end - p) (items_of (parts es) (counts_in (parts es) r) m)) p write out out' z) (fits : p ≤ end) (room : end ≤ length out) where
-        pub used_at : (p' : ℕ) → z ≡ next.At p' → Continues (left_of es r end ls ns (element_before x xs) (At p)) (left_of es r end (indexes_after m.meant ls) (lasts_after m ns) xs (At p')) p p' write out out'
+      module _ {p : ℕ} {write : Bool} {out out' : Bytes} {z : (Result ℕ Refusal)} (g : Filling (filled (parts es) r (end - p) (items_of (parts es) (counts_in (parts es) r) m)) p write out out' z) (fits : p ≤ end) (room : end ≤ length out) where
+        pub used_at : (p' : ℕ) → z ≡ Ok p' → Continues (left_of es r end ls ns (element_before x xs) (Ok (Ok p))) (left_of es r end (indexes_after m.meant ls) (lasts_after m ns) xs (Ok (Ok p'))) p p' write out out'
         unfolding left_of
         used_at p' q = items_on (parts es) r end (items_of (parts es) (counts_in (parts es) r) m) g fits p' q λ a k n l c.
             let o = before_used p ∙ used_on (parts es) r (end - p) m more a k ∙ ap (λ w. outcome_before a (more >>= filling w)) (room_left end p p' (length a) n l) in
-            continues_on (continues_start (left_of es r end ls ns (element_before x xs) (At p)) p write out) g.same a (left_of es r end (indexes_after m.meant ls) (lasts_after m ns) xs (At p')) p' o n (omega arith) c
+            continues_on (continues_start (left_of es r end ls ns (element_before x xs) (Ok (Ok p))) p write out) g.same a (left_of es r end (indexes_after m.meant ls) (lasts_after m ns) xs (Ok (Ok p'))) p' o n (omega arith) c
 
-        pub used_refused : (k : Refusal) → z ≡ next.Refused k → Continues (left_of es r end ls ns (element_before x xs) (At p)) (left_of es r end (indexes_after m.meant ls) (lasts_after m ns) xs (ItemRefused k)) p 0 write out out'
+        pub used_refused : (k : Refusal) → z ≡ Err k → Continues (left_of es r end ls ns (element_before x xs) (Ok (Ok p))) (left_of es r end (indexes_after m.meant ls) (lasts_after m ns) xs (Ok (Err k))) p 0 write out out'
         unfolding left_of
         used_refused k q =
             let n = refusal k in
             continues_both_off (unless more n) (before_used p ∙ used_off (parts es) r (end - p) m more n (put_off g k q)) (refused_then more n) g.same (put_unwritten g)
 
 -- Items end within their room.
-pub used_within : (es : List Entry) (r : Record) (end : ℕ) (xs : List Item) {p : ℕ} {write : Bool} {out out' : Bytes} {m : Next} → Filling (filled (parts es) r (end - p) xs) p write out out' m
-    → p ≤ end → (p' : ℕ) → m ≡ next.At p' → p' ≤ end
+pub used_within : (es : List Entry) (r : Record) (end : ℕ) (xs : List Item) {p : ℕ} {write : Bool} {out out' : Bytes} {m : (Result ℕ Refusal)} → Filling (filled (parts es) r (end - p) xs) p write out out' m
+    → p ≤ end → (p' : ℕ) → m ≡ Ok p' → p' ≤ end
 used_within es r end xs g fits p' q = items_on (parts es) r end xs g fits p' q λ a k n l c. l

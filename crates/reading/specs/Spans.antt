@@ -1,5 +1,6 @@
 -- The occurrences of a span: their items filled into room for whatever record the bytes hold, and those that stand one after the other.
-use Rattle.std.specs.Prelude.{◌≡◌, Bool, true, false, List, map, ℕ, ◌+◌, ◌-◌, ◌≤◌, ◌<◌, length, get_or}
+use Rattle.std.specs.Prelude.{◌≡◌, Bool, true, false, List, map, ℕ, ◌+◌, ◌-◌, ◌≤◌, ◌<◌, length, get_or, Result}
+use Rattle.rules.specs.declared.Refusal.{Refusal}
 use Rattle.std.proofs.Math.Seq.{slice}
 use Rattle.rules.specs.Outcome.{Outcome, done}
 use Rattle.rules.specs.Lists.{Bytes}
@@ -11,7 +12,9 @@ use Rattle.rules.specs.Last.{resolved, counts_in, occurrences_stored}
 use Rattle.rules.specs.Services.{filled}
 use Rattle.tables.specs.Entries.{blank, is_group, is_multiple, what_at}
 use Rattle.tables.specs.Places.{inside_at, Home}
-use Rattle.format_buffer.specs.Elements.{range, written_scope}
+use Rattle.format_buffer.specs.Elements.{range}
+use Rattle.format_buffer.specs.declared.Scope.{Scope}
+use Rattle.format_buffer.specs.declared.Scope.TheVariants.{AsWritten}
 use Rattle.uses.specs.Meant.{asked_of, GoodSpan}
 use Rattle.uses.specs.Scopes.{scope_at}
 use Rattle.uses.specs.declared.Span.{Span}
@@ -19,7 +22,6 @@ use Rattle.records.specs.Paths.{Wide, Leads}
 use Rattle.records.specs.Places.{IsRecord}
 use Rattle.records.specs.declared.paths.Path.{Path}
 use Rattle.filling.specs.Filling.{Filling}
-use Rattle.filling.specs.declared.Next.{Next}
 use Rattle.tables.specs.Groups.{group_end, fields_in}
 
 -- A span with other occurrences.
@@ -38,17 +40,17 @@ with_rows s from upto = record {
 }
 
 -- The items end and write as they are to; items that depend on the record do.
-abbrev pub Fills : List Entry → Bytes → List ℕ → List Item → ℕ → ℕ → Bool → Bytes → Bytes → Next → Type 0
+abbrev pub Fills : List Entry → Bytes → List ℕ → List Item → ℕ → ℕ → Bool → Bytes → Bytes → Result ℕ Refusal → Type 0
 Fills es b places xs at end write entry exit n =
     (r : Record) → IsRecord es b places r → Filling (filled (parts es) r (end - at) xs) at write entry exit n
 
-abbrev pub FillsBy : List Entry → Bytes → List ℕ → (Record → List Item) → ℕ → ℕ → Bool → Bytes → Bytes → Next → Type 0
+abbrev pub FillsBy : List Entry → Bytes → List ℕ → (Record → List Item) → ℕ → ℕ → Bool → Bytes → Bytes → Result ℕ Refusal → Type 0
 FillsBy es b places xs at end write entry exit n =
     (r : Record) → IsRecord es b places r → Filling (filled (parts es) r (end - at) (xs r)) at write entry exit n
 
--- The first n of some numbers are those of entries that are fields.
-abbrev pub FieldsNumbered : List Entry → List ℕ → ℕ → Type 0
-FieldsNumbered es ns n = (k : ℕ) → k < n → (get_or ns k 0 < length es) × (is_group (what_at es (get_or ns k 0)) ≡ false)
+-- Some numbers are those of entries that are fields.
+abbrev pub FieldsNumbered : List Entry → List ℕ → Type 0
+FieldsNumbered es ns = (k : ℕ) → k < length ns → (get_or ns k 0 < length es) × (is_group (what_at es (get_or ns k 0)) ≡ false)
 
 -- Null for each of some fields, at its own format and length.
 abbrev pub nulls_of : List Field → List (Outcome Bytes)
@@ -65,32 +67,32 @@ abbrev pub span_items : List Entry → Span → ℕ → List Item
 span_items es s o = occurrences_items es s o s.upto
 
 -- The items of a span from an occurrence on, by how far its values reach, which each occurrence of a field says for itself.
-abbrev pub scoped_items : List Entry → Record → Span → ℕ → ℕ → List Item
+abbrev pub scoped_items : List Entry → Record → Span → Scope → ℕ → List Item
 scoped_items es r s scope o =
     items_over (asked_of es s) (range o s.upto)
     (λ f i. resolved (scope_at scope) (range s.value_from s.value_upto) (value_count_at (parts es) r f.name i)) false
 
 -- Only of one MU field at a format and a length do values reach to the last.
-abbrev pub ScopedValues : List Entry → Span → ℕ → Type 0
-ScopedValues es s scope = (scope ≡ written_scope → ⊥) → (s.standard ≡ false) × (is_multiple (what_at es s.first) ≡ true)
+abbrev pub ScopedValues : List Entry → Span → Scope → Type 0
+ScopedValues es s scope = (scope ≡ AsWritten → ⊥) → (s.standard ≡ false) × (is_multiple (what_at es s.first) ≡ true)
 
 -- n occurrences are stored of the periodic group in which entry i lies.
 abbrev pub StoredCount : List Entry → Bytes → List ℕ → ℕ → ℕ → Type 0
 StoredCount es b places i n = (g : ℕ) → Home es i g → (r : Record) → IsRecord es b places r → n ≡ group_count_at (parts es) r (get_or es g blank).name
 
 -- Only in a periodic group can the occurrences of entry i reach to the last.
-abbrev pub ReachesInside : List Entry → ℕ → ℕ → Type 0
-ReachesInside es i scope = (scope ≡ written_scope → ⊥) → inside_at es i ≡ true
+abbrev pub ReachesInside : List Entry → ℕ → Scope → Type 0
+ReachesInside es i scope = (scope ≡ AsWritten → ⊥) → inside_at es i ≡ true
 
 -- The occurrence of entry i that is meant, o or the last.
-pub record OccurrenceMeant (es : List Entry) (b : Bytes) (places : List ℕ) (i o scope k : ℕ) : Type 0 where
+pub record OccurrenceMeant (es : List Entry) (b : Bytes) (places : List ℕ) (i o : ℕ) (scope : Scope) (k : ℕ) : Type 0 where
   pub first : 1 ≤ k
   pub only : inside_at es i ≡ false → k ≡ 1
   pub meant : (r : Record) → IsRecord es b places r
       → k ≡ (resolved (scope_at scope) (just o) (group_count_at (parts es) r (part_holding (get_or es i blank).name (parts es)))).upto
 
 -- The occurrences that are meant, by how far they reach: the span has them, and is otherwise the one given.
-pub record MeantSpan (es : List Entry) (b : Bytes) (places : List ℕ) (s : Span) (scope : ℕ) (s' : Span) : Type 0 where
+pub record MeantSpan (es : List Entry) (b : Bytes) (places : List ℕ) (s : Span) (scope : Scope) (s' : Span) : Type 0 where
   pub same : s' ≡ with_rows s s'.from s'.upto
   pub good : s'.from ≤ s'.upto → GoodSpan es s'
   pub meant : (r : Record) → IsRecord es b places r

@@ -1,28 +1,29 @@
 // The values of one field in one occurrence: those that exist, at the format and length in effect, and nulls for the others.
-ghost use Rattle.std.specs.Prelude.{◌≡◌, List, [], map, true, ◌-◌, ◌≤◌, ◌<◌, length};
+ghost use Rattle.std.specs.Prelude.{◌≡◌, List, [], map, true, false, ◌+◌, ◌-◌, ◌≤◌, ◌<◌, length, Some};
+ghost use Rattle.rules.specs.Limits.{highest_index};
 ghost use Rattle.rules.specs.Lists.{Bytes};
 ghost use Rattle.value_formats.specs.Formats.{format_at};
-ghost use Rattle.tables.specs.Entries.{Valid, entries_of};
+ghost use Rattle.tables.specs.Entries.{Valid, entries_of, is_group, what_at};
 ghost use Rattle.filling.specs.Filling.{Roomy, Filling, together};
-ghost use Rattle.reading.specs.Cells.{CellHolds, Wants, wanted_at, converted_to, wanted, Stand, Exist};
-ghost use Rattle.records.specs.declared.places.Cell.TheVariants.{At};
+ghost use Rattle.format_buffer.specs.Elements.{range};
+ghost use Rattle.reading.specs.Cells.{CellHolds, Wants, wanted_at, values_meant, converted_to, wanted, Stand, Exist};
 
-use filling::Next;
-use records::places::Cell;
+use format_buffer::Scope;
+use rules::Refusal;
 use uses::scopes::{resolved_from, resolved_upto};
-use values::FirstValue;
+use value_formats::Format;
 
 // What is wanted of a field: its values from first to last, by how far they reach, which are stored at its own format and standard length,
 // at a format and a length in effect.
 #[derive(Clone, Copy)]
 pub struct Wanted {
-    pub own: usize,
+    pub own: Format,
     pub standard: usize,
     pub multiple: bool,
     pub first: usize,
     pub last: usize,
-    pub scope: u8,
-    pub format: usize,
+    pub scope: Scope,
+    pub format: Format,
     pub size: usize,
 }
 
@@ -34,18 +35,25 @@ pub struct ValueRun {
     pub missing: usize,
 }
 
+// None of the values meant, from first to last.
+fn none_from(first: usize, last: usize) -> ValueRun
+    requires { (first ≤ last + 1) × (last ≤ highest_index) }
+    ensures { (w : Wanted) (b : Bytes) (vs : List Bytes) → range first last ≡ values_meant w (length vs) → length vs < first → Exist w b vs result }
+{
+    ValueRun {
+        at: 0,
+        count: 0,
+        missing: last + 1 - first,
+    }
+}
+
 // Where there is no cell, and so none of the values wanted.
 fn none_of(w: Wanted) -> ValueRun
     requires { Wants w }
     ensures { (b : Bytes) → Exist w b [] result }
 {
     let first = resolved_from(w.scope, w.first, w.last, 0);
-    let last = resolved_upto(w.scope, w.first, w.last, 0);
-    ValueRun {
-        at: 0,
-        count: 0,
-        missing: last + 1 - first,
-    }
+    none_from(first, resolved_upto(w.scope, w.first, w.last, 0))
 }
 
 // What is wanted of entry i, a field.
@@ -54,15 +62,15 @@ pub fn wanted_of(
     i: usize,
     first: usize,
     last: usize,
-    scope: u8,
-    format: usize,
+    scope: Scope,
+    format: Format,
     size: usize,
 ) -> Wanted
-    requires { Valid t.now × (i < length (entries_of t.now)) }
+    requires { Valid t.now × (i < length (entries_of t.now)) × (is_group (what_at (entries_of t.now) i) ≡ false) }
     ensures { result ≡ wanted_at (entries_of t.now) i first last scope format size }
 {
     Wanted {
-        own: tables::format_at(t, i),
+        own: tables::field_format(t, i),
         standard: tables::size_at(t, i),
         multiple: tables::multiple_at(t, i),
         first,
@@ -83,38 +91,22 @@ fn put_converted(
     at: usize,
     end: usize,
     write: bool,
-) -> Next
+) -> Result<usize, Refusal>
     requires { Wants w × (from ≤ length b.now) × ((us : List Bytes) × Stand w b.now from n us) × Roomy at end out.old }
     ensures { (us : List Bytes) → Stand w b.now from n us → Filling (together (end - at) (map (converted_to w) us)) at write out.old out.new result }
 {
     let mut p = at;
     let mut q = from;
-    let mut i = 0;
-    while i < n {
-        let first = values::first_value(b, q, w.standard);
-        match first {
-            // The values are known to stand there, so that this does not happen.
-            FirstValue::Refused(k) => {
-                return Next::Refused(k);
-            }
-            FirstValue::Value(start, next) => {
-                let s = &b[start..next];
-                let put = filling::value::put_value(s, w.own, w.format, w.size, out, p, end, write);
-                match put {
-                    Next::Refused(k) => {
-                        let x = filling::lengths::with_needed(k, s, w.own, w.format);
-                        return Next::Refused(x);
-                    }
-                    Next::At(place) => {
-                        p = place;
-                    }
-                }
-                q = next;
-            }
-        }
-        i += 1;
+    for _ in 0..n {
+        // The values are known to stand there, so that this is no refusal.
+        let (start, next) = values::first_value(b, q, w.standard)?;
+        let s = &b[start..next];
+        p = filling::value::put_value(s, w.own, w.format, w.size, out, p, end, write).map_err(
+            |x| filling::lengths::with_needed(x, s, w.own, w.format),
+        )?;
+        q = next;
     }
-    Next::At(p)
+    Ok(p)
 }
 
 // The values of a run, at the format and length in effect: at their own they are copied as they are stored.
@@ -126,65 +118,47 @@ fn put_run(
     at: usize,
     end: usize,
     write: bool,
-) -> Next
+) -> Result<usize, Refusal>
     requires { Wants w × (run.at ≤ length b.now) × ((us : List Bytes) × Stand w b.now run.at run.count us) × Roomy at end out.old }
     ensures { (us : List Bytes) → Stand w b.now run.at run.count us → Filling (together (end - at) (map (converted_to w) us)) at write out.old out.new result }
 {
-    if w.own == w.format {
-        if w.standard == w.size {
-            let from = run.at;
-            let upto = records::skip::values_end(b, from, run.count, w.standard);
-            return filling::put_bytes(&b[from..upto], out, at, end, write);
-        }
+    if w.own == w.format && w.standard == w.size {
+        let upto = records::skip::values_end(b, run.at, run.count, w.standard);
+        return filling::put_bytes(&b[run.at..upto], out, at, end, write);
     }
     put_converted(b, run.at, run.count, w, out, at, end, write)
 }
 
 // Those of the values wanted that exist, in the cell of an MU field.
 fn run_among(b: &[u8], cell: usize, w: Wanted) -> ValueRun
-    requires { Wants w × ((vs : List Bytes) × CellHolds b.now (format_at w.own) w.standard true vs (At cell)) }
-    ensures { (vs : List Bytes) → CellHolds b.now (format_at w.own) w.standard true vs (At cell) → Exist w b.now vs result }
+    requires { Wants w × ((vs : List Bytes) × CellHolds b.now (format_at w.own) w.standard true vs (Some cell)) }
+    ensures { (vs : List Bytes) → CellHolds b.now (format_at w.own) w.standard true vs (Some cell) → Exist w b.now vs result }
 {
     let n = records::counts::count_at(b, cell);
     let first = resolved_from(w.scope, w.first, w.last, n);
     let last = resolved_upto(w.scope, w.first, w.last, n);
     if n < first {
-        return ValueRun {
-            at: 0,
-            count: 0,
-            missing: last + 1 - first,
-        };
+        return none_from(first, last);
     }
     let from = records::counts::after_count(b, cell);
-    let at = records::skip::values_end(b, from, first - 1, w.standard);
-    if n < last {
-        return ValueRun {
-            at,
-            count: n + 1 - first,
-            missing: last - n,
-        };
-    }
+    let there = last.min(n);
     ValueRun {
-        at,
-        count: last + 1 - first,
-        missing: 0,
+        at: records::skip::values_end(b, from, first - 1, w.standard),
+        count: there + 1 - first,
+        missing: last - there,
     }
 }
 
 // The same in a cell that stands at a place.
 fn run_at(b: &[u8], cell: usize, w: Wanted) -> ValueRun
-    requires { Wants w × ((vs : List Bytes) × CellHolds b.now (format_at w.own) w.standard w.multiple vs (At cell)) }
-    ensures { (vs : List Bytes) → CellHolds b.now (format_at w.own) w.standard w.multiple vs (At cell) → Exist w b.now vs result }
+    requires { Wants w × ((vs : List Bytes) × CellHolds b.now (format_at w.own) w.standard w.multiple vs (Some cell)) }
+    ensures { (vs : List Bytes) → CellHolds b.now (format_at w.own) w.standard w.multiple vs (Some cell) → Exist w b.now vs result }
 {
     if w.multiple {
         return run_among(b, cell, w);
     }
     if 1 < w.first {
-        return ValueRun {
-            at: 0,
-            count: 0,
-            missing: w.last + 1 - w.first,
-        };
+        return none_from(w.first, w.last);
     }
     ValueRun {
         at: cell,
@@ -194,33 +168,30 @@ fn run_at(b: &[u8], cell: usize, w: Wanted) -> ValueRun
 }
 
 // The same in a cell, if there is one.
-fn run_of(b: &[u8], cell: Cell, w: Wanted) -> ValueRun
+fn run_of(b: &[u8], cell: Option<usize>, w: Wanted) -> ValueRun
     requires { Wants w × ((vs : List Bytes) × CellHolds b.now (format_at w.own) w.standard w.multiple vs cell) }
     ensures { (vs : List Bytes) → CellHolds b.now (format_at w.own) w.standard w.multiple vs cell → Exist w b.now vs result }
 {
     match cell {
-        Cell::At(p) => run_at(b, p, w),
-        Cell::Nothing => none_of(w),
+        Some(p) => run_at(b, p, w),
+        None => none_of(w),
     }
 }
 
 // What is wanted of a cell: the values that exist, and nulls for the others.
 pub fn put_cell(
     b: &[u8],
-    cell: Cell,
+    cell: Option<usize>,
     w: Wanted,
     out: &mut [u8],
     at: usize,
     end: usize,
     write: bool,
-) -> Next
+) -> Result<usize, Refusal>
     requires { Wants w × ((vs : List Bytes) × CellHolds b.now (format_at w.own) w.standard w.multiple vs cell) × Roomy at end out.old }
     ensures { (vs : List Bytes) → CellHolds b.now (format_at w.own) w.standard w.multiple vs cell → Filling (together (end - at) (wanted w vs)) at write out.old out.new result }
 {
     let run = run_of(b, cell, w);
-    let next = put_run(b, run, w, out, at, end, write);
-    match next {
-        Next::Refused(k) => Next::Refused(k),
-        Next::At(p) => filling::put_nulls(run.missing, w.format, w.size, out, p, end, write),
-    }
+    let p = put_run(b, run, w, out, at, end, write)?;
+    filling::put_nulls(run.missing, w.format, w.size, out, p, end, write)
 }

@@ -9,26 +9,19 @@ ghost use Rattle.uses.specs.Meanings.{GoodScopes, indexes_kept};
 ghost use Rattle.records.specs.Places.{HasRecord};
 ghost use Rattle.filling.specs.Filling.{Roomy};
 ghost use Rattle.reading.specs.Spans.{FillsBy};
-ghost use Rattle.reading.specs.Scan.{meaning_items, filled_upto, answer_of, element_refused, progress_after, PutsElement, Scans};
+ghost use Rattle.reading.specs.Scan.{meaning_items, filled_upto, PutsElement, Scans};
 
 mod cells;
 mod meant;
 mod spans;
 
-use filling::Next;
 use format_buffer::Element;
-use format_buffer::syntax::Step;
 use rules::Refusal;
+use uses::Use;
 use uses::scopes::Scopes;
-use uses::{Meant, Use};
 
-// Where a scan of a format stands: the items so far end at a place, or an item is refused, or an element.
-#[derive(Clone, Copy)]
-enum Progress {
-    At(usize),
-    ItemRefused(Refusal),
-    ElementRefused(Refusal),
-}
+// Where a scan of a format stands: an element is refused, or else the items so far end at a place or one of them is refused.
+type Progress = Result<Result<usize, Refusal>, Refusal>;
 
 // What an element means, by the scopes of its indexes.
 fn put_use(
@@ -42,7 +35,7 @@ fn put_use(
     at: usize,
     end: usize,
     write: bool,
-) -> Next
+) -> Result<usize, Refusal>
     requires { Valid t.now × GoodUse (entries_of t.now) f.now u × GoodScopes (entries_of t.now) u scopes × HasRecord (entries_of t.now) b.now places.now × Roomy at end out.old }
     ensures { FillsBy (entries_of t.now) b.now places.now (λ x. meaning_items (entries_of t.now) f.now u scopes x) at end write out.old out.new result }
 {
@@ -61,42 +54,10 @@ fn put_use(
         Use::Values(s) => {
             let meant = meant::occurrences_meant(t, b, places, s, scopes.occurrences);
             if meant.upto < meant.from {
-                return Next::At(at);
+                return Ok(at);
             }
             spans::put_span(t, b, places, meant, scopes.values, out, at, end, write)
         }
-    }
-}
-
-// Whether an element is refused.
-fn is_element_refused(state: Progress) -> bool
-    ensures { result ≡ element_refused state }
-{
-    match state {
-        Progress::At(_) => false,
-        Progress::ItemRefused(_) => false,
-        Progress::ElementRefused(_) => true,
-    }
-}
-
-// Where a scan stands after items that end at a place or are refused.
-fn after_items(next: Next) -> Progress
-    ensures { result ≡ progress_after next }
-{
-    match next {
-        Next::At(p) => Progress::At(p),
-        Next::Refused(n) => Progress::ItemRefused(n),
-    }
-}
-
-// What a scan answers where it stands.
-fn answer(state: Progress) -> Next
-    ensures { result ≡ answer_of state }
-{
-    match state {
-        Progress::At(p) => Next::At(p),
-        Progress::ItemRefused(n) => Next::Refused(n),
-        Progress::ElementRefused(n) => Next::Refused(n),
     }
 }
 
@@ -117,24 +78,13 @@ fn put_element(
     requires { Valid t.now × sound f.now e × (length last.old ≡ indexes_kept) × HasRecord (entries_of t.now) b.now places.now × Roomy (filled_upto state) end out.old }
     ensures { PutsElement (entries_of t.now) b.now places.now f.now end write e last.old last.new state out.old out.new result }
 {
-    if is_element_refused(state) {
-        return state;
-    }
+    let items = state?;
     let m = uses::use_of(t, last, e);
-    let meant = m.meant;
-    match meant {
-        Meant::Refused(n) => Progress::ElementRefused(n),
-        Meant::As(u) => {
-            let scopes = m.scopes;
-            uses::remember(t, last, u, scopes.values);
-            match state {
-                Progress::At(p) => after_items(put_use(
-                    t, b, places, f, u, scopes, out, p, end, write,
-                )),
-                Progress::ItemRefused(n) => Progress::ItemRefused(n),
-                Progress::ElementRefused(n) => Progress::ElementRefused(n),
-            }
-        }
+    let u = m.meant?;
+    uses::remember(t, last, u, m.scopes.values);
+    match items {
+        Ok(p) => Ok(put_use(t, b, places, f, u, m.scopes, out, p, end, write)),
+        Err(_) => state,
     }
 }
 
@@ -148,28 +98,22 @@ pub fn scan(
     out: &mut [u8],
     end: usize,
     write: bool,
-) -> Next
+) -> Result<usize, Refusal>
     requires { Valid t.now × HasRecord (entries_of t.now) b.now places.now × (end ≤ length out.old) }
     ensures { Scans (entries_of t.now) b.now places.now f.now end write out.old out.new result }
 {
     if rules::LONGEST_FORMAT < f.len() {
-        return Next::Refused(Refusal::BadSyntax);
+        return Err(Refusal::BadSyntax);
     }
     let mut last: [uses::Index; uses::INDEXES] = [0; uses::INDEXES];
-    let mut state = Progress::At(0);
+    let mut state = Ok(Ok(0));
     let mut at = 0;
     loop {
-        match format_buffer::syntax::next(f, at) {
-            Step::Bad => {
-                return Next::Refused(Refusal::BadSyntax);
-            }
-            Step::At(e, stop) => {
-                state = put_element(t, b, places, f, e, &mut last, state, out, end, write);
-                if format_buffer::syntax::is_last(f, stop) {
-                    return answer(state);
-                }
-                at = stop + 1;
-            }
+        let (e, stop) = format_buffer::syntax::next(f, at).ok_or(Refusal::BadSyntax)?;
+        state = put_element(t, b, places, f, e, &mut last, state, out, end, write);
+        if format_buffer::syntax::is_last(f, stop) {
+            return state?;
         }
+        at = stop + 1;
     }
 }

@@ -1,7 +1,7 @@
 // The occurrences of a span: fields as they are stored, copied in as few pieces as they stand in, or one field at a format and a length.
-ghost use Rattle.std.specs.Prelude.{◌≡◌, map, true, false, ◌+◌, ◌-◌, ◌≤◌, ◌<◌, min, length, take};
+ghost use Rattle.std.specs.Prelude.{◌≡◌, map, true, false, ◌+◌, ◌-◌, ◌≤◌, ◌<◌, min, length};
 ghost use Rattle.std.proofs.Math.Seq.{slice};
-ghost use Rattle.rules.specs.Limits.{highest_index, most_entries};
+ghost use Rattle.rules.specs.Limits.{highest_index};
 ghost use Rattle.rules.specs.Lists.{all};
 ghost use Rattle.rules.specs.Use.{plain};
 ghost use Rattle.rules.specs.Record.{Record};
@@ -15,11 +15,9 @@ ghost use Rattle.filling.specs.Filling.{Roomy, Filling, together};
 ghost use Rattle.reading.specs.Spans.{Fills, FillsBy, FieldsNumbered, nulls_of, occurrence_items, span_items, scoped_items, ScopedValues, Way, occurrences_items, Adjacent};
 
 use super::cells;
-use filling::Next;
+use format_buffer::Scope;
 use records::paths::Path;
-use records::places::Extent;
-use rules::MOST_ENTRIES;
-use tables::Found;
+use rules::{MOST_ENTRIES, Refusal};
 use uses::Span;
 
 // The width of a span's fields together, where all are of fixed length and none is MU; otherwise it means nothing.
@@ -27,11 +25,7 @@ fn width(t: &[u8], s: Span) -> usize
     requires { Valid t.now × GoodSpan (entries_of t.now) s }
     ensures { all plain (fields_in (slice s.first s.end (entries_of t.now))) ≡ true → Wide (fields_in (slice s.first s.end (entries_of t.now))) result }
 {
-    let found = records::paths::width_of(t, s.first, s.end);
-    match found {
-        Found::At(w) => w,
-        Found::Nothing => 0,
-    }
+    records::paths::width_of(t, s.first, s.end).unwrap_or(0)
 }
 
 // Where the fields of a span stand in occurrence o, one after the other, by the way to the first and their width.
@@ -43,7 +37,7 @@ fn piece(
     path: Path,
     width: usize,
     o: usize,
-) -> Extent
+) -> Option<(usize, usize)>
     requires { Valid t.now × GoodSpan (entries_of t.now) s × (s.standard ≡ true) × Way (entries_of t.now) s path width × (1 ≤ o) × (o ≤ s.upto) × HasRecord (entries_of t.now) b.now places.now }
     ensures { (r : Record) → IsRecord (entries_of t.now) b.now places.now r → PieceOf (entries_of t.now) b.now s.first s.end o r result }
 {
@@ -53,36 +47,25 @@ fn piece(
     records::places::piece_outside(t, b, places, s.first, s.end)
 }
 
-// The nulls of n fields, by their entry numbers, each at its own format and length.
+// The nulls of fields, by their entry numbers, each at its own format and length.
 fn put_null_fields(
     t: &[u8],
-    fields: &[u8; MOST_ENTRIES],
-    n: usize,
+    fields: &[u8],
     out: &mut [u8],
     at: usize,
     end: usize,
     write: bool,
-) -> Next
-    requires { Valid t.now × (length fields.now ≡ most_entries) × (n ≤ most_entries) × FieldsNumbered (entries_of t.now) fields.now n × Roomy at end out.old }
-    ensures { Filling (together (end - at) (nulls_of (map (field_at (entries_of t.now)) (take n fields.now)))) at write out.old out.new result }
+) -> Result<usize, Refusal>
+    requires { Valid t.now × FieldsNumbered (entries_of t.now) fields.now × Roomy at end out.old }
+    ensures { Filling (together (end - at) (nulls_of (map (field_at (entries_of t.now)) fields.now))) at write out.old out.new result }
 {
     let mut p = at;
-    let mut k = 0;
-    while k < n {
-        let i = fields[k] as usize;
-        let format = tables::format_at(t, i);
-        let next = filling::put_nulls(1, format, tables::size_at(t, i), out, p, end, write);
-        match next {
-            Next::Refused(number) => {
-                return Next::Refused(number);
-            }
-            Next::At(place) => {
-                p = place;
-            }
-        }
-        k += 1;
+    for &field in fields {
+        let i = usize::from(field);
+        let format = tables::field_format(t, i);
+        p = filling::put_nulls(1, format, tables::size_at(t, i), out, p, end, write)?;
     }
-    Next::At(p)
+    Ok(p)
 }
 
 // The nulls of a group's fields, for an occurrence that does not exist.
@@ -93,13 +76,13 @@ fn put_null_occurrence(
     at: usize,
     end: usize,
     write: bool,
-) -> Next
+) -> Result<usize, Refusal>
     requires { Valid t.now × GoodSpan (entries_of t.now) s × (s.standard ≡ true) × (inside_at (entries_of t.now) s.first ≡ true) × Roomy at end out.old }
     ensures { Filling (together (end - at) (nulls_of (fields_from (entries_of t.now) s.first s.end))) at write out.old out.new result }
 {
     let mut fields = [0u8; MOST_ENTRIES];
     let n = tables::expand(t, s.first - 1, &mut fields);
-    put_null_fields(t, &fields, n, out, at, end, write)
+    put_null_fields(t, &fields[..n], out, at, end, write)
 }
 
 // A span of fields as they are stored, in occurrence o: copied in one piece, or null for each where there is no such occurrence.
@@ -115,14 +98,13 @@ fn put_occurrence(
     at: usize,
     end: usize,
     write: bool,
-) -> Next
+) -> Result<usize, Refusal>
     requires { Valid t.now × GoodSpan (entries_of t.now) s × (s.standard ≡ true) × Way (entries_of t.now) s path width × (1 ≤ o) × (o ≤ s.upto) × HasRecord (entries_of t.now) b.now places.now × Roomy at end out.old }
     ensures { Fills (entries_of t.now) b.now places.now (occurrence_items (entries_of t.now) s o) at end write out.old out.new result }
 {
-    let found = piece(t, b, places, s, path, width, o);
-    match found {
-        Extent::At(from, upto) => filling::put_bytes(&b[from..upto], out, at, end, write),
-        Extent::Nothing => put_null_occurrence(t, s, out, at, end, write),
+    match piece(t, b, places, s, path, width, o) {
+        Some((from, upto)) => filling::put_bytes(&b[from..upto], out, at, end, write),
+        None => put_null_occurrence(t, s, out, at, end, write),
     }
 }
 
@@ -131,13 +113,7 @@ fn occurrences_existing(count: usize, from: usize, upto: usize) -> usize
     requires { (from ≤ upto) × (upto ≤ highest_index) }
     ensures { result ≡ min count upto + 1 - from }
 {
-    if count < from {
-        return 0;
-    }
-    if count < upto {
-        return count + 1 - from;
-    }
-    upto + 1 - from
+    (count.min(upto) + 1).saturating_sub(from)
 }
 
 // How many occurrences of a span stand one after the other, from its first on: those that exist, where the span is the whole of a
@@ -152,13 +128,9 @@ fn adjacent_count(
     requires { Valid t.now × GoodSpan (entries_of t.now) s × (path.entry ≡ s.first) × Leads (entries_of t.now) path × HasRecord (entries_of t.now) b.now places.now }
     ensures { Adjacent (entries_of t.now) b.now places.now s path result }
 {
-    if path.inside {
-        if s.first == path.group + 1 {
-            if s.end == tables::group_end(t, path.group) {
-                let count = records::places::group_count(t, b, places, path.group);
-                return occurrences_existing(count, s.from, s.upto);
-            }
-        }
+    if path.inside && s.first == path.group + 1 && s.end == tables::group_end(t, path.group) {
+        let count = records::places::group_count(t, b, places, path.group);
+        return occurrences_existing(count, s.from, s.upto);
     }
     0
 }
@@ -176,12 +148,12 @@ fn put_adjacent(
     at: usize,
     end: usize,
     write: bool,
-) -> Next
+) -> Result<usize, Refusal>
     requires { Valid t.now × GoodSpan (entries_of t.now) s × (s.standard ≡ true) × Way (entries_of t.now) s path width × Adjacent (entries_of t.now) b.now places.now s path n × HasRecord (entries_of t.now) b.now places.now × Roomy at end out.old }
     ensures { Fills (entries_of t.now) b.now places.now (occurrences_items (entries_of t.now) s s.from (s.from + n - 1)) at end write out.old out.new result }
 {
     if n == 0 {
-        return Next::At(at);
+        return Ok(at);
     }
     let from = records::places::occurrences_at(t, b, places, path.group, width, s.from, n);
     let upto = from + n * width;
@@ -198,32 +170,18 @@ fn put_occurrences(
     at: usize,
     end: usize,
     write: bool,
-) -> Next
+) -> Result<usize, Refusal>
     requires { Valid t.now × GoodSpan (entries_of t.now) s × (s.standard ≡ true) × HasRecord (entries_of t.now) b.now places.now × Roomy at end out.old }
     ensures { Fills (entries_of t.now) b.now places.now (span_items (entries_of t.now) s s.from) at end write out.old out.new result }
 {
     let path = records::paths::path_to(t, s.first);
     let width = width(t, s);
     let n = adjacent_count(t, b, places, s, path);
-    let first = put_adjacent(t, b, places, s, path, width, n, out, at, end, write);
-    let Next::At(start) = first else {
-        return first;
-    };
-    let mut p = start;
-    let mut o = s.from + n;
-    while o <= s.upto {
-        let next = put_occurrence(t, b, places, s, path, width, o, out, p, end, write);
-        match next {
-            Next::Refused(k) => {
-                return Next::Refused(k);
-            }
-            Next::At(place) => {
-                p = place;
-            }
-        }
-        o += 1;
+    let mut p = put_adjacent(t, b, places, s, path, width, n, out, at, end, write)?;
+    for o in s.from + n..=s.upto {
+        p = put_occurrence(t, b, places, s, path, width, o, out, p, end, write)?;
     }
-    Next::At(p)
+    Ok(p)
 }
 
 // A span of one field at a format and a length, occurrence by occurrence, by how far its values reach; the way to it is found once.
@@ -232,12 +190,12 @@ fn put_column(
     b: &[u8],
     places: &[u16; records::DIRECTORY],
     s: Span,
-    scope: u8,
+    scope: Scope,
     out: &mut [u8],
     at: usize,
     end: usize,
     write: bool,
-) -> Next
+) -> Result<usize, Refusal>
     requires { Valid t.now × GoodSpan (entries_of t.now) s × (s.standard ≡ false) × ScopedValues (entries_of t.now) s scope × HasRecord (entries_of t.now) b.now places.now × Roomy at end out.old }
     ensures { FillsBy (entries_of t.now) b.now places.now (λ x. scoped_items (entries_of t.now) x s scope s.from) at end write out.old out.new result }
 {
@@ -252,21 +210,11 @@ fn put_column(
     );
     let path = records::paths::path_to(t, s.first);
     let mut p = at;
-    let mut o = s.from;
-    while o <= s.upto {
+    for o in s.from..=s.upto {
         let cell = records::places::cell_by(t, b, places, path, o);
-        let next = cells::put_cell(b, cell, w, out, p, end, write);
-        match next {
-            Next::Refused(n) => {
-                return Next::Refused(n);
-            }
-            Next::At(place) => {
-                p = place;
-            }
-        }
-        o += 1;
+        p = cells::put_cell(b, cell, w, out, p, end, write)?;
     }
-    Next::At(p)
+    Ok(p)
 }
 
 // A span, by how far its values reach.
@@ -275,12 +223,12 @@ pub fn put_span(
     b: &[u8],
     places: &[u16; records::DIRECTORY],
     s: Span,
-    scope: u8,
+    scope: Scope,
     out: &mut [u8],
     at: usize,
     end: usize,
     write: bool,
-) -> Next
+) -> Result<usize, Refusal>
     requires { Valid t.now × GoodSpan (entries_of t.now) s × ScopedValues (entries_of t.now) s scope × HasRecord (entries_of t.now) b.now places.now × Roomy at end out.old }
     ensures { FillsBy (entries_of t.now) b.now places.now (λ x. scoped_items (entries_of t.now) x s scope s.from) at end write out.old out.new result }
 {

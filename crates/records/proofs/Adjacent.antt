@@ -1,4 +1,5 @@
 -- Occurrences of a periodic group whose fields are plain stand one after the other: each is as wide, and where it ends the next begins.
+use Rattle.std.specs.Prelude.{Some}
 use mathlib.Core.Path.{◌≡◌, refl, sym, ap}
 use mathlib.Core.Bool.{true}
 use mathlib.Core.List.{List, ◌++◌}
@@ -18,7 +19,6 @@ use Rattle.tables.proofs.Tables.{valid_names}
 use Rattle.records.specs.Walk.{rest_of, Walked, occurrence}
 use Rattle.records.specs.Paths.{lengths}
 use Rattle.records.specs.Places.{IsRecord, values_of, OccurrencesOf}
-use Rattle.records.specs.declared.Reach.TheVariants as S
 use Rattle.records.proofs.Walks.{times_more, walked_as}
 use Rattle.records.proofs.Ends.{group_within}
 use Rattle.records.proofs.Occurrences.{between_over}
@@ -37,7 +37,7 @@ module _ (t : Bytes) (valid : Valid t) {b : Bytes} {places : List ℕ} {r : Reco
 
   -- Occurrence o stands at p.
   abbrev RowAt : ℕ → ℕ → Type 0
-  RowAt o p = Walked b (rest_of (times (o - 1) (occurrence es g) (drop (get_or places g 0 + 1) b))) (S.At p)
+  RowAt o p = Walked b (rest_of (times (o - 1) (occurrence es g) (drop (get_or places g 0 + 1) b))) (Some p)
 
   next_row : (o p : ℕ) → 1 ≤ o → o ≤ group_count_at (parts es) r (get_or es g blank).name → RowAt o p → RowAt (suc o) (p + lengths fs)
   unfolding occurrence

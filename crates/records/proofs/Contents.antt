@@ -1,4 +1,5 @@
 -- The content of a stored value: what is first found at its place is its content, so long as its format allows.
+use Rattle.std.specs.Prelude.{Err, Ok, Result}
 use mathlib.Core.Path.{◌≡◌, sym, ◌∙◌}
 use mathlib.Core.Bool.{true}
 use Prim.Native.Nat.{ℕ, ◌-◌}
@@ -11,17 +12,15 @@ use Rattle.rules.specs.Record.{stored_value}
 use Rattle.rules.specs.declared.Refusal.{Refusal}
 use Rattle.rules.proofs.Steps.{from_done, not_done}
 use Rattle.values.specs.Places.{Located}
-use Rattle.values.specs.declared.FirstValue.{FirstValue}
-use Rattle.values.specs.declared.FirstValue.TheVariants.{Value, Refused}
 use Rattle.values.proofs.Cuts.{first_content}
 use Rattle.values.proofs.Converted.{content_allowed}
 use Rattle.records.specs.Places.{ContentOf}
 use Rattle.records.proofs.Cells.{value_first}
 use Rattle.records.proofs.Normals.{first_at, first_none}
 
-module _ (b : Bytes) (at size : ℕ) {first : FirstValue} (w : Located b at (first_value size (drop at b)) first) (f : Format) (v rest : Bytes)
+module _ (b : Bytes) (at size : ℕ) {first : (Result (ℕ × ℕ) Refusal)} (w : Located b at (first_value size (drop at b)) first) (f : Format) (v rest : Bytes)
     (h : allowed f size ≡ true) (p : stored_value f size (drop at b) ≡ done (v, rest)) where
-  pub content_found : {from upto : ℕ} → first ≡ Value from upto → ContentOf f size b v from upto
+  pub content_found : {from upto : ℕ} → first ≡ Ok (from, upto) → ContentOf f size b v from upto
   content_found {from} {upto} q =
       let x = first_at w q in
       let n : length (take (upto - from) (drop from b)) ≡ upto - from = omega (arith, length-take (upto - from) (drop from b), length-drop from b, x.1, x.2) in
@@ -33,5 +32,5 @@ module _ (b : Bytes) (at size : ℕ) {first : FirstValue} (w : Located b at (fir
         long = content_allowed f size (upto - from) h (rw n at (first_content size (drop at b) _ _ x.0));
       }
 
-  pub content_none : {x : Refusal} → first ≡ Refused x → ⊥
+  pub content_none : {x : Refusal} → first ≡ Err x → ⊥
   content_none q = value_first f size (drop at b) p λ c e t a is s. not_done (sym (first_none w q) ∙ e)

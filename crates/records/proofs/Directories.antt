@@ -1,4 +1,5 @@
 -- What a check of a record answers at each of its ends, and how its walk goes on after an entry.
+use Rattle.std.specs.Prelude.{None, Option, Some}
 use mathlib.Core.Path.{◌≡◌, sym, ◌∙◌}
 use mathlib.Core.Bool.{Bool, true, false}
 use mathlib.Core.List.{List}
@@ -17,12 +18,11 @@ use Rattle.tables.specs.Entries.{blank}
 use Rattle.rules.specs.Limits.{most_entries}
 use Rattle.records.specs.Counts.{greatest_byte}
 use Rattle.records.specs.Walk.{Walked, after_entry, is_headed, firsts, kept_from, directory, occurrence, occurrences_counted, Kept, OccurrencesKept, Checked}
-use Rattle.records.specs.declared.Reach.{Reach}
-use Rattle.records.specs.declared.Reach.TheVariants.{At, Bad}
 use Rattle.records.proofs.Entries.{never}
 use Rattle.records.proofs.Walks.{walked_at, walked_bad}
 use Rattle.records.proofs.Checking.{Checking, turn, bad, over}
-use Rattle.records.proofs.HeadLaws.{stored_headless, stored_bad, stored_over}
+use Rattle.tables.proofs.Tables.{valid_most}
+use Rattle.records.proofs.HeadLaws.{headed_long, headed_most, stored_headless, stored_bad, stored_over}
 
 refuses : (es : List Entry) (b : Bytes) (places : List ℕ) (ok : Bool) → is_done (stored (parts es) b) ≡ false → ok ≡ false → Checked es b places ok
 refuses es b places ok h k = record { answer = k ∙ sym h; starts = λ e j l. absurd (never k e); occurrences = λ e j l. absurd (never k e) }
@@ -92,11 +92,11 @@ module _ {es : List Entry} {b : Bytes} {places : List ℕ} {i kept : ℕ} (l : R
 module _ {es : List Entry} {b : Bytes} {places : List ℕ} {before : Bool} {i p : ℕ} (c : Checking es b places before i p) where
   -- After entry i, or at something that is not its part.
   module _ (less : i < length es) (d : Entry) {inside : Bool} (q : inside ≡ is_inside before (get_or es i d))
-      {s : Reach} (w : Walked b (after_entry inside (get_or es i d) (drop (suc i) es) (drop p b)) s) where
-    pub passed : {next : ℕ} → s ≡ At next → (after : List ℕ) → get_or after i 0 ≡ p → ((j : ℕ) → j < i → get_or after j 0 ≡ get_or places j 0) → Checking es b after inside (i + 1) next
+      {s : (Option ℕ)} (w : Walked b (after_entry inside (get_or es i d) (drop (suc i) es) (drop p b)) s) where
+    pub passed : {next : ℕ} → s ≡ Some next → (after : List ℕ) → get_or after i 0 ≡ p → ((j : ℕ) → j < i → get_or after j 0 ≡ get_or places j 0) → Checking es b after inside (i + 1) next
     passed {next} e after n o = let h = walked_at w e in rw q (turn c less d next after n o h.1 (rw q at h.0))
 
-    pub no_part : (after : List ℕ) (ok : Bool) → s ≡ Bad → is_headed b ≡ true → ok ≡ false → Checked es b after ok
+    pub no_part : (after : List ℕ) (ok : Bool) → s ≡ None → is_headed b ≡ true → ok ≡ false → Checked es b after ok
     unfolding parts
     no_part after ok e h k = refuses es b after ok (stored_bad (parts es) b h (bad c less d (rw q at (walked_bad w e)))) k
 
@@ -108,3 +108,6 @@ module _ {es : List Entry} {b : Bytes} {places : List ℕ} {before : Bool} {i p 
     starts = λ e j m. c.kept j (omega arith);
     occurrences = λ e j m. l.occurrences j (omega arith);
   }
+
+-- what bounds the numbers of a walk over a record
+pub ruleset check_bounds = (valid_most, headed_most, headed_long, length-set)

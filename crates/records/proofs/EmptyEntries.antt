@@ -1,52 +1,38 @@
--- What an entry adds to the empty record, by the numbers that the code has of it, and the walk over the entries.
-use mathlib.Core.Path.{◌≡◌, refl, sym, ◌∙◌, ap}
-use mathlib.Core.Bool.{Bool, true, false, not, ◌&&◌}
+-- What an entry adds to the empty record, by what the code has of it, and the walk over the entries.
+use Rattle.std.specs.Prelude.{None, Some}
+use Rattle.std.proofs.lemmas.Option.{none-some}
+use mathlib.Core.Path.{◌≡◌, refl, sym, subst, ◌∙◌, ap}
+use mathlib.Core.Bool.{Bool, true, false, not, cond, ◌&&◌, ◌||◌}
 use mathlib.Core.List.{List, [], ◌∷◌, ◌++◌}
 use Prim.Native.Nat.{ℕ, ◌+◌, ◌≤◌, ◌<◌}
 use native.Mathlib.Numerals.{add-one}
 use native.Mathlib.Omega.{arith}
-use borrow.Author.Tests.{eqb-false, ne_eqb}
-use lib.Dec.{ltb, eqb}
+use lib.Dec.{ltb}
 use lib.ListN.{length, drop, get_or, length-append, drop_of_length-le}
 use lib.Seq.{drop-cons}
-use Rattle.rules.specs.Limits.{longest_alpha, formats}
+use Rattle.std.proofs.lemmas.Bool.Decides.{nat_tests}
+use Rattle.rules.specs.Limits.{longest_alpha, count_size}
 use Rattle.rules.specs.Lists.{Bytes}
 use Rattle.rules.specs.Values.{allowed, null}
 use Rattle.rules.specs.Record.{count_bytes}
 use Rattle.rules.specs.Table.{What, field, group, Entry, inside_of, is_inside}
-use Rattle.tables.specs.Entries.{blank, group_number, format_at, number_of, format_number, size_of, is_multiple, is_periodic, decoded}
+use Rattle.tables.specs.Entries.{blank, format_at, coded, format_coded, size_of, is_multiple, is_periodic, decoded}
 use Rattle.buffer.specs.Splice.{splice}
 use Rattle.buffer.proofs.Laws.{splice_nil, splice_rest, length_splice}
-use Rattle.rules.proofs.Steps.{by_test, not_both}
+use Rattle.rules.proofs.Steps.{by_test}
 use Rattle.buffer.proofs.Cases.{by_order}
-use Rattle.value_formats.proofs.Letters.{number_back, number_small}
+use Rattle.value_formats.specs.declared.Format.{Format}
+use Rattle.tables.proofs.EntryFields.{field_coded}
 use Rattle.values.proofs.Numbered.{longest_size}
 use Rattle.values.proofs.Nulls.{null_0, null_size}
 use Rattle.tables.proofs.EntryBytes.{Sound}
-use Rattle.records.specs.Empty.{empty_entry, empty_from, null_entry}
-
--- A field and a group by their numbers.
-pub entry_field : (w : What) → (format_number w ≡ group_number → ⊥) → w ≡ field (format_at (format_number w)) (size_of w) (is_multiple w)
-entry_field (field f n m) h = ap (λ g. field g n m) (sym (number_back f))
-entry_field (group p) h = absurd (h refl)
-
-pub entry_group : (w : What) → format_number w ≡ group_number → w ≡ group (is_periodic w)
-entry_group (field f n m) h = absurd (let l = number_small f in omega arith)
-entry_group (group p) h = refl
-
-pub entry_small : (w : What) → (format_number w ≡ group_number → ⊥) → format_number w < formats
-entry_small (field f n m) h = number_small f
-entry_small (group p) h = absurd (h refl)
-
-pub entry_allowed : (l : ℕ) (w : What) → Sound l w → (format_number w ≡ group_number → ⊥) → allowed (format_at (format_number w)) (size_of w) ≡ true
-entry_allowed l (field f n m) s h = rw (number_back f) s
-entry_allowed l (group p) s h = absurd (h refl)
+use Rattle.records.specs.Empty.{empty_entry, empty_from, null_of}
 
 -- No format allows a longer value than A, so null is no longer.
-pub null_short : (k n : ℕ) → k < formats → allowed (format_at k) n ≡ true → length (null (format_at k) n) ≤ longest_alpha
-null_short k n h a = by_order n 1
-    (λ l. let z : n ≡ 0 = omega arith in omega (arith, ap length (null_0 k n h z a)))
-    (λ l. omega (arith, null_size k n h (λ z. omega arith), longest_size k n h a))
+pub null_short : (f : Format) (n : ℕ) → allowed (format_at f) n ≡ true → length (null (format_at f) n) ≤ longest_alpha
+null_short f n a = by_order n 1
+    (λ l. let z : n ≡ 0 = omega arith in omega (arith, ap length (null_0 f n z a)))
+    (λ l. omega (arith, null_size f n (λ z. omega arith), longest_size f n a))
 
 -- Inside a periodic group, as the code tests it.
 pub inside_periodic : (before : Bool) (l : ℕ) (w : What) → is_periodic w ≡ true → inside_of before l w ≡ true
@@ -64,28 +50,6 @@ unfolding inside_of
 inside_not before l (field f n m) h b = rw b refl
 inside_not before l (group p) h b = rw (h, b) refl
 
--- What an entry adds.
-module _ (inside : Bool) (w : What) where
-  pub adds_count : format_number w ≡ group_number → is_periodic w ≡ true → empty_entry inside w ≡ count_bytes 0
-  unfolding empty_entry
-  adds_count h p = ap (empty_entry inside) (entry_group w h) ∙ rw p refl
-
-  pub adds_nothing : format_number w ≡ group_number → is_periodic w ≡ false → empty_entry inside w ≡ []
-  unfolding empty_entry
-  adds_nothing h p = ap (empty_entry inside) (entry_group w h) ∙ rw p refl
-
-  pub adds_no_more : (format_number w ≡ group_number → ⊥) → inside ≡ true → empty_entry inside w ≡ []
-  unfolding empty_entry
-  adds_no_more h p = ap (empty_entry inside) (entry_field w h) ∙ rw p refl
-
-  pub adds_no_values : (format_number w ≡ group_number → ⊥) → inside ≡ false → is_multiple w ≡ true → empty_entry inside w ≡ count_bytes 0
-  unfolding empty_entry
-  adds_no_values h p m = ap (empty_entry inside) (entry_field w h) ∙ rw (p, m) refl
-
-  pub adds_null : (format_number w ≡ group_number → ⊥) → inside ≡ false → is_multiple w ≡ false → empty_entry inside w ≡ null (format_at (format_number w)) (size_of w)
-  unfolding empty_entry
-  adds_null h p m = ap (empty_entry inside) (entry_field w h) ∙ rw (p, m) refl
-
 -- The walk: an entry, then those after it; and no entry.
 pub empty_turn : (before : Bool) (es : List Entry) (i : ℕ) (d : Entry) → i < length es
     → empty_from before (drop i es) ≡ empty_entry (is_inside before (get_or es i d)) (get_or es i d).what ++ empty_from (is_inside before (get_or es i d)) (drop (i + 1) es)
@@ -96,20 +60,30 @@ pub empty_over : (before : Bool) (es : List Entry) (i : ℕ) → length es ≤ i
 unfolding empty_from
 empty_over before es i h = rw (drop_of_length-le es h) refl
 
--- What adds null, and what adds a count of 0 or nothing.
-module _ (inside : Bool) (e : Entry) where
-  pub null_adds : null_entry inside (decoded e) ≡ true
-      → ((format_number e.what ≡ group_number → ⊥) × (empty_entry inside e.what ≡ null (format_at (format_number e.what)) (size_of e.what)))
-  unfolding null_entry
-  null_adds h = go e.what inside h
+-- What adds null is a plain field outside periodic groups.
+module _ (inside : Bool) (e : Entry) (f : Format) (h : null_of inside (decoded e) ≡ Some f) where
+  null_plain : (inside ≡ false) × (e.what ≡ field (format_at f) (size_of e.what) false)
+  unfolding null_of
+  null_plain = go e.what inside h
     where
-      go : (w : What) (i : Bool) → (not (eqb (format_number w) group_number) && not i && not (is_multiple w)) ≡ true
-          → ((format_number w ≡ group_number → ⊥) × (empty_entry i w ≡ null (format_at (format_number w)) (size_of w)))
-      go w i q = by_test (eqb (format_number w) group_number) (λ x. absurd (not_both (rw x at q)))
-          (λ x. by_test i (λ y. absurd (not_both (rw (x, y) at q)))
-          (λ y. by_test (is_multiple w) (λ z. absurd (not_both (rw (x, y, z) at q)))
-          (λ z. (eqb-false (format_number w) group_number x, adds_null i w (eqb-false (format_number w) group_number x) y z))))
+      go : (w : What) (i : Bool) → cond (i || is_multiple w) None (format_coded w) ≡ Some f → (i ≡ false) × (w ≡ field (format_at f) (size_of w) false)
+      go w true q = absurd (none-some f q)
+      go (group p) false q = absurd (none-some f q)
+      go (field g n true) false q = absurd (none-some f q)
+      go (field g n false) false q = (refl, field_coded (field g n false) f q)
 
+  pub null_adds : empty_entry inside e.what ≡ null (format_at f) (size_of e.what)
+  unfolding empty_entry
+  null_adds = rw null_plain.0 (ap (empty_entry false) null_plain.1)
+
+  pub null_allowed : Sound e.level e.what → allowed (format_at f) (size_of e.what) ≡ true
+  null_allowed s = subst (Sound e.level) null_plain.1 s
+
+-- Another entry adds a count of 0 or nothing.
+counts : Bool → What → Bool
+counts inside w = is_periodic w || (not inside && is_multiple w)
+
+module _ (inside : Bool) (e : Entry) where
   pub nothing_added : length (empty_entry inside e.what) ≡ 0 → empty_entry inside e.what ≡ []
   nothing_added h = go (empty_entry inside e.what) h
     where
@@ -117,17 +91,35 @@ module _ (inside : Bool) (e : Entry) where
       go [] z = refl
       go (b ∷ bs) z = absurd (omega (arith, z))
 
-  pub count_added : null_entry inside (decoded e) ≡ false → (length (empty_entry inside e.what) ≡ 0 → ⊥) → empty_entry inside e.what ≡ count_bytes 0
-  unfolding null_entry empty_entry
-  count_added h more = go e.what inside h more
+module _ (inside : Bool) (e : Entry) (h : null_of inside (decoded e) ≡ None) where
+  adds_other : empty_entry inside e.what ≡ cond (counts inside e.what) (count_bytes 0) []
+  unfolding null_of empty_entry counts
+  adds_other = go e.what inside h
     where
-      go : (w : What) (i : Bool) → (not (eqb (format_number w) group_number) && not i && not (is_multiple w)) ≡ false
-          → (length (empty_entry i w) ≡ 0 → ⊥) → empty_entry i w ≡ count_bytes 0
-      go (group true) i q z = refl
-      go (group false) i q z = absurd (z refl)
-      go (field f n m) true q z = absurd (z refl)
-      go (field f n true) false q z = refl
-      go (field f n false) false q z = absurd (not_both (sym (rw (ne_eqb (number_of f) group_number (λ z. let l = number_small f in omega arith)) at q)))
+      go : (w : What) (i : Bool) → cond (i || is_multiple w) None (format_coded w) ≡ None → empty_entry i w ≡ cond (counts i w) (count_bytes 0) []
+      go (group true) i q = refl
+      go (group false) true q = refl
+      go (group false) false q = refl
+      go (field f n m) true q = refl
+      go (field f n true) false q = refl
+      go (field f n false) false q = absurd (none-some (coded f) (sym q))
+
+  pub count_added : (length (empty_entry inside e.what) ≡ 0 → ⊥) → empty_entry inside e.what ≡ count_bytes 0
+  count_added z = adds_other ∙ by_test (counts inside e.what)
+      (λ t. rw t refl)
+      (λ t. absurd (z (ap length adds_other ∙ rw t refl)))
+
+  pub other_periodic : is_periodic e.what ≡ true → length (empty_entry inside e.what) ≡ count_size
+  unfolding counts count_bytes
+  other_periodic p = ap length adds_other ∙ rw p refl
+
+  pub other_multiple : inside ≡ false → is_multiple e.what ≡ true → length (empty_entry inside e.what) ≡ count_size
+  unfolding counts count_bytes
+  other_multiple i m = ap length adds_other ∙ by_test (is_periodic e.what) (λ p. rw p refl) (λ p. rw (p, i, m) refl)
+
+  pub other_none : is_periodic e.what ≡ false → (not inside && is_multiple e.what) ≡ false → length (empty_entry inside e.what) ≡ 0
+  unfolding counts
+  other_none p q = ap length adds_other ∙ rw (p, q) refl
 
 -- A loop that writes what the entries add: i are written, up to the place `at`, and the rest makes up the whole.
 pub record Writing (es : List Entry) (start : ℕ) (out₀ out : Bytes) (inside : Bool) (i at : ℕ) : Type 0 where
@@ -161,3 +153,9 @@ module _ {es : List Entry} {start : ℕ} {out₀ out : Bytes} {inside : Bool} {i
 
   pub writing_end : length es ≤ i → out ≡ splice start (empty_from false es) out₀
   writing_end h = sym (splice_nil at out) ∙ rw (empty_over inside es i h) at w.rest
+
+-- what the test of the next entry cites
+pub ruleset inside_tests = (nat_tests, inside_periodic, inside_deeper, inside_not)
+
+-- what the size of an entry that adds no null cites
+pub ruleset size_tests = (nat_tests, other_periodic, other_multiple, other_none)

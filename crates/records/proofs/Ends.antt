@@ -1,5 +1,6 @@
 -- Where the pieces of a body end, in the code's words: what a count leaves, what an entry adds, and the fields of a group by their entries.
-use mathlib.Core.Path.{◌≡◌, refl, sym, ◌∙◌, ap}
+use Rattle.std.specs.Prelude.{Some}
+use mathlib.Core.Path.{◌≡◌, refl, sym, subst, ◌∙◌, ap}
 use mathlib.Core.Bool.{Bool, true, false}
 use mathlib.Core.List.{List, [], ◌∷◌, ◌++◌}
 use Prim.Native.Nat.{ℕ, zero, suc, ◌+◌, ◌≤◌, ◌<◌}
@@ -8,18 +9,25 @@ use native.Mathlib.Numerals.{add-one}
 use native.Mathlib.Omega.{arith}
 use borrow.Author.Tests.{lt-ltb, le-leb}
 use lib.Dec.{leb, ltb, leb→le, ltb→lt}
-use lib.ListN.{length, take, drop, get_or, length-drop}
-use lib.Seq.{slice, take-nil}
+use lib.ListN.{length, take, drop, get_or, get_or-eq_default, length-drop}
+use lib.Seq.{slice, take-nil, drop-drop}
+use Rattle.std.proofs.lemmas.Bool.Decides.{nat_tests}
 use Rattle.rules.specs.Outcome.{done, refused, by}
 use Rattle.rules.specs.Limits.{greatest_count}
 use Rattle.rules.specs.Lists.{Bytes}
+use Rattle.rules.specs.Values.{allowed}
 use Rattle.rules.specs.Table.{What, field, group, Entry, Field, fields_below, alone, part_of}
 use Rattle.rules.specs.Record.{Reader, times, counted, each, stored_value, stored_cell, stored_part}
 use Rattle.rules.proofs.Steps.{by_test, by_outcome, and_left, and_right, true_T}
 use Rattle.buffer.proofs.Cases.{by_order}
-use Rattle.tables.specs.Entries.{blank, group_number, format_at, format_number, size_of, is_multiple, is_periodic}
+use Rattle.value_formats.specs.declared.Format.{Format}
+use Rattle.values.proofs.Cuts.{cut_enough, cut_short}
+use Rattle.tables.specs.Entries.{blank, format_at, format_coded, field_format, is_group, size_of, is_multiple, is_periodic}
 use Rattle.tables.specs.Groups.{run_below, group_end, fields_in}
+use Rattle.tables.proofs.EntryBytes.{Sound}
+use Rattle.tables.proofs.EntryFields.{field_coded}
 use Rattle.tables.proofs.Nesting.{run_short}
+use Rattle.tables.proofs.Tables.{valid_most}
 use Rattle.records.specs.Counts.{has_count}
 use Rattle.records.specs.Walk.{rest_of, after_entry, occurrence, occurrences_counted, Kept}
 use Rattle.records.specs.Where.{field_of}
@@ -27,7 +35,6 @@ use Rattle.records.proofs.Walks.{each_turn, each_stop, count_missing, count_over
 use Rattle.records.proofs.Entries.{never}
 use Rattle.records.proofs.Passing.{below_on, below_end}
 use Rattle.records.proofs.Groups.{fields_more}
-use Rattle.records.proofs.EmptyEntries.{entry_field, entry_group}
 
 -- A count that stands there and is not over its limit: that many follow; else nothing is read.
 has_count_is : (b : Bytes) (at : ℕ) → at < length b → get_or b at 0 ≤ greatest_count → has_count b at ≡ true
@@ -55,18 +62,28 @@ pub each_single : {X Y : Type 0} (one : Y → Reader X) (y : Y) (bs : Bytes) →
 unfolding each
 each_single one y bs = by_outcome (rest_of (one y bs)) (λ cs h. each_turn one y [] bs h ∙ sym h) (λ k h. each_stop one y [] bs h ∙ sym h)
 
--- The cell of an entry by the numbers that the code has of it.
-module _ (n : ℕ) (w : What) (bs : Bytes) where
-  pub cell_of_field : (format_number w ≡ group_number → ⊥)
-      → rest_of (each stored_cell (field_of n w) bs) ≡ rest_of (counted (is_multiple w) (stored_value (format_at (format_number w)) (size_of w)) bs)
+-- The cell of an entry by what the code has of it.
+module _ (n : ℕ) (bs : Bytes) where
+  pub cell_of_field : (w : What) → is_group w ≡ false
+      → rest_of (each stored_cell (field_of n w) bs) ≡ rest_of (counted (is_multiple w) (stored_value (field_format w) (size_of w)) bs)
   unfolding field_of stored_cell
-  cell_of_field h =
-      ap (λ (v : What). rest_of (each stored_cell (field_of n v) bs)) (entry_field w h)
-      ∙ each_single stored_cell (record { name = n; format = format_at (format_number w); size = size_of w; multiple = is_multiple w }) bs
+  cell_of_field (field f s m) h = each_single stored_cell (record { name = n; format = f; size = s; multiple = m }) bs
+  cell_of_field (group p) h = absurd (never h refl)
 
-  pub cell_of_group : format_number w ≡ group_number → rest_of (each stored_cell (field_of n w) bs) ≡ done bs
+  pub cell_of_group : (w : What) → is_group w ≡ true → rest_of (each stored_cell (field_of n w) bs) ≡ done bs
   unfolding field_of each
-  cell_of_group h = ap (λ (v : What). rest_of (each stored_cell (field_of n v) bs)) (entry_group w h)
+  cell_of_group (field f s m) h = absurd (never refl h)
+  cell_of_group (group p) h = refl
+
+  pub cell_coded : (w : What) (f : Format) → format_coded w ≡ Some f
+      → rest_of (each stored_cell (field_of n w) bs) ≡ rest_of (counted (is_multiple w) (stored_value (format_at f) (size_of w)) bs)
+  cell_coded w f e =
+      let is = field_coded w f e in
+      cell_of_field w (ap is_group is) ∙ ap (λ g. rest_of (counted (is_multiple w) (stored_value g (size_of w)) bs)) (ap field_format is)
+
+-- A field's length is one that its format allows.
+pub coded_allowed : (l : ℕ) (w : What) (f : Format) → Sound l w → format_coded w ≡ Some f → allowed (format_at f) (size_of w) ≡ true
+coded_allowed l w f s e = subst (Sound l) (field_coded w f e) s
 
 -- What stands after an entry's part: a periodic group's occurrences, nothing of another entry inside one, and a field's cell.
 module _ (inside : Bool) (n : ℕ) (es : List Entry) (bs : Bytes) where
@@ -159,3 +176,12 @@ module _ (es : List Entry) (i : ℕ) where
 
   pub kept_none : is_periodic (get_or es i blank).what ≡ false → (n : ℕ) {b : Bytes} {at : ℕ} (kept : ℕ) (places : List ℕ) → Kept (occurrence es i) b at (occurrences_counted (get_or es i blank).what n) kept places places
   kept_none p n {b} {at} kept places = rw (rows_none (get_or es i blank).what n p) (record { long = refl; others = λ j l. refl; occurrences = λ k l. absurd (not-suc-le-zero l) })
+
+-- what a step over bytes cites
+pub ruleset cut_steps = (cut_enough, cut_short, length-drop, drop-drop)
+
+-- what the number after an entry's occurrences cites
+pub ruleset kept_steps = (rows_some, rows_none, rows_zero, get_or-eq_default)
+
+-- what bounds the numbers of a walk over an entry
+pub ruleset entry_bounds = (nat_tests, valid_most)

@@ -1,6 +1,10 @@
 -- A stored value, by where the first value lies and whether it is in normal form.
+use Rattle.std.specs.Prelude.{Err, None, Ok, Result, Some}
+use Rattle.std.specs.Result.{result_ok}
+use Rattle.std.proofs.lemmas.Option.{none-some, same_Some}
+use Rattle.std.specs.Bool.{then_some}
 use mathlib.Core.Path.{◌≡◌, refl, sym, ◌∙◌, ap}
-use mathlib.Core.Bool.{true, false}
+use mathlib.Core.Bool.{Bool, true, false}
 use mathlib.Core.List.{[], ◌∷◌}
 use Prim.Native.Nat.{ℕ, zero, suc, ◌+◌, ◌*◌, ◌-◌, ◌≤◌, ◌<◌}
 use native.Mathlib.Nat.{zero-mul}
@@ -17,18 +21,16 @@ use Rattle.rules.specs.declared.Refusal.{Refusal}
 use Rattle.buffer.proofs.Cases.{by_order}
 use Rattle.values.specs.Normals.{AnyNormal}
 use Rattle.values.specs.Places.{found, Located}
-use Rattle.values.specs.declared.FirstValue.{FirstValue}
-use Rattle.values.specs.declared.FirstValue.TheVariants.{Value, Refused}
 use Rattle.values.proofs.Cuts.{cut_enough, cut_short, first_own}
-use Rattle.records.specs.Walk.{rest_of}
+use Rattle.records.specs.Walk.{rest_of, Walked}
 use Rattle.records.proofs.Walks.{times_turn, times_stop}
 
 -- Where a first value was found, or that it was refused.
-pub first_at : {s : Bytes} {at : ℕ} {o : Outcome (Bytes × Bytes)} {r : FirstValue} {from next : ℕ} → Located s at o r → r ≡ Value from next
+pub first_at : {s : Bytes} {at : ℕ} {o : Outcome (Bytes × Bytes)} {r : (Result (ℕ × ℕ) Refusal)} {from next : ℕ} → Located s at o r → r ≡ Ok (from, next)
     → (o ≡ done (take (next - from) (drop from s), drop next s)) × (from ≤ next) × (next ≤ length s)
 first_at {s} {at} {o} {r} {from} {next} w q = (sym w.answer ∙ ap (found s) q, (rw q at w.place).1, (rw q at w.place).2)
 
-pub first_none : {s : Bytes} {at : ℕ} {o : Outcome (Bytes × Bytes)} {r : FirstValue} {x : Refusal} → Located s at o r → r ≡ Refused x → o ≡ refused (refusal x)
+pub first_none : {s : Bytes} {at : ℕ} {o : Outcome (Bytes × Bytes)} {r : (Result (ℕ × ℕ) Refusal)} {x : Refusal} → Located s at o r → r ≡ Err x → o ≡ refused (refusal x)
 first_none {s} {at} {o} {r} {x} w q = sym w.answer ∙ ap (found s) q
 
 module _ (f : Format) (n : ℕ) (bs : Bytes) where
@@ -44,6 +46,21 @@ module _ (f : Format) (n : ℕ) (bs : Bytes) where
     pub value_other : in_normal_form f n v ≡ false → rest_of (stored_value f n bs) ≡ refused (by 2)
     unfolding stored_value
     value_other q = rw (h, q) refl
+
+-- A step by where the first value lies, and by whether it is in normal form.
+pub value_walked : (f : Format) (n : ℕ) {s : Bytes} {at : ℕ} {r : (Result (ℕ × ℕ) Refusal)} {from next : ℕ} → Located s at (first_value n (drop at s)) r → r ≡ Ok (from, next)
+    → (t : Bool) → t ≡ in_normal_form f n (take (next - from) (drop from s)) → Walked s (rest_of (stored_value f n (drop at s))) (then_some t next)
+value_walked f n w q true e = let h = first_at w q in record { answer = sym (value_normal f n _ h.0 (sym e)); place = h.2 }
+value_walked f n w q false e = record { answer = sym (value_other f n _ (first_at w q).0 (sym e)); place = tt }
+
+pub value_stopped : (f : Format) (n : ℕ) {s : Bytes} {at : ℕ} (r : (Result (ℕ × ℕ) Refusal)) → Located s at (first_value n (drop at s)) r → result_ok r ≡ None
+    → Walked s (rest_of (stored_value f n (drop at s))) None
+value_stopped f n (Err x) w q = record { answer = sym (value_missing f n _ (first_none w refl)); place = tt }
+value_stopped f n (Ok p) w q = absurd (none-some p (sym q))
+
+pub ok_is : (r : (Result (ℕ × ℕ) Refusal)) {p : ℕ × ℕ} → result_ok r ≡ Some p → r ≡ Ok p
+ok_is (Ok p) q = ap Ok (same_Some p _ q)
+ok_is (Err x) q = absurd (none-some _ q)
 
 below_take : (n : ℕ) (bs : Bytes) → ((i : ℕ) → get_or bs i 0 < 256) → (i : ℕ) → get_or (take n bs) i 0 < 256
 below_take zero bs b i = omega arith

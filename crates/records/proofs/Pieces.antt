@@ -1,4 +1,5 @@
 -- Entries outside periodic groups stand one after the other: what stands from one on is its field's bytes, and then what stands from the next on.
+use Rattle.std.specs.Prelude.{Some}
 use mathlib.Core.Path.{◌≡◌, refl, sym, ◌∙◌, ap}
 use mathlib.Core.Bool.{Bool, true, false}
 use mathlib.Core.List.{List, [], ◌∷◌, ◌++◌, append_assoc, append-nil}
@@ -23,7 +24,6 @@ use Rattle.tables.proofs.Periodic.{inside_by}
 use Rattle.records.specs.Walk.{rest_of, bytes_left, after_entry, start_of}
 use Rattle.records.specs.Where.{field_of}
 use Rattle.records.specs.Places.{IsRecord, values_of, Outside, Celled, PieceOf}
-use Rattle.records.specs.declared.places.Extent.TheVariants.{At}
 use Rattle.records.proofs.Entries.{never}
 use Rattle.records.proofs.Cells.{counted_once}
 use Rattle.records.proofs.Ends.{each_single, after_outside}
@@ -110,7 +110,7 @@ module _ {es : List Entry} {b : Bytes} {places : List ℕ} {r : Record} (held : 
       ∙ rw (fields_first es blank first end less h, values_append es r 1 own (fields_in (slice (suc first) end es))) refl
 
   pub piece_stands : (first end : ℕ) → first ≤ end → end ≤ length es → Outside es first end → (p q : ℕ) → p ≤ length b → drop p b ≡ from first → q ≤ length b → drop q b ≡ from end
-      → PieceOf es b first end 1 r (At p q)
+      → PieceOf es b first end 1 r (Some (p, q))
   piece_stands first end o h out p q hp dp hq dq =
       let vs = values_of es r 1 (fields_in (slice first end es)) in
       let d : drop p b ≡ vs ++ drop q b = dp ∙ chain (end - first) first end (omega arith) h out ∙ ap (λ (bs : Bytes). vs ++ bs) (sym dq) in

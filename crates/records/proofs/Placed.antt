@@ -1,4 +1,5 @@
 -- The place of a group's count, of a cell and of a value in bytes that hold a record: what a look-up reads there is what stands from that place on.
+use Rattle.std.specs.Prelude.{None, Option, Some}
 use mathlib.Core.Path.{◌≡◌, refl, sym, ◌∙◌, ap}
 use mathlib.Core.Bool.{Bool, true, false}
 use mathlib.Core.List.{List, []}
@@ -16,18 +17,14 @@ use Rattle.rules.specs.Table.{What, field, group, Entry, Part, fields_below, nam
 use Rattle.rules.specs.Record.{Record, Occurrence, record_head, times, counted, each, stored_value, stored_cell, stored_part, stored, group_count_at, values_at, value_count_at}
 use Rattle.rules.proofs.Steps.{from_bind, from_need, nothing_eq, done_inj, not_done, true_T, by_outcome}
 use Rattle.buffer.proofs.Cases.{by_order}
-use Rattle.tables.specs.Entries.{blank, is_group, is_multiple, is_periodic, size_of, format_at, format_number}
+use Rattle.tables.specs.Entries.{blank, is_group, is_multiple, is_periodic, size_of, field_format}
 use Rattle.tables.specs.Places.{inside_at, Home}
 use Rattle.tables.specs.Groups.{group_end, field_by, field_at, fields_in}
-use Rattle.value_formats.proofs.Letters.{number_back}
 use Rattle.tables.proofs.EntryFields.{field_periodic}
 use Rattle.tables.proofs.Nesting.{run_levels}
 use Rattle.records.specs.Walk.{rest_of, Walked, Ends, firsts, directory, occurrence, Checked}
 use Rattle.records.specs.Where.{First, Deeper}
 use Rattle.records.specs.Places.{IsRecord, HasRecord, Entered, CellOf}
-use Rattle.records.specs.declared.Reach.TheVariants as S
-use Rattle.records.specs.declared.places.Cell.{Cell}
-use Rattle.records.specs.declared.places.Cell.TheVariants.{At, Nothing}
 use Rattle.records.proofs.Cells.{cell_many, byte_there, times_at}
 use Rattle.records.proofs.Entries.{never, differ_first}
 use Rattle.records.proofs.Ends.{group_fields, group_within, rows_some}
@@ -65,12 +62,12 @@ pub field_is : (es : List Entry) (i : ℕ) (f : Format) (s : ℕ) (mu : Bool) �
 unfolding field_at field_by
 field_is es i f s mu w = ap (field_by (get_or es i blank).name) w
 
--- The cell of an entry, by the numbers that the code has of it.
+-- The cell of an entry, by what the code has of it.
 pub cell_numbers : (es : List Entry) (i : ℕ) (bs : Bytes) → is_group (get_or es i blank).what ≡ false
     → stored_cell (field_at es i) bs
-    ≡ counted (is_multiple (get_or es i blank).what) (stored_value (format_at (format_number (get_or es i blank).what)) (size_of (get_or es i blank).what)) bs
+    ≡ counted (is_multiple (get_or es i blank).what) (stored_value (field_format (get_or es i blank).what) (size_of (get_or es i blank).what)) bs
 unfolding stored_cell
-cell_numbers es i bs h = by_field (get_or es i blank).what h λ f s mu w. rw (field_is es i f s mu w, w, number_back f) refl
+cell_numbers es i bs h = by_field (get_or es i blank).what h λ f s mu w. rw (field_is es i f s mu w, w) refl
 
 pub home_deeper : (es : List Entry) (i g : ℕ) → Home es i g → Deeper es blank g i
 home_deeper es i g home k p q =
@@ -99,7 +96,7 @@ module _ {es : List Entry} {b : Bytes} {places : List ℕ} {r : Record} (held : 
   own_name i h = differ_first es blank i h (true_T named)
 
   -- A field outside periodic groups has its one cell at its place.
-  pub cell_outside : (i o : ℕ) → i < length es → is_group (get_or es i blank).what ≡ false → inside_at es i ≡ false → o ≡ 1 → CellOf es b i o r (At (get_or places i 0))
+  pub cell_outside : (i o : ℕ) → i < length es → is_group (get_or es i blank).what ≡ false → inside_at es i ≡ false → o ≡ 1 → CellOf es b i o r (Some (get_or places i 0))
   unfolding parts
   cell_outside i o less what out one =
       body (parts es) b r held.stands λ rest h.
@@ -137,7 +134,7 @@ module _ {es : List Entry} {b : Bytes} {places : List ℕ} {r : Record} (held : 
 
     -- The occurrence that stands at p, and its fields up to an entry, come to an end.
     module _ (level : (get_or es g blank).level ≡ 1) (o : ℕ) (some : 1 ≤ o) (many : o ≤ group_count_at (parts es) r (get_or es g blank).name) (p : ℕ)
-        (row : Walked b (rest_of (times (o - 1) (occurrence es g) (drop (get_or places g 0 + 1) b))) (S.At p)) where
+        (row : Walked b (rest_of (times (o - 1) (occurrence es g) (drop (get_or places g 0 + 1) b))) (Some p)) where
       row_whole : Ends (rest_of (each stored_cell (fields_in (slice (g + 1) (group_end es g) es)) (drop p b)))
       unfolding occurrence parts
       row_whole = group_there λ os mid q.
@@ -154,7 +151,7 @@ module _ {es : List Entry} {b : Bytes} {places : List ℕ} {r : Record} (held : 
           ∙ rw (fields_split es blank (i - (g + 1)) (g + 1) i (group_end es g) (omega arith) m (group_within es g less).1) at row_whole.1)))
 
     pub row_kept : (k : ℕ) → k < get_or b (get_or places g 0) 0 → get_or places (firsts + g) 0 + k < directory
-        → Walked b (rest_of (times k (occurrence es g) (drop (get_or places g 0 + 1) b))) (S.At (get_or places (get_or places (firsts + g) 0 + k) 0))
+        → Walked b (rest_of (times k (occurrence es g) (drop (get_or places g 0 + 1) b))) (Some (get_or places (get_or places (firsts + g) 0 + k) 0))
     row_kept k some room = held.occurrences g less k (rw (rows_some (get_or es g blank).what (get_or b (get_or places g 0) 0) (ap is_periodic what)) some) room
 
   -- Entry i, a field in the periodic group that entry g is, in occurrence o.
@@ -185,7 +182,7 @@ module _ {es : List Entry} {b : Bytes} {places : List ℕ} {r : Record} (held : 
 
     -- What a walk over the fields before it finds, from the place of the occurrence on.
     module _ (many : o ≤ group_count_at (parts es) r (get_or es g blank).name) (p : ℕ)
-        (row : Walked b (rest_of (times (o - 1) (occurrence es g) (drop (get_or places g 0 + 1) b))) (S.At p)) where
+        (row : Walked b (rest_of (times (o - 1) (occurrence es g) (drop (get_or places g 0 + 1) b))) (Some p)) where
       row_there : {C : Type 0} → ((cell next : Bytes) → rest_of (each stored_cell (fields_in (slice (g + 1) i es)) (drop p b)) ≡ done cell
           → stored_cell (field_at es i) cell ≡ done (values_at (parts es) r (get_or es i blank).name o, next) → C) → C
       unfolding occurrence
@@ -193,15 +190,15 @@ module _ {es : List Entry} {b : Bytes} {places : List ℕ} {r : Record} (held : 
           let e : one ≡ drop p b = done_inj (sym h₁ ∙ sym row.answer) in
           k cell next (rw e at h₂) h₃
 
-      pub cell_stands : (q : ℕ) → Walked b (rest_of (each stored_cell (fields_in (slice (g + 1) i es)) (drop p b))) (S.At q) → CellOf es b i o r (At q)
+      pub cell_stands : (q : ℕ) → Walked b (rest_of (each stored_cell (fields_in (slice (g + 1) i es)) (drop p b))) (Some q) → CellOf es b i o r (Some q)
       cell_stands q w = row_there λ cell next h₁ h₂.
           let d : drop q b ≡ cell = done_inj (w.answer ∙ h₁) in
           (w.place, next, ap (stored_cell (field_at es i)) d ∙ h₂)
 
   -- What is found of a field in a periodic group is its cell.
-  pub cell_entered : (i g o : ℕ) → i < length es → is_group (get_or es i blank).what ≡ false → 1 ≤ o → Home es i g → (c : Cell) → Entered es b places g i o r c → CellOf es b i o r c
-  cell_entered i g o less what some home (At q) e = cell_stands i g o less what some home e.1.many e.0 e.1.row q e.1.before
-  cell_entered i g o less what some home Nothing e = cell_missing i g o less what some home e
+  pub cell_entered : (i g o : ℕ) → i < length es → is_group (get_or es i blank).what ≡ false → 1 ≤ o → Home es i g → (c : Option ℕ) → Entered es b places g i o r c → CellOf es b i o r c
+  cell_entered i g o less what some home (Some q) e = cell_stands i g o less what some home e.1.many e.0 e.1.row q e.1.before
+  cell_entered i g o less what some home None e = cell_missing i g o less what some home e
 
 -- An MU field is a field, and its count is the byte at its cell's place; 0 where it has no cell.
 by_multiple : {C : Type 0} (w : What) → is_multiple w ≡ true → ((f : Format) (s : ℕ) → w ≡ field f s true → C) → C
@@ -212,13 +209,13 @@ pub multiple_field : (w : What) → is_multiple w ≡ true → is_group w ≡ fa
 multiple_field w h = by_multiple w h λ f s e. ap is_group e
 
 module _ (es : List Entry) (b : Bytes) (i o : ℕ) (r : Record) where
-  pub values_counted : is_multiple (get_or es i blank).what ≡ true → (q : ℕ) → CellOf es b i o r (At q)
+  pub values_counted : is_multiple (get_or es i blank).what ≡ true → (q : ℕ) → CellOf es b i o r (Some q)
       → (q < length b) × (get_or b q 0 ≡ value_count_at (parts es) r (get_or es i blank).name o)
   unfolding value_count_at
   values_counted h q x = by_multiple (get_or es i blank).what h λ f s w.
       cell_many (get_or es i blank).name f s (drop q b) (rw (field_is es i f s true w) at x.2) λ tail e most t.
       let c = byte_there b q e in (c.0, c.1)
 
-  pub values_none : CellOf es b i o r Nothing → 0 ≡ value_count_at (parts es) r (get_or es i blank).name o
+  pub values_none : CellOf es b i o r None → 0 ≡ value_count_at (parts es) r (get_or es i blank).name o
   unfolding value_count_at
   values_none x = sym (ap length x)

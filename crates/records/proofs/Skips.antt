@@ -1,4 +1,5 @@
 -- Where values end that are known to stand at a place: a value is as long as its standard length, or as its length byte says.
+use Rattle.std.specs.Prelude.{Some}
 use mathlib.Core.Path.{◌≡◌, refl, sym, ◌∙◌, ap}
 use mathlib.Core.Bool.{Bool, true, false, not, ◌&&◌}
 use mathlib.Core.List.{List, [], ◌∷◌, ◌++◌}
@@ -19,7 +20,6 @@ use Rattle.rules.proofs.Steps.{done_inj, not_done, by_test, by_outcome}
 use Rattle.records.specs.Counts.{has_count}
 use Rattle.records.specs.Walk.{rest_of, Walked, Ends}
 use Rattle.records.specs.Paths.{lengths}
-use Rattle.records.specs.declared.Reach.TheVariants.{At}
 use Rattle.records.proofs.Entries.{never}
 use Rattle.records.proofs.Walks.{walked_as, times_turn, times_stop, each_turn, each_stop, not_counted}
 use Rattle.records.proofs.Ends.{count_some, count_there, count_none}
@@ -50,7 +50,7 @@ module _ {X : Type 0} (one : Reader X) where
 
 -- A value of w bytes.
 value_walked : (f : Format) (size : ℕ) (b : Bytes) (p w : ℕ) → p ≤ length b → Ends (rest_of (stored_value f size (drop p b)))
-    → ((v rest : Bytes) → stored_value f size (drop p b) ≡ done (v, rest) → length v ≡ w) → Walked b (rest_of (stored_value f size (drop p b))) (At (p + w))
+    → ((v rest : Bytes) → stored_value f size (drop p b) ≡ done (v, rest) → length v ≡ w) → Walked b (rest_of (stored_value f size (drop p b))) (Some (p + w))
 value_walked f size b p w h e long = from_rest (stored_value f size (drop p b)) e.1 λ v q.
     value_first f size (drop p b) q λ c h₁ t e₁ i s.
     let l = long v e.0 q in
@@ -66,7 +66,7 @@ counted_byte f b p v rest q k = value_first f 0 (drop p b) q λ c h t e i s.
     let x = byte_there b p (s ∙ ap (λ (u : Bytes). u ++ rest) e) in k x.0 (ap length e ∙ sym x.1)
 
 pub value_skipped : (f : Format) (size : ℕ) → size ≤ 0 → (b : Bytes) (p : ℕ) → p ≤ length b → Ends (rest_of (stored_value f size (drop p b)))
-    → (p < length b) × Walked b (rest_of (stored_value f size (drop p b))) (At (p + get_or b p 0))
+    → (p < length b) × Walked b (rest_of (stored_value f size (drop p b))) (Some (p + get_or b p 0))
 value_skipped f zero none b p h e = (
   from_rest (stored_value f 0 (drop p b)) e.1 λ v q. counted_byte f b p v e.0 q λ i l. i,
   value_walked f 0 b p (get_or b p 0) h e (λ v rest q. counted_byte f b p v rest q λ i l. l),
@@ -75,7 +75,7 @@ value_skipped f (suc m) none b p h e = absurd (not-suc-le-zero none)
 
 -- So many values of a standard length.
 pub values_skipped : (f : Format) (size : ℕ) → 0 < size → (n : ℕ) (b : Bytes) (p : ℕ) → p ≤ length b → Ends (rest_of (times n (stored_value f size) (drop p b)))
-    → Walked b (rest_of (times n (stored_value f size) (drop p b))) (At (p + n * size))
+    → Walked b (rest_of (times n (stored_value f size) (drop p b))) (Some (p + n * size))
 unfolding times
 values_skipped f zero less n b p h e = absurd (not-suc-le-zero less)
 values_skipped f (suc m) less zero b p h e = rw (zero-mul (suc m), add-zero p) (record { answer = refl; place = h })
@@ -87,7 +87,7 @@ values_skipped f (suc m) less (suc n) b p h e =
     rw z (walked_as t (values_skipped f (suc m) less n b (p + suc m) w.place (e.0, sym t ∙ e.1)))
 
 sized_walked : (f : Format) (size : ℕ) → 1 ≤ size → (b : Bytes) (p : ℕ) → p ≤ length b → Ends (rest_of (stored_value f size (drop p b)))
-    → Walked b (rest_of (stored_value f size (drop p b))) (At (p + size))
+    → Walked b (rest_of (stored_value f size (drop p b))) (Some (p + size))
 sized_walked f zero some b p h e = absurd (not-suc-le-zero some)
 sized_walked f (suc m) some b p h e = value_walked f (suc m) b p (suc m) h e (λ v rest q. value_length f m (drop p b) q)
 
@@ -101,7 +101,7 @@ cell_once true one b p h = absurd (never h refl)
 cell_once false one b p h = not_counted one b p
 
 pub fields_skipped : (fs : List Field) → all plain fs ≡ true → (b : Bytes) (p : ℕ) → p ≤ length b → Ends (rest_of (each stored_cell fs (drop p b)))
-    → Walked b (rest_of (each stored_cell fs (drop p b))) (At (p + lengths fs))
+    → Walked b (rest_of (each stored_cell fs (drop p b))) (Some (p + lengths fs))
 unfolding each all plain lengths stored_cell
 fields_skipped [] t b p h e = rw (add-zero p) (record { answer = refl; place = h })
 fields_skipped (f ∷ fs) t b p h e = plain_both f.multiple f.size (all plain fs) t λ mu size more.

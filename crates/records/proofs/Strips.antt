@@ -1,4 +1,5 @@
 -- Plain fields in an occurrence of a periodic group stand one after the other: from each on stand its bytes, and then, its length further, the next.
+use Rattle.std.specs.Prelude.{Some}
 use mathlib.Core.Path.{◌≡◌, refl, sym, ◌∙◌, ap}
 use mathlib.Core.Bool.{true}
 use mathlib.Core.List.{List, [], ◌∷◌, ◌++◌, append_assoc, append-nil}
@@ -22,8 +23,6 @@ use Rattle.records.specs.Walk.{rest_of, Walked, occurrence}
 use Rattle.records.specs.Where.{field_of}
 use Rattle.records.specs.Paths.{lengths}
 use Rattle.records.specs.Places.{IsRecord, values_of, Celled, Valueless, PieceOf}
-use Rattle.records.specs.declared.Reach.TheVariants as S
-use Rattle.records.specs.declared.places.Extent.TheVariants.{At}
 use Rattle.records.proofs.Walks.{walked_as}
 use Rattle.records.proofs.Checking.{each_on}
 use Rattle.records.proofs.Ends.{each_single, group_within}
@@ -38,8 +37,8 @@ abbrev own : List Entry → ℕ → List Field
 own es i = field_of (get_or es i blank).name (get_or es i blank).what
 
 -- A walk that stands after the fields before an entry stands next after its own.
-walked_next : (es : List Entry) (i g : ℕ) (b bs : Bytes) (q w : ℕ) → g < i → i < length es → Walked b (rest_of (each stored_cell (fields_in (slice (g + 1) i es)) bs)) (S.At q)
-    → Walked b (rest_of (each stored_cell (own es i) (drop q b))) (S.At w) → Walked b (rest_of (each stored_cell (fields_in (slice (g + 1) (suc i) es)) bs)) (S.At w)
+walked_next : (es : List Entry) (i g : ℕ) (b bs : Bytes) (q w : ℕ) → g < i → i < length es → Walked b (rest_of (each stored_cell (fields_in (slice (g + 1) i es)) bs)) (Some q)
+    → Walked b (rest_of (each stored_cell (own es i) (drop q b))) (Some w) → Walked b (rest_of (each stored_cell (fields_in (slice (g + 1) (suc i) es)) bs)) (Some w)
 unfolding fields_in
 walked_next es i g b bs q w k less p n =
     let single : fields_in (slice i (suc i) es) ≡ own es i = fields_first es blank i (suc i) (omega arith) less ∙ rw (slice_empty (suc i) es) (append-nil (own es i)) in
@@ -68,14 +67,14 @@ module _ (t : Bytes) (valid : Valid t) {b : Bytes} {places : List ℕ} {r : Reco
       cell_missing held (valid_names t valid) j g o (omega (arith, (group_within es g there).1)) single some (home_in j (omega arith) (omega arith)) few
 
   module _ (many : o ≤ group_count_at (parts es) r (get_or es g blank).name) (p : ℕ)
-      (row : Walked b (rest_of (times (o - 1) (occurrence es g) (drop (get_or places g 0 + 1) b))) (S.At p)) where
+      (row : Walked b (rest_of (times (o - 1) (occurrence es g) (drop (get_or places g 0 + 1) b))) (Some p)) where
     -- An entry's own bytes, and what stands after them.
     record Next (q : ℕ) (fs : List Field) : Type 0 where
-      place : Walked b (rest_of (each stored_cell fs (drop q b))) (S.At (q + lengths fs))
+      place : Walked b (rest_of (each stored_cell fs (drop q b))) (Some (q + lengths fs))
       bytes : drop q b ≡ values_of es r o fs ++ drop (q + lengths fs) b
 
     step_in : (j q : ℕ) → g < j → j < group_end es g → (w : What) → (get_or es j blank).what ≡ w → all plain (field_of (get_or es j blank).name w) ≡ true
-        → Walked b (rest_of (each stored_cell (fields_in (slice (g + 1) j es)) (drop p b))) (S.At q) → Next q (field_of (get_or es j blank).name w)
+        → Walked b (rest_of (each stored_cell (fields_in (slice (g + 1) j es)) (drop p b))) (Some q) → Next q (field_of (get_or es j blank).name w)
     unfolding values_of field_of lengths each all plain stored_cell
     step_in j q l m (group x) e h before =
         let z : q + 0 ≡ q = add-zero q in
@@ -94,7 +93,7 @@ module _ (t : Bytes) (valid : Valid t) {b : Bytes} {places : List ℕ} {r : Reco
         }
 
     chain_in : (n first end q : ℕ) → first + n ≡ end → g < first → end ≤ group_end es g → all plain (fields_in (slice first end es)) ≡ true
-        → Walked b (rest_of (each stored_cell (fields_in (slice (g + 1) first es)) (drop p b))) (S.At q)
+        → Walked b (rest_of (each stored_cell (fields_in (slice (g + 1) first es)) (drop p b))) (Some q)
         → (q + lengths (fields_in (slice first end es)) ≤ length b)
         × (drop q b ≡ values_of es r o (fields_in (slice first end es)) ++ drop (q + lengths (fields_in (slice first end es))) b)
     unfolding fields_in values_of lengths
@@ -114,7 +113,7 @@ module _ (t : Bytes) (valid : Valid t) {b : Bytes} {places : List ℕ} {r : Reco
         (y.0, x.bytes ∙ ap (λ (bs : Bytes). values_of es r o fs ++ bs) y.1 ∙ sym (append_assoc (values_of es r o fs) (values_of es r o gs) (drop (q + lengths fs + lengths gs) b)))
 
     pub piece_in : (first end q : ℕ) → first ≤ end → g < first → end ≤ group_end es g → all plain (fields_in (slice first end es)) ≡ true
-        → Walked b (rest_of (each stored_cell (fields_in (slice (g + 1) first es)) (drop p b))) (S.At q) → PieceOf es b first end o r (At q (q + lengths (fields_in (slice first end es))))
+        → Walked b (rest_of (each stored_cell (fields_in (slice (g + 1) first es)) (drop p b))) (Some q) → PieceOf es b first end o r (Some (q, (q + lengths (fields_in (slice first end es)))))
     piece_in first end q l k h c before =
         let w = lengths (fields_in (slice first end es)) in
         let vs = values_of es r o (fields_in (slice first end es)) in

@@ -1,4 +1,5 @@
 -- Loops over a record's bytes, for a reader n times and for the fields among entries: what is left ends where the whole does.
+use Rattle.std.specs.Prelude.{None, Option, Some}
 use mathlib.Core.Path.{◌≡◌, refl, sym, ◌∙◌, ap, subst}
 use mathlib.Core.List.{List, [], ◌∷◌}
 use Prim.Native.Nat.{ℕ, zero, suc, ◌+◌, ◌-◌, ◌≤◌, ◌<◌}
@@ -16,8 +17,6 @@ use Rattle.buffer.proofs.Cases.{by_order}
 use Rattle.records.specs.Walk.{rest_of, Walked, Ends, directory, Kept}
 use Rattle.records.specs.Where.{field_of}
 use Rattle.tables.specs.Groups.{fields_in}
-use Rattle.records.specs.declared.Reach.{Reach}
-use Rattle.records.specs.declared.Reach.TheVariants.{At, Bad}
 use Rattle.records.proofs.Walks.{walked_at, walked_bad, times_stop, times_more, turn_at, turn_bad, turns_over}
 use Rattle.records.proofs.Checking.{each_on, each_off}
 use Rattle.records.proofs.Groups.{fields_first}
@@ -33,14 +32,14 @@ pub repeating : {X : Type 0} (one : Reader X) (b : Bytes) (n p : ℕ) → p ≤ 
 repeating one b n p h = record { upto = omega arith; place = h; rest = rw (sub-zero n) refl }
 
 module _ {X : Type 0} {one : Reader X} {b : Bytes} {whole : Outcome Bytes} {n i p : ℕ} (l : Repeating one b whole n i p) where
-  module _ (less : i < n) {r : Reach} (w : Walked b (rest_of (one (drop p b))) r) where
-    pub repeat_on : {e : ℕ} → r ≡ At e → Repeating one b whole n (i + 1) e
+  module _ (less : i < n) {r : (Option ℕ)} (w : Walked b (rest_of (one (drop p b))) r) where
+    pub repeat_on : {e : ℕ} → r ≡ Some e → Repeating one b whole n (i + 1) e
     repeat_on {e} q = let h = walked_at w q in record { upto = omega arith; place = h.1; rest = turn_at one b n i p less l.rest e h.0 }
 
-    pub repeat_off : r ≡ Bad → Walked b whole Bad
+    pub repeat_off : r ≡ None → Walked b whole None
     repeat_off q = record { answer = turn_bad one b n i p less l.rest (walked_bad w q); place = tt }
 
-  pub repeated : n ≤ i → Walked b whole (At p)
+  pub repeated : n ≤ i → Walked b whole (Some p)
   repeated h = record { answer = turns_over one b n i p h l.rest; place = l.place }
 
   -- A reader that comes to an end n times does so the next time.
@@ -59,7 +58,7 @@ unfolding times
 keeping one b at kept places = record { here = refl; far = record { long = refl; others = λ j l. refl; occurrences = λ k l. absurd (not-suc-le-zero l) } }
 
 pub keep_on : {X : Type 0} {one : Reader X} {b : Bytes} {at kept : ℕ} {before after : List ℕ} {i p : ℕ} → Keeping one b at kept before after i p → length before ≡ directory → p ≤ length b
-    → {r : Reach} → Walked b (rest_of (one (drop p b))) r → {e : ℕ} → r ≡ At e → Keeping one b at kept before (set after (kept + i) p) (i + 1) e
+    → {r : (Option ℕ)} → Walked b (rest_of (one (drop p b))) r → {e : ℕ} → r ≡ Some e → Keeping one b at kept before (set after (kept + i) p) (i + 1) e
 keep_on {X} {one} {b} {at} {kept} {before} {after} {i} {p} l room h w {e} q = record {
   here = rw add-one (times_more one i (drop at b) l.here (walked_at w q).0);
   far = record {
@@ -90,8 +89,8 @@ pub among : (es : List Entry) (b : Bytes) (j i p : ℕ) → i ≤ j → p ≤ le
 among es b j i p h k = record { upto = h; place = k; rest = refl }
 
 module _ {es : List Entry} {b : Bytes} {whole : Outcome Bytes} {j i p : ℕ} (l : Among es b whole j i p) where
-  module _ (d : Entry) (less : i < j) (most : j ≤ length es) {r : Reach} (w : Walked b (rest_of (each stored_cell (field_of (get_or es i d).name (get_or es i d).what) (drop p b))) r) where
-    pub among_on : {e : ℕ} → r ≡ At e → Among es b whole j (i + 1) e
+  module _ (d : Entry) (less : i < j) (most : j ≤ length es) {r : (Option ℕ)} (w : Walked b (rest_of (each stored_cell (field_of (get_or es i d).name (get_or es i d).what) (drop p b))) r) where
+    pub among_on : {e : ℕ} → r ≡ Some e → Among es b whole j (i + 1) e
     among_on {e} q =
         let h = walked_at w q in
         record {
@@ -102,7 +101,7 @@ module _ {es : List Entry} {b : Bytes} {whole : Outcome Bytes} {j i p : ℕ} (l 
               ∙ rw (fields_first es d i j less most) at l.rest);
         }
 
-    pub among_off : r ≡ Bad → Walked b whole Bad
+    pub among_off : r ≡ None → Walked b whole None
     among_off q = record {
       answer =
           sym (each_off stored_cell (fields_in (slice (suc i) j es)) (field_of (get_or es i d).name (get_or es i d).what) (drop p b) (by 2) (walked_bad w q))
@@ -116,5 +115,10 @@ module _ {es : List Entry} {b : Bytes} {whole : Outcome Bytes} {j i p : ℕ} (l 
       (λ k h. absurd (not_done (sym (each_off stored_cell (fields_in (slice (suc i) j es)) (field_of (get_or es i d).name (get_or es i d).what) (drop p b) k h)
       ∙ rw (fields_first es d i j less most) at l.rest ∙ e.1)))
 
-  pub among_all : j ≤ i → Walked b whole (At p)
+  pub among_all : j ≤ i → Walked b whole (Some p)
   among_all h = let e : i ≡ j = omega (arith, l.upto) in record { answer = sym (between_over es j (drop p b)) ∙ rw e at l.rest; place = l.place }
+
+-- what loops over values, occurrences and members cite
+pub ruleset repeat_steps = (repeating, repeat_on, repeat_off, repeat_there, repeated)
+
+pub ruleset among_steps = (among, among_on, among_off, among_there, among_all)

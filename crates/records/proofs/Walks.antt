@@ -1,4 +1,5 @@
 -- A step of a walk: how `times` and `each` go on from what one reader leaves, and how they stop, the values forgotten.
+use Rattle.std.specs.Prelude.{None, Option, Some}
 use mathlib.Core.Path.{◌≡◌, refl, sym, ◌∙◌, ap}
 use mathlib.Core.Bool.{true, false}
 use mathlib.Core.List.{List, [], ◌∷◌}
@@ -13,21 +14,19 @@ use Rattle.rules.specs.Lists.{Bytes}
 use Rattle.rules.specs.Record.{Reader, times, each, stored_count, counted}
 use Rattle.rules.proofs.Steps.{done_inj, not_done, by_outcome}
 use Rattle.records.specs.Walk.{rest_of, seen, Walked}
-use Rattle.records.specs.declared.Reach.{Reach}
-use Rattle.records.specs.declared.Reach.TheVariants.{At, Bad}
 
 -- What a call that walked says, once its answer is known.
-pub walked_at : {b : Bytes} {o : Outcome Bytes} {r : Reach} {e : ℕ} → Walked b o r → r ≡ At e → (o ≡ done (drop e b)) × (e ≤ length b)
+pub walked_at : {b : Bytes} {o : Outcome Bytes} {r : (Option ℕ)} {e : ℕ} → Walked b o r → r ≡ Some e → (o ≡ done (drop e b)) × (e ≤ length b)
 walked_at {b} {o} {r} {e} w q = (sym w.answer ∙ ap (seen b) q, rw q at w.place)
 
-pub walked_bad : {b : Bytes} {o : Outcome Bytes} {r : Reach} → Walked b o r → r ≡ Bad → o ≡ refused (by 2)
+pub walked_bad : {b : Bytes} {o : Outcome Bytes} {r : (Option ℕ)} → Walked b o r → r ≡ None → o ≡ refused (by 2)
 walked_bad {b} {o} {r} w q = sym w.answer ∙ ap (seen b) q
 
-pub not_at : {e : ℕ} → Bad ≡ At e → ⊥
+pub not_at : {e : ℕ} → None ≡ Some e → ⊥
 not_at {e} q = not_done (ap (seen []) q)
 
 -- The same step, of an outcome said otherwise.
-pub walked_as : {b : Bytes} {o o' : Outcome Bytes} {r : Reach} → o' ≡ o → Walked b o r → Walked b o' r
+pub walked_as : {b : Bytes} {o o' : Outcome Bytes} {r : (Option ℕ)} → o' ≡ o → Walked b o r → Walked b o' r
 walked_as q w = record { answer = w.answer ∙ sym q; place = w.place }
 
 -- Forgetting what was taken goes past what is done with it.

@@ -1,12 +1,10 @@
 -- How a field is reached: the periodic group that it lies in, and how many bytes the fields before it there have.
-use Rattle.std.specs.Prelude.{◌≡◌, true, false, List, [], ◌∷◌, ℕ, ◌+◌, ◌≤◌}
+use Rattle.std.specs.Prelude.{◌≡◌, true, false, List, [], ◌∷◌, ℕ, ◌+◌, ◌≤◌, None, Option, Some}
 use Rattle.std.proofs.Math.Seq.{slice}
 use Rattle.rules.specs.Lists.{all}
 use Rattle.rules.specs.Table.{Entry, Field}
 use Rattle.rules.specs.Use.{plain}
 use Rattle.tables.specs.Places.{inside_at, Home}
-use Rattle.tables.specs.declared.Found.{Found}
-use Rattle.tables.specs.declared.Found.TheVariants.{At, Nothing}
 use Rattle.tables.specs.Groups.{fields_in}
 use Rattle.records.specs.declared.paths.Path.{Path}
 
@@ -20,9 +18,9 @@ pub record Wide (fs : List Field) (w : ℕ) : Type 0 where
   pub plains : all plain fs ≡ true
   pub width : w ≡ lengths fs
 
-abbrev pub Width : List Field → ℕ → Found → Type 0
-Width fs most (At w) = Wide fs w × (w ≤ most)
-Width fs most Nothing = all plain fs ≡ false
+abbrev pub Width : List Field → ℕ → Option ℕ → Type 0
+Width fs most (Some w) = Wide fs w × (w ≤ most)
+Width fs most None = all plain fs ≡ false
 
 -- A way leads to its entry.
 pub record Leads (es : List Entry) (p : Path) : Type 0 where

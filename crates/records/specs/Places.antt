@@ -1,5 +1,5 @@
 -- Where the values of a stored record lie, by the place of each entry's part.
-use Rattle.std.specs.Prelude.{◌≡◌, true, false, List, [], ◌∷◌, ◌++◌, ℕ, ◌+◌, ◌*◌, ◌-◌, ◌≤◌, ◌<◌, length, take, drop, get_or}
+use Rattle.std.specs.Prelude.{◌≡◌, true, false, List, [], ◌∷◌, ◌++◌, ℕ, ◌+◌, ◌*◌, ◌-◌, ◌≤◌, ◌<◌, length, take, drop, get_or, None, Option, Some}
 use Rattle.std.proofs.Math.Seq.{slice}
 use Rattle.rules.specs.Outcome.{done}
 use Rattle.rules.specs.Limits.{count_size}
@@ -11,11 +11,6 @@ use Rattle.tables.specs.Entries.{blank, is_group, is_multiple, what_at}
 use Rattle.tables.specs.Groups.{group_end, field_at, fields_in}
 use Rattle.tables.specs.Places.{inside_at}
 use Rattle.records.specs.Walk.{rest_of, Walked, occurrence, Starts, OccurrencesKept}
-use Rattle.records.specs.declared.Reach.TheVariants as Reach
-use Rattle.records.specs.declared.places.Cell.{Cell}
-use Rattle.records.specs.declared.places.Cell.TheVariants.{At, Nothing}
-use Rattle.records.specs.declared.places.Extent.{Extent}
-use Rattle.records.specs.declared.places.Extent.TheVariants.{At as Lies, Nothing as Absent}
 use Rattle.records.specs.Paths.{Leads, Wide}
 use Rattle.records.specs.declared.paths.Path.{Path}
 
@@ -48,16 +43,16 @@ HasOccurrences es b places g width o n =
 -- Entry i's place in occurrence o of the periodic group that entry g is: the occurrence stands at p, and there the fields before the entry.
 pub record EntryAt (es : List Entry) (b : Bytes) (places : List ℕ) (g i o : ℕ) (r : Record) (p q : ℕ) : Type 0 where
   pub many : o ≤ group_count_at (parts es) r (get_or es g blank).name
-  pub row : Walked b (rest_of (times (o - 1) (occurrence es g) (drop (get_or places g 0 + count_size) b))) (Reach.At p)
-  pub before : Walked b (rest_of (each stored_cell (fields_in (slice (g + 1) i es)) (drop p b))) (Reach.At q)
+  pub row : Walked b (rest_of (times (o - 1) (occurrence es g) (drop (get_or places g 0 + count_size) b))) (Some p)
+  pub before : Walked b (rest_of (each stored_cell (fields_in (slice (g + 1) i es)) (drop p b))) (Some q)
 
 -- The same of the code's answer: or there is no such occurrence.
-abbrev pub Entered : List Entry → Bytes → List ℕ → ℕ → ℕ → ℕ → Record → Cell → Type 0
-Entered es b places g i o r (At q) = (p : ℕ) × EntryAt es b places g i o r p q
-Entered es b places g i o r Nothing = group_count_at (parts es) r (get_or es g blank).name < o
+abbrev pub Entered : List Entry → Bytes → List ℕ → ℕ → ℕ → ℕ → Record → Option ℕ → Type 0
+Entered es b places g i o r (Some q) = (p : ℕ) × EntryAt es b places g i o r p q
+Entered es b places g i o r None = group_count_at (parts es) r (get_or es g blank).name < o
 
 -- The same of an entry among the members of that group.
-pub record MemberEntered (es : List Entry) (b : Bytes) (places : List ℕ) (g i o : ℕ) (r : Record) (c : Cell) : Type 0 where
+pub record MemberEntered (es : List Entry) (b : Bytes) (places : List ℕ) (g i o : ℕ) (r : Record) (c : Option ℕ) : Type 0 where
   pub held : IsRecord es b places r
   pub periodic : what_at es g ≡ group true
   pub after : g < i
@@ -66,9 +61,9 @@ pub record MemberEntered (es : List Entry) (b : Bytes) (places : List ℕ) (g i 
   pub entered : Entered es b places g i o r c
 
 -- The cell of entry i in occurrence o of a record: from a place on, or there is none.
-abbrev pub CellOf : List Entry → Bytes → ℕ → ℕ → Record → Cell → Type 0
-CellOf es b i o r (At q) = (q ≤ length b) × (rest : Bytes) × (stored_cell (field_at es i) (drop q b) ≡ done (values_at (parts es) r (get_or es i blank).name o, rest))
-CellOf es b i o r Nothing = values_at (parts es) r (get_or es i blank).name o ≡ []
+abbrev pub CellOf : List Entry → Bytes → ℕ → ℕ → Record → Option ℕ → Type 0
+CellOf es b i o r (Some q) = (q ≤ length b) × (rest : Bytes) × (stored_cell (field_at es i) (drop q b) ≡ done (values_at (parts es) r (get_or es i blank).name o, rest))
+CellOf es b i o r None = values_at (parts es) r (get_or es i blank).name o ≡ []
 
 -- The content of a value v, without its length byte: between two places, and so long as its format allows.
 pub record ContentOf (f : Format) (size : ℕ) (b v : Bytes) (from upto : ℕ) : Type 0 where
@@ -96,10 +91,10 @@ abbrev pub Valueless : List Entry → ℕ → ℕ → ℕ → Record → Type 0
 Valueless es first end o r = (j : ℕ) → first ≤ j → j < end → is_group (what_at es j) ≡ false → values_at (parts es) r (get_or es j blank).name o ≡ []
 
 -- The piece of a record that those fields are; or they lie in a periodic group, and there is no such occurrence.
-abbrev pub PieceOf : List Entry → Bytes → ℕ → ℕ → ℕ → Record → Extent → Type 0
-PieceOf es b first end o r (Lies from upto) =
+abbrev pub PieceOf : List Entry → Bytes → ℕ → ℕ → ℕ → Record → Option (ℕ × ℕ) → Type 0
+PieceOf es b first end o r (Some (from, upto)) =
     (from ≤ upto) × (upto ≤ length b) × (take (upto - from) (drop from b) ≡ values_of es r o (fields_in (slice first end es))) × Celled es first end o r
-PieceOf es b first end o r Absent = (inside_at es first ≡ true) × Valueless es first end o r
+PieceOf es b first end o r None = (inside_at es first ≡ true) × Valueless es first end o r
 
 -- n occurrences of the periodic group that entry g is, from occurrence o on, stand one after the other from a place on, each `width` bytes wide.
 pub record OccurrencesOf (es : List Entry) (b : Bytes) (g o n width : ℕ) (r : Record) (from : ℕ) : Type 0 where

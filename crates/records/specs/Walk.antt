@@ -1,5 +1,5 @@
 -- Where a walk over a record's bytes stands, in the words of the readers of `rules`.
-use Rattle.std.specs.Prelude.{◌≡◌, Bool, true, false, cond, ◌&&◌, List, [], ◌∷◌, ℕ, zero, suc, ◌+◌, ◌*◌, ◌≤◌, ◌<◌, leb, length, take, drop, get_or}
+use Rattle.std.specs.Prelude.{◌≡◌, Bool, true, false, cond, ◌&&◌, List, [], ◌∷◌, ℕ, zero, suc, ◌+◌, ◌*◌, ◌≤◌, ◌<◌, leb, length, take, drop, get_or, None, Option, Some}
 use Rattle.std.proofs.Math.Seq.{slice}
 use Rattle.rules.specs.Outcome.{Outcome, done, refused, by, is_done}
 use Rattle.rules.specs.Limits.{most_entries, longest_record, record_head_size, count_size}
@@ -9,17 +9,15 @@ use Rattle.rules.specs.Record.{Occurrence, Reader, record_head, times, each, sto
 use Rattle.tables.specs.Entries.{is_periodic, what_at, blank}
 use Rattle.tables.specs.Groups.{group_end, fields_in}
 use Rattle.records.specs.Counts.{count_at}
-use Rattle.records.specs.declared.Reach.{Reach}
-use Rattle.records.specs.declared.Reach.TheVariants.{At, Bad}
 
 -- The bytes from a place on; or refusal 2.
-abbrev pub seen : Bytes → Reach → Outcome Bytes
-seen b (At e) = done (drop e b)
-seen b Bad = refused (by 2)
+abbrev pub seen : Bytes → Option ℕ → Outcome Bytes
+seen b (Some e) = done (drop e b)
+seen b None = refused (by 2)
 
-abbrev pub walk_place : Bytes → Reach → Type 0
-walk_place b (At e) = e ≤ length b
-walk_place b Bad = Unit {0}
+abbrev pub walk_place : Bytes → Option ℕ → Type 0
+walk_place b (Some e) = e ≤ length b
+walk_place b None = Unit {0}
 
 -- What a reader leaves, without what it took.
 abbrev pub rest_of : {X : Type 0} → Outcome (X × Bytes) → Outcome Bytes
@@ -27,7 +25,7 @@ rest_of (done x) = done x.1
 rest_of (refused n) = refused n
 
 -- A step that stands where a reader leaves off.
-pub record Walked (b : Bytes) (o : Outcome Bytes) (r : Reach) : Type 0 where
+pub record Walked (b : Bytes) (o : Outcome Bytes) (r : Option ℕ) : Type 0 where
   pub answer : seen b r ≡ o
   pub place : walk_place b r
 
@@ -36,7 +34,7 @@ abbrev pub Ends : Outcome Bytes → Type 0
 Ends o = (rest : Bytes) × (o ≡ done rest)
 
 abbrev pub EndsAt : Bytes → Outcome Bytes → ℕ → Type 0
-EndsAt b o r = Ends o → Walked b o (At r)
+EndsAt b o r = Ends o → Walked b o (Some r)
 
 -- The bytes that are left, none where they are refused.
 abbrev pub bytes_left : Outcome Bytes → Bytes
@@ -90,14 +88,14 @@ occurrences_counted w n = cond (is_periodic w) n 0
 pub record Kept {X : Type 0} (one : Reader X) (b : Bytes) (at n kept : ℕ) (before after : List ℕ) : Type 0 where
   pub long : length after ≡ length before
   pub others : (j : ℕ) → j < kept → get_or after j 0 ≡ get_or before j 0
-  pub occurrences : (k : ℕ) → k < n → kept + k < directory → Walked b (rest_of (times k one (drop at b))) (At (get_or after (kept + k) 0))
+  pub occurrences : (k : ℕ) → k < n → kept + k < directory → Walked b (rest_of (times k one (drop at b))) (Some (get_or after (kept + k) 0))
 
 -- The same of a walk that comes to its end.
-abbrev pub Keeps : {X : Type 0} → Reader X → Bytes → ℕ → ℕ → ℕ → List ℕ → List ℕ → Reach → Type 0
-Keeps one b at n kept before after r = (e : ℕ) → r ≡ At e → Kept one b at n kept before after
+abbrev pub Keeps : {X : Type 0} → Reader X → Bytes → ℕ → ℕ → ℕ → List ℕ → List ℕ → Option ℕ → Type 0
+Keeps one b at n kept before after r = (e : ℕ) → r ≡ Some e → Kept one b at n kept before after
 
 -- A walk over the part that entry i begins, if it begins one, from a place on: where it stands then, and what it keeps of the occurrences.
-abbrev pub WalksEntry : List Entry → Bytes → Bool → ℕ → ℕ → ℕ → List ℕ → List ℕ → Reach → Type 0
+abbrev pub WalksEntry : List Entry → Bytes → Bool → ℕ → ℕ → ℕ → List ℕ → List ℕ → Option ℕ → Type 0
 WalksEntry es b inside i at kept before after r =
     Walked b (after_entry inside (get_or es i blank) (drop (suc i) es) (drop at b)) r
     × Keeps (occurrence es i) b (at + count_size) (occurrences_counted (what_at es i) (count_at b at)) kept before after r
@@ -109,7 +107,7 @@ Starts es b places j = (get_or places j 0 ≤ length b) × (drop (get_or places 
 abbrev pub OccurrencesKept : List Entry → Bytes → List ℕ → ℕ → Type 0
 OccurrencesKept es b places g =
     (k : ℕ) → k < occurrences_counted (what_at es g) (count_at b (get_or places g 0)) → get_or places (firsts + g) 0 + k < directory
-    → Walked b (rest_of (times k (occurrence es g) (drop (get_or places g 0 + count_size) b))) (At (get_or places (get_or places (firsts + g) 0 + k) 0))
+    → Walked b (rest_of (times k (occurrence es g) (drop (get_or places g 0 + count_size) b))) (Some (get_or places (get_or places (firsts + g) 0 + k) 0))
 
 -- What is found of a slice: whether it is a record, and then its directory.
 pub record Checked (es : List Entry) (b : Bytes) (places : List ℕ) (ok : Bool) : Type 0 where

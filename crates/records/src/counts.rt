@@ -6,13 +6,11 @@ ghost use Rattle.buffer.specs.Splice.{splice};
 ghost use Rattle.records.specs.Counts.{has_count, count_at, greatest_byte};
 
 // Whether a count stands at a place, and is not over its limit.
+#[tactic(auto, using(std::proofs::lemmas::Bool::Decides::nat_tests), unfolding(crate::specs::Counts::has_count))]
 pub fn has_count(b: &[u8], at: usize) -> bool
     ensures { result ≡ has_count b.now at }
 {
-    if b.len() <= at {
-        return false;
-    }
-    b[at] as usize <= rules::GREATEST_COUNT
+    at < b.len() && usize::from(b[at]) <= rules::GREATEST_COUNT
 }
 
 // The count at a place.
@@ -20,7 +18,7 @@ pub fn count_at(b: &[u8], at: usize) -> usize
     requires { at < length b.now }
     ensures { (result ≡ count_at b.now at) × (result ≤ greatest_byte) }
 {
-    b[at] as usize
+    usize::from(b[at])
 }
 
 // The place after the count at a place.
@@ -32,6 +30,7 @@ pub fn after_count(b: &[u8], at: usize) -> usize
 }
 
 // Writes a count; the place after it.
+#[tactic(auto, using(buffer::proofs::Laws::set_splice), unfolding(rules::specs::Record::count_bytes))]
 pub fn put_count(n: usize, out: &mut [u8], at: usize) -> usize
     requires { (n ≤ greatest_count) × (at + count_size ≤ length out.old) }
     ensures { (result ≡ at + count_size) × (out.new ≡ splice at (count_bytes n) out.old) }

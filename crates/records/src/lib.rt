@@ -23,14 +23,8 @@ const MOST_KEPT: usize = 512;
 
 pub const DIRECTORY: usize = KEPT + MOST_KEPT;
 
-// Where a walk over a record stands: at a place after what it was to take, or at something that is no record.
-#[derive(Clone, Copy)]
-pub enum Reach {
-    At(usize),
-    Bad,
-}
-
 // Whether entry i is a periodic group or lies in one, by whether the entry before it does.
+#[tactic(auto, using(crate::proofs::EmptyEntries::inside_tests))]
 pub fn inside_next(t: &[u8], i: usize, before: bool) -> bool
     requires { Valid t.now × (i < length (entries_of t.now)) }
     ensures { result ≡ is_inside before (get_or (entries_of t.now) i blank) }

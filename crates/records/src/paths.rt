@@ -9,8 +9,6 @@ ghost use Rattle.rules.specs.Limits.{most_entries};
 ghost use Rattle.records.specs.Counts.{greatest_byte};
 ghost use Rattle.records.specs.Paths.{Width, Leads};
 
-use tables::Found;
-
 // The way to an entry: whether it lies in a periodic group, and in which, whether all fields before it there have a fixed length and
 // are not MU, and then how many bytes those are.
 #[derive(Clone, Copy)]
@@ -23,66 +21,47 @@ pub struct Path {
 }
 
 // The bytes of entry i's cell, where they are always as many; a group by itself has none.
-fn width_at(t: &[u8], i: usize) -> Found
+#[tactic(auto, using(crate::proofs::Widths::width_steps))]
+fn width_at(t: &[u8], i: usize) -> Option<usize>
     requires { Valid t.now × (i < length (entries_of t.now)) }
     ensures { Width (field_of (get_or (entries_of t.now) i blank).name (what_at (entries_of t.now) i)) greatest_byte result }
 {
     if tables::group_at(t, i) {
-        return Found::At(0);
-    }
-    if tables::multiple_at(t, i) {
-        return Found::Nothing;
+        return Some(0);
     }
     let size = tables::size_at(t, i);
-    if size == 0 {
-        return Found::Nothing;
+    if tables::multiple_at(t, i) || size == 0 {
+        return None;
     }
-    Found::At(size)
+    Some(size)
 }
 
 // The same of the fields among the entries from first to end together.
-pub fn width_of(t: &[u8], first: usize, end: usize) -> Found
+#[tactic(auto, using(tables::proofs::Tables::valid_most))]
+pub fn width_of(t: &[u8], first: usize, end: usize) -> Option<usize>
     requires { Valid t.now × (first ≤ end) × (end ≤ length (entries_of t.now)) }
     ensures { Width (fields_in (slice first end (entries_of t.now))) (most_entries * greatest_byte) result }
 {
     let mut w = 0;
-    let mut i = first;
-    while i < end {
-        let one = width_at(t, i);
-        match one {
-            Found::Nothing => {
-                return Found::Nothing;
-            }
-            Found::At(n) => {
-                w += n;
-            }
-        }
-        i += 1;
+    for i in first..end {
+        w += width_at(t, i)?;
     }
-    Found::At(w)
+    Some(w)
 }
 
 // The way to entry i, which lies in the periodic group that entry g is.
+#[tactic(auto, using(tables::proofs::Tables::valid_most))]
 fn path_in(t: &[u8], g: usize, i: usize) -> Path
     requires { Valid t.now × (i < length (entries_of t.now)) × (g < i) × Home (entries_of t.now) i g }
     ensures { (result.entry ≡ i) × Leads (entries_of t.now) result }
 {
     let width = width_of(t, g + 1, i);
-    match width {
-        Found::At(w) => Path {
-            entry: i,
-            inside: true,
-            group: g,
-            fixed: true,
-            offset: w,
-        },
-        Found::Nothing => Path {
-            entry: i,
-            inside: true,
-            group: g,
-            fixed: false,
-            offset: 0,
-        },
+    Path {
+        entry: i,
+        inside: true,
+        group: g,
+        fixed: width.is_some(),
+        offset: width.unwrap_or(0),
     }
 }
 
@@ -91,10 +70,9 @@ pub fn path_to(t: &[u8], i: usize) -> Path
     requires { Valid t.now × (i < length (entries_of t.now)) × (is_periodic (what_at (entries_of t.now) i) ≡ false) }
     ensures { (result.entry ≡ i) × Leads (entries_of t.now) result }
 {
-    let home = tables::periodic_group(t, i);
-    match home {
-        Found::At(g) => path_in(t, g, i),
-        Found::Nothing => Path {
+    match tables::periodic_group(t, i) {
+        Some(g) => path_in(t, g, i),
+        None => Path {
             entry: i,
             inside: false,
             group: 0,

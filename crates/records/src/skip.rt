@@ -17,10 +17,8 @@ pub fn values_end(b: &[u8], at: usize, n: usize, size: usize) -> usize
         return at + n * size;
     }
     let mut p = at;
-    let mut i = 0;
-    while i < n {
-        p += b[p] as usize;
-        i += 1;
+    for _i in 0..n {
+        p += usize::from(b[p]);
     }
     p
 }
@@ -49,29 +47,27 @@ fn member_end(t: &[u8], b: &[u8], at: usize, i: usize) -> usize
 }
 
 // The place after the cells of the fields among the entries from first to end, once each.
+#[tactic(auto, using(crate::proofs::Turns::among_steps))]
 pub fn members_end(t: &[u8], b: &[u8], at: usize, first: usize, end: usize) -> usize
     requires { Valid t.now × (first ≤ end) × (end ≤ length (entries_of t.now)) × (at ≤ length b.now) × Ends (rest_of (members_among (entries_of t.now) first end (drop at b.now))) }
     ensures { EndsAt b.now (rest_of (members_among (entries_of t.now) first end (drop at b.now))) result }
 {
     let mut p = at;
-    let mut i = first;
-    while i < end {
+    for i in first..end {
         p = member_end(t, b, p, i);
-        i += 1;
     }
     p
 }
 
 // The same n times.
+#[tactic(auto, using(crate::proofs::Turns::repeat_steps))]
 pub fn occurrences_end(t: &[u8], b: &[u8], at: usize, n: usize, first: usize, end: usize) -> usize
     requires { Valid t.now × (first ≤ end) × (end ≤ length (entries_of t.now)) × (at ≤ length b.now) × Ends (rest_of (times n (members_among (entries_of t.now) first end) (drop at b.now))) }
     ensures { EndsAt b.now (rest_of (times n (members_among (entries_of t.now) first end) (drop at b.now))) result }
 {
     let mut p = at;
-    let mut i = 0;
-    while i < n {
+    for _i in 0..n {
         p = members_end(t, b, p, first, end);
-        i += 1;
     }
     p
 }

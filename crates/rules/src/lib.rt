@@ -5,6 +5,10 @@
 ghost use Rattle.std.specs.Prelude.{◌≡◌};
 ghost use Rattle.rules.specs.Numbers.{refusal_number, refusal_length};
 
+use std::error::Error;
+use std::fmt;
+use std::fmt::{Display, Formatter};
+
 // "64 table entries; level 7"
 pub const MOST_ENTRIES: usize = 64;
 
@@ -64,7 +68,7 @@ pub const RECORD_HEAD_SIZE: usize = 5;
 pub const COUNT_SIZE: usize = 1;
 
 // Why a call is refused: the numbers 1 to 10 of document 01, in their order; 9 with the smallest length that would have held the value, or 0.
-#[derive(Clone, Copy)]
+#[derive(Clone, Copy, Debug, PartialEq, Eq)]
 pub enum Refusal {
     BadTable,
     BadRecord,
@@ -78,38 +82,62 @@ pub enum Refusal {
     NoRoom,
 }
 
-// The number of a refusal.
-pub fn refusal_number(x: Refusal) -> u8
-    ensures { result ≡ refusal_number x }
-{
-    match x {
-        Refusal::BadTable => 1,
-        Refusal::BadRecord => 2,
-        Refusal::BadSyntax => 3,
-        Refusal::UnknownName => 4,
-        Refusal::UseRule => 5,
-        Refusal::NamedTwice => 6,
-        Refusal::BeyondBuffer => 7,
-        Refusal::BadValue => 8,
-        Refusal::OutOfRange(_) => 9,
-        Refusal::NoRoom => 10,
+impl Refusal {
+    // Its number.
+    pub fn number(self) -> u8
+        ensures { result ≡ refusal_number self }
+    {
+        match self {
+            Refusal::BadTable => 1,
+            Refusal::BadRecord => 2,
+            Refusal::BadSyntax => 3,
+            Refusal::UnknownName => 4,
+            Refusal::UseRule => 5,
+            Refusal::NamedTwice => 6,
+            Refusal::BeyondBuffer => 7,
+            Refusal::BadValue => 8,
+            Refusal::OutOfRange(_) => 9,
+            Refusal::NoRoom => 10,
+        }
+    }
+
+    // The length that it says: with 9 the smallest that would have held the value, or 0.
+    pub fn length(self) -> u8
+        ensures { result ≡ refusal_length self }
+    {
+        match self {
+            Refusal::OutOfRange(n) => n,
+            _ => 0,
+        }
     }
 }
 
-// The length that it says: with 9 the smallest that would have held the value, or 0.
-pub fn refusal_length(x: Refusal) -> u8
-    ensures { result ≡ refusal_length x }
-{
-    match x {
-        Refusal::BadTable => 0,
-        Refusal::BadRecord => 0,
-        Refusal::BadSyntax => 0,
-        Refusal::UnknownName => 0,
-        Refusal::UseRule => 0,
-        Refusal::NamedTwice => 0,
-        Refusal::BeyondBuffer => 0,
-        Refusal::BadValue => 0,
-        Refusal::OutOfRange(n) => n,
-        Refusal::NoRoom => 0,
+// What it means, in the words of document 01.
+impl Display for Refusal {
+    fn fmt<W: fmt::Write>(&self, f: &mut Formatter<W>) -> fmt::Result {
+        f.write_str(match self {
+            Refusal::BadTable => "the table is not a field definition table",
+            Refusal::BadRecord => {
+                "the record is not a stored record of this table, or is over 4,096 bytes"
+            }
+            Refusal::BadSyntax => "the format is not well formed",
+            Refusal::UnknownName => {
+                "the format names a field or group that the table does not have"
+            }
+            Refusal::UseRule => {
+                "the format breaks a use rule: the index, length or format does not suit the name, or the group cannot be named"
+            }
+            Refusal::NamedTwice => "the update names a value twice",
+            Refusal::BeyondBuffer => {
+                "an item ends beyond the values that were given, or beyond 32,767 bytes"
+            }
+            Refusal::BadValue => "a value that was given is not a value of its format",
+            Refusal::OutOfRange(_) => {
+                "a value is outside the range of the conversion, or does not fit the length"
+            }
+            Refusal::NoRoom => "the new record is over 4,096 bytes",
+        })
     }
 }
+
+impl Error for Refusal {}

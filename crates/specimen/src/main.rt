@@ -15,196 +15,188 @@ const TABLE: [u8; 66] =
 const RECORD: [u8; 24] =
     *b"\xe5\xd9\xc3\x00\x01\xc3\xc1\xc2\x40\x40\x00\x15\x0f\x02\xf1\xf5\xf5\xf0\x01\x07\x01\xf3\x00\x01";
 
-// Reads the specimen by a format into a buffer.
-fn read(format: &[u8], buffer: &mut [u8]) -> Answer
-    ensures { answer_length result ≤ length buffer.old }
-{
-    lyrecanyon::read(&TABLE, &RECORD, format, buffer)
+// A read of the specimen, as it is shown, and its format.
+struct Read {
+    shown: &'static [u8],
+    format: &'static [u8],
 }
 
-// Updates the specimen by a format and a record buffer, into a room.
-fn update(format: &[u8], buffer: &[u8], room: &mut [u8]) -> Answer
-    ensures { answer_length result ≤ length room.old }
-{
-    lyrecanyon::update(&TABLE, &RECORD, format, buffer, room)
+// An update of the specimen, as it is shown, its format and its record buffer.
+struct Update {
+    shown: &'static [u8],
+    format: &'static [u8],
+    buffer: &'static [u8],
 }
 
-// A call by its name and its answer, whose bytes stand in front of a slice.
-fn show<W: Write>(to: &mut W, name: &[u8], answer: Answer, written: &[u8]) -> io::Result<()>
-    requires { (length name.now ≤ 32) × (length written.now ≤ 32) × (answer_length answer ≤ length written.now) }
+const READS: [Read; 15] = [
+    // Values at their standard length and format, and at others.
+    Read {
+        shown: b"read AA,AB. ",
+        format: b"\xc1\xc1\x6b\xc1\xc2\x4b",
+    },
+    Read {
+        shown: b"read AB,2. ",
+        format: b"\xc1\xc2\x6b\xf2\x4b",
+    },
+    Read {
+        shown: b"read AB,1. ",
+        format: b"\xc1\xc2\x6b\xf1\x4b",
+    },
+    Read {
+        shown: b"read AB,5,U. ",
+        format: b"\xc1\xc2\x6b\xf5\x6b\xe4\x4b",
+    },
+    Read {
+        shown: b"read AB,2,B. ",
+        format: b"\xc1\xc2\x6b\xf2\x6b\xc2\x4b",
+    },
+    Read {
+        shown: b"read ZV. ",
+        format: b"\xe9\xe5\x4b",
+    },
+    Read {
+        shown: b"read ZV,3. ",
+        format: b"\xe9\xe5\x6b\xf3\x4b",
+    },
+    // Counts, values and occurrences, those that do not exist among them.
+    Read {
+        shown: b"read MF,MF,MF. ",
+        format: b"\xd4\xc6\x6b\xd4\xc6\x6b\xd4\xc6\x4b",
+    },
+    Read {
+        shown: b"read MFC,3X,MF2. ",
+        format: b"\xd4\xc6\xc3\x6b\xf3\xe7\x6b\xd4\xc6\xf2\x4b",
+    },
+    Read {
+        shown: b"read CB1(1-2),CB2C. ",
+        format: b"\xc3\xc2\xf1\x4d\xf1\x60\xf2\x5d\x6b\xc3\xc2\xf2\xc3\x4b",
+    },
+    Read {
+        shown: b"read HB2. ",
+        format: b"\xc8\xc2\xf2\x4b",
+    },
+    // Refused.
+    Read {
+        shown: b"read . ",
+        format: b"\x4b",
+    },
+    Read {
+        shown: b"read QQ. ",
+        format: b"\xd8\xd8\x4b",
+    },
+    Read {
+        shown: b"read GB1. ",
+        format: b"\xc7\xc2\xf1\x4b",
+    },
+    Read {
+        shown: b"read MF2-1. ",
+        format: b"\xd4\xc6\xf2\x60\xf1\x4b",
+    },
+];
+
+const INTO_FOUR_BYTES: Read = Read {
+    shown: b"read AA. into 4 bytes ",
+    format: b"\xc1\xc1\x4b",
+};
+
+const INTO_FIVE_BYTES: Read = Read {
+    shown: b"read AA. into 5 bytes ",
+    format: b"\xc1\xc1\x4b",
+};
+
+const UPDATES: [Update; 9] = [
+    // Counts.
+    Update {
+        shown: b"update MF. F5F0 ",
+        format: b"\xd4\xc6\x4b",
+        buffer: b"\xf5\xf0",
+    },
+    Update {
+        shown: b"update MF1. F5F0 ",
+        format: b"\xd4\xc6\xf1\x4b",
+        buffer: b"\xf5\xf0",
+    },
+    Update {
+        shown: b"update MF4. F1F0 ",
+        format: b"\xd4\xc6\xf4\x4b",
+        buffer: b"\xf1\xf0",
+    },
+    Update {
+        shown: b"update HB2. 05C1C2 ",
+        format: b"\xc8\xc2\xf2\x4b",
+        buffer: b"\x05\xc1\xc2",
+    },
+    // Values.
+    Update {
+        shown: b"update AB. 00150C ",
+        format: b"\xc1\xc2\x4b",
+        buffer: b"\x00\x15\x0c",
+    },
+    Update {
+        shown: b"update AB,2,B. FFFF ",
+        format: b"\xc1\xc2\x6b\xf2\x6b\xc2\x4b",
+        buffer: b"\xff\xff",
+    },
+    Update {
+        shown: b"update AB,3,B. 0186A0 ",
+        format: b"\xc1\xc2\x6b\xf3\x6b\xc2\x4b",
+        buffer: b"\x01\x86\xa0",
+    },
+    Update {
+        shown: b"update AB. 001A5F ",
+        format: b"\xc1\xc2\x4b",
+        buffer: b"\x00\x1a\x5f",
+    },
+    Update {
+        shown: b"update MF2,MF1,MF. F0F0F0F0F0F0 ",
+        format: b"\xd4\xc6\xf2\x6b\xd4\xc6\xf1\x6b\xd4\xc6\x4b",
+        buffer: b"\xf0\xf0\xf0\xf0\xf0\xf0",
+    },
+];
+
+// A call as it is shown and its answer, whose bytes stand in front of a slice.
+fn show<W: Write>(to: &mut W, shown: &[u8], answer: Answer, written: &[u8]) -> io::Result<()>
+    requires { (length written.now ≤ 32) × (answer_length answer ≤ length written.now) }
 {
-    let used = answer.length();
-    let mut out = [0u8; 120];
-    let at = buffer::put(name, &mut out, 0);
-    let needed = answer.needed() as usize;
-    let end = protocol::put_read_answer(answer.number(), &written[..used], needed, &mut out, at);
+    to.write_all(shown)?;
+    let used = lyrecanyon::length_used(answer);
+    // Two digits for each of 32 bytes, and 24 more.
+    let mut out = [0; 88];
+    let end = protocol::put_read_answer(
+        lyrecanyon::number(answer),
+        &written[..used],
+        usize::from(lyrecanyon::length_needed(answer)),
+        &mut out,
+        0,
+    );
     lines::write(to, &out, end)
 }
 
-fn show_read<W: Write>(to: &mut W, name: &[u8], format: &[u8], buffer: &mut [u8]) -> io::Result<()>
-    requires { (length name.now ≤ 32) × (length buffer.old ≤ 32) }
+// Reads the specimen into a buffer, and shows the call.
+fn show_read<W: Write>(to: &mut W, read: &Read, buffer: &mut [u8]) -> io::Result<()>
+    requires { length buffer.old ≤ 32 }
 {
-    let answer = read(format, buffer);
-    show(to, name, answer, buffer)
+    let answer = lyrecanyon::read(&TABLE, &RECORD, read.format, buffer);
+    show(to, read.shown, answer, buffer)
 }
 
-fn show_update<W: Write>(
-    to: &mut W,
-    name: &[u8],
-    format: &[u8],
-    buffer: &[u8],
-    room: &mut [u8],
-) -> io::Result<()>
-    requires { (length name.now ≤ 32) × (length room.old ≤ 32) }
+// Updates the specimen into a room, and shows the call.
+fn show_update<W: Write>(to: &mut W, update: &Update, room: &mut [u8]) -> io::Result<()>
+    requires { length room.old ≤ 32 }
 {
-    let answer = update(format, buffer, room);
-    show(to, name, answer, room)
-}
-
-// Values at their standard length and format, and at others.
-fn show_values<W: Write>(to: &mut W) -> io::Result<()> {
-    let mut buffer = [0u8; 8];
-    show_read(
-        to,
-        b"read AA,AB. ",
-        b"\xc1\xc1\x6b\xc1\xc2\x4b",
-        &mut buffer,
-    )?;
-    show_read(to, b"read AB,2. ", b"\xc1\xc2\x6b\xf2\x4b", &mut buffer)?;
-    show_read(to, b"read AB,1. ", b"\xc1\xc2\x6b\xf1\x4b", &mut buffer)?;
-    show_read(
-        to,
-        b"read AB,5,U. ",
-        b"\xc1\xc2\x6b\xf5\x6b\xe4\x4b",
-        &mut buffer,
-    )?;
-    show_read(
-        to,
-        b"read AB,2,B. ",
-        b"\xc1\xc2\x6b\xf2\x6b\xc2\x4b",
-        &mut buffer,
-    )?;
-    show_read(to, b"read ZV. ", b"\xe9\xe5\x4b", &mut buffer)?;
-    show_read(to, b"read ZV,3. ", b"\xe9\xe5\x6b\xf3\x4b", &mut buffer)
-}
-
-// Counts, values and occurrences, those that do not exist among them.
-fn show_occurrences<W: Write>(to: &mut W) -> io::Result<()> {
-    let mut buffer = [0u8; 8];
-    show_read(
-        to,
-        b"read MF,MF,MF. ",
-        b"\xd4\xc6\x6b\xd4\xc6\x6b\xd4\xc6\x4b",
-        &mut buffer,
-    )?;
-    show_read(
-        to,
-        b"read MFC,3X,MF2. ",
-        b"\xd4\xc6\xc3\x6b\xf3\xe7\x6b\xd4\xc6\xf2\x4b",
-        &mut buffer,
-    )?;
-    show_read(
-        to,
-        b"read CB1(1-2),CB2C. ",
-        b"\xc3\xc2\xf1\x4d\xf1\x60\xf2\x5d\x6b\xc3\xc2\xf2\xc3\x4b",
-        &mut buffer,
-    )?;
-    show_read(to, b"read HB2. ", b"\xc8\xc2\xf2\x4b", &mut buffer)
-}
-
-fn show_refused_reads<W: Write>(to: &mut W) -> io::Result<()> {
-    let mut buffer = [0u8; 8];
-    show_read(to, b"read . ", b"\x4b", &mut buffer)?;
-    show_read(to, b"read QQ. ", b"\xd8\xd8\x4b", &mut buffer)?;
-    show_read(to, b"read GB1. ", b"\xc7\xc2\xf1\x4b", &mut buffer)?;
-    show_read(
-        to,
-        b"read MF2-1. ",
-        b"\xd4\xc6\xf2\x60\xf1\x4b",
-        &mut buffer,
-    )?;
-    let mut four = [0u8; 4];
-    show_read(to, b"read AA. into 4 bytes ", b"\xc1\xc1\x4b", &mut four)?;
-    let mut five = [0u8; 5];
-    show_read(to, b"read AA. into 5 bytes ", b"\xc1\xc1\x4b", &mut five)
-}
-
-fn show_counts_updated<W: Write>(to: &mut W) -> io::Result<()> {
-    let mut room = [0u8; 32];
-    show_update(
-        to,
-        b"update MF. F5F0 ",
-        b"\xd4\xc6\x4b",
-        b"\xf5\xf0",
-        &mut room,
-    )?;
-    show_update(
-        to,
-        b"update MF1. F5F0 ",
-        b"\xd4\xc6\xf1\x4b",
-        b"\xf5\xf0",
-        &mut room,
-    )?;
-    show_update(
-        to,
-        b"update MF4. F1F0 ",
-        b"\xd4\xc6\xf4\x4b",
-        b"\xf1\xf0",
-        &mut room,
-    )?;
-    show_update(
-        to,
-        b"update HB2. 05C1C2 ",
-        b"\xc8\xc2\xf2\x4b",
-        b"\x05\xc1\xc2",
-        &mut room,
-    )
-}
-
-fn show_values_updated<W: Write>(to: &mut W) -> io::Result<()> {
-    let mut room = [0u8; 32];
-    show_update(
-        to,
-        b"update AB. 00150C ",
-        b"\xc1\xc2\x4b",
-        b"\x00\x15\x0c",
-        &mut room,
-    )?;
-    show_update(
-        to,
-        b"update AB,2,B. FFFF ",
-        b"\xc1\xc2\x6b\xf2\x6b\xc2\x4b",
-        b"\xff\xff",
-        &mut room,
-    )?;
-    show_update(
-        to,
-        b"update AB,3,B. 0186A0 ",
-        b"\xc1\xc2\x6b\xf3\x6b\xc2\x4b",
-        b"\x01\x86\xa0",
-        &mut room,
-    )?;
-    show_update(
-        to,
-        b"update AB. 001A5F ",
-        b"\xc1\xc2\x4b",
-        b"\x00\x1a\x5f",
-        &mut room,
-    )?;
-    show_update(
-        to,
-        b"update MF2,MF1,MF. F0F0F0F0F0F0 ",
-        b"\xd4\xc6\xf2\x6b\xd4\xc6\xf1\x6b\xd4\xc6\x4b",
-        b"\xf0\xf0\xf0\xf0\xf0\xf0",
-        &mut room,
-    )
+    let answer = lyrecanyon::update(&TABLE, &RECORD, update.format, update.buffer, room);
+    show(to, update.shown, answer, room)
 }
 
 fn main(rt: HostRuntime) -> io::Result<()> {
     let mut to = rt.stdout();
-    show_values(&mut to)?;
-    show_occurrences(&mut to)?;
-    show_refused_reads(&mut to)?;
-    show_counts_updated(&mut to)?;
-    show_values_updated(&mut to)
+    for read in &READS {
+        show_read(&mut to, read, &mut [0; 8])?;
+    }
+    show_read(&mut to, &INTO_FOUR_BYTES, &mut [0; 4])?;
+    show_read(&mut to, &INTO_FIVE_BYTES, &mut [0; 5])?;
+    for update in &UPDATES {
+        show_update(&mut to, update, &mut [0; 32])?;
+    }
+    Ok(())
 }

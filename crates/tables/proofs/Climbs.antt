@@ -1,17 +1,18 @@
 -- The way from an entry back to its entry of level 1: what holds at each step of it, and at its end; by it what lies in a periodic group has one.
 use mathlib.Core.Path.{◌≡◌, refl, sym, ◌∙◌}
-use mathlib.Core.Bool.{true, false, false≢true}
+use mathlib.Core.Bool.{Bool, true, false, false≢true}
 use mathlib.Core.List.{List}
 use Prim.Native.Nat.{ℕ, zero, suc, ◌+◌, ◌-◌, ◌≤◌, ◌<◌}
 use native.Mathlib.Nat.{not-suc-le-zero}
 use native.Mathlib.Numerals.{add-one}
 use native.Mathlib.Omega.{arith}
 use lib.ListN.{length, get_or, drop}
+use Rattle.std.specs.Bool.{then_some}
 use Rattle.rules.specs.Table.{Entry, levels, group}
 use Rattle.rules.proofs.Steps.{by_test}
 use Rattle.buffer.proofs.Cases.{by_order}
 use Rattle.tables.specs.Entries.{blank, is_periodic}
-use Rattle.tables.specs.Places.{inside_at, Home}
+use Rattle.tables.specs.Places.{inside_at, Home, Homes}
 use Rattle.tables.specs.Groups.{run_below}
 use Rattle.tables.proofs.EntryBytes.{Sound}
 use Rattle.tables.proofs.Periodic.{inside_up, inside_one}
@@ -50,6 +51,12 @@ pub climb_none : (es : List Entry) (i j : ℕ) → Climb es i j → (get_or es j
     → inside_at es i ≡ false
 climb_none es i j c l p = sym c.inside ∙ inside_one es j (omega arith) ∙ p
 
+-- the same of an answer that a test makes
+pub climb_answer : (es : List Entry) (i j : ℕ) (p : Bool) → Climb es i j → (get_or es j blank).level ≡ 1 → p ≡ is_periodic (get_or es j blank).what
+    → Homes es i (then_some p j)
+climb_answer es i j true c l q = climb_home es i j c l (sym q)
+climb_answer es i j false c l q = climb_none es i j c l (sym q)
+
 -- an entry that has not level 1 is not the first
 pub not_first : (es : List Entry) → levels (group false) 0 es ≡ true → (j : ℕ) → ((get_or es j blank).level ≡ 1 → ⊥) → 1 ≤ j
 not_first es v zero h = absurd (h (first_level es v))
@@ -73,3 +80,6 @@ module _ (es : List Entry) (v : levels (group false) 0 es ≡ true) (sound : (k 
 
   pub homed : (g : ℕ) × Home es i g
   homed = climbs i (climb_start es i)
+
+-- what the way back cites
+pub ruleset climb_steps = (climb_start, climb_up, climb_answer, not_first, level_range)

@@ -1,12 +1,13 @@
 -- A table's entries six bytes at a time: what `entries` answers of the first six, and what a done one says of entry i.
+use Rattle.std.specs.Prelude.{Some, Option as Optional, is_some}
 use mathlib.Core.Path.{◌≡◌, refl, sym, ap, subst, ◌∙◌}
-use mathlib.Core.Bool.{Bool, true, false, ◌&&◌, ◌||◌, or-false}
+use mathlib.Core.Bool.{Bool, true, false, true≢false, ◌&&◌, ◌||◌}
 use mathlib.Core.List.{List, [], ◌∷◌}
 use mathlib.Core.Option.{none, some}
-use Prim.Native.Nat.{ℕ, zero, suc, ◌+◌, ◌*◌, ◌/◌, ◌%◌, ◌-◌, ◌≤◌, ◌<◌}
+use Prim.Native.Nat.{ℕ, zero, suc, ◌+◌, ◌*◌, ◌-◌, ◌≤◌, ◌<◌}
 use native.Mathlib.Omega.{arith}
-use native.Mathlib.Nat.{le_of_suc-le-suc, not-suc-le-zero}
-use borrow.Author.Tests.{leb-true, eqb-true, eqb-false, eq-eqb, ne_eqb}
+use native.Mathlib.Nat.{sub-zero, le_of_suc-le-suc, not-suc-le-zero}
+use borrow.Author.Tests.{leb-true, eqb-true, ne_eqb}
 use lib.Dec.{T, eqb, leb}
 use lib.ListN.{length, get_or, drop, length-drop, drop_of_length-le}
 use lib.Seq.{drop-drop}
@@ -16,39 +17,18 @@ use Rattle.rules.specs.Lists.{Bytes, look_up}
 use Rattle.rules.specs.Characters.{space}
 use Rattle.rules.specs.Values.{Format, allowed}
 use Rattle.rules.specs.Table.{What, field, group, Entry, format_of, format_letters, is_name, name_of, what_of, entries}
-use Rattle.rules.proofs.Steps.{from_bind, from_need, done_inj, not_done, by_test, by_option, T_true, and_left, and_right}
+use Rattle.rules.proofs.Steps.{from_bind, from_need, done_inj, not_done, by_option, T_true, and_left, and_right}
 use Rattle.rules.proofs.Done.{is_done_then}
-use Rattle.tables.specs.Entries.{blank, entry_place, letter_number, decoded, entry_of_bytes, group_letter, is_group, format_number, size_of, is_multiple, is_periodic, bytes_at}
+use Rattle.tables.specs.Entries.{blank, entry_place, format_at, format_given, letter_coded, decoded, entry_of_bytes, group_letter, is_group, format_coded, size_of, is_multiple, is_periodic, bytes_at}
 use Rattle.tables.specs.Validity.{right_of}
-use Rattle.value_formats.proofs.Letters.{number_small, letter_some, letter_none}
-
--- ---- names
-
--- two names of two bytes each
-module _ (a b c d : ℕ) (h : b < 256) (k : d < 256) where
-  pub name_same : a ≡ c → eqb (name_of a b) (name_of c d) ≡ eqb b d
-  unfolding name_of
-  name_same e = by_test (eqb b d)
-      (λ q. eq-eqb (a * 256 + b) (c * 256 + d) (omega (arith, e, eqb-true b d q)) ∙ sym q)
-      (λ q. ne_eqb (a * 256 + b) (c * 256 + d) (λ z. eqb-false b d q (omega (arith, e, z))) ∙ sym q)
-
-  pub name_other : (a ≡ c → ⊥) → eqb (name_of a b) (name_of c d) ≡ false
-  unfolding name_of
-  name_other e = ne_eqb (a * 256 + b) (c * 256 + d) (λ z. e (omega (arith, h, k, z)))
-
--- a name of its own two bytes
-pub name_bytes : (n : ℕ) → name_of (n / 256) (n % 256) ≡ n
-unfolding name_of
-name_bytes n = omega arith
+use Rattle.std.proofs.lemmas.Bool.Decides.{nat_tests}
+use Rattle.value_formats.specs.declared.Format.{Format as Coded}
 
 -- ---- what an entry is
 
 need_is : {A : Type 0} (b : Bool) (n : ℕ) (a : A) → is_done (need b n >>= λ (_ : Unit {0}). done a) ≡ b
 need_is true n a = refl
 need_is false n a = refl
-
-pub option_zero : (o l : ℕ) → (o ≡ 2 → ⊥) → (eqb o 0 || (eqb o 2 && eqb l 1)) ≡ eqb o 0
-option_zero o l h = rw (ne_eqb o 2 h) (or-false (eqb o 0))
 
 module _ (level letter size option : ℕ) where
   pub what_field : (f : Format) → format_of letter ≡ some f
@@ -61,6 +41,13 @@ module _ (level letter size option : ℕ) where
       ≡ (eqb letter space && eqb size 0 && (eqb option 0 || (eqb option 2 && eqb level 1)))
   unfolding what_of
   what_group e = rw (e, what_of) (need_is _ 1 _)
+
+  pub what_given : (r : Optional Coded) (f : Coded) → r ≡ Some f → format_given r ≡ format_of letter
+      → is_done (what_of level letter size option) ≡ (allowed (format_at f) size && leb option 1)
+  what_given r f q e = what_field (format_at f) (sym e ∙ ap format_given q)
+
+-- what the tests of an entry cite
+pub ruleset what_tests = (nat_tests, what_given, what_group)
 
 -- ---- six bytes
 
@@ -83,9 +70,9 @@ abbrev pub Sound : ℕ → What → Type 0
 Sound l (field g n m) = allowed g n ≡ true
 Sound l (group p) = p ≡ true → l ≡ 1
 
--- the code's numbers of an entry, from its bytes
+-- what the code reads of an entry, from its bytes
 pub record Read (l f s o : ℕ) (w : What) : Type 0 where
-  pub number : letter_number f ≡ format_number w
+  pub format : letter_coded (format_of f) ≡ format_coded w
   pub size : s ≡ size_of w
   pub multiple : eqb o 1 ≡ is_multiple w
   pub periodic : eqb o 2 ≡ is_periodic w
@@ -108,11 +95,11 @@ module _ (l f s o : ℕ) where
   read_field g e t =
       let h : o ≤ 1 = leb-true o 1 (T_true (leb o 1) (and_right (allowed g s) (leb o 1) t)) in
       record {
-        number = letter_some f g e;
+        format = ap letter_coded e;
         size = refl;
         multiple = refl;
         periodic = ne_eqb o 2 (λ q. omega arith);
-        grouped = ne_eqb f space (λ q. omega (arith, letter_some f g e, number_small g, ap letter_number q, letter_none space space_none));
+        grouped = ne_eqb f space (λ q. true≢false (ap (λ o. is_some (letter_coded o)) (sym e ∙ ap format_of q ∙ space_none)));
         sound = T_true (allowed g s) (and_left (allowed g s) (leb o 1) t);
       }
 
@@ -129,7 +116,7 @@ module _ (l f s o : ℕ) where
       let u = and_right (eqb f space && eqb s 0) (eqb o 0 || (eqb o 2 && eqb l 1)) t in
       let v = and_right (eqb f space) (eqb s 0) (and_left (eqb f space && eqb s 0) (eqb o 0 || (eqb o 2 && eqb l 1)) t) in
       record {
-        number = letter_none f e;
+        format = ap letter_coded e;
         size = eqb-true s 0 (T_true (eqb s 0) v);
         multiple = ne_eqb o 1 (not_one u);
         periodic = refl;
@@ -179,7 +166,7 @@ entries_first n (a ∷ b ∷ l ∷ f ∷ s ∷ o ∷ bs) es p =
       is = sym (done_inj p₃);
       long = omega arith;
       made = record {
-        read = rw (r.number, r.size, r.multiple, r.periodic);
+        read = rw (r.format, r.size, r.multiple, r.periodic);
         grouped = r.grouped;
         sound = r.sound;
       };
@@ -244,3 +231,6 @@ module _ (t : Bytes) (n i : ℕ) (size : entry_place n ≡ length t) where
   last_turn h k =
       let e : n - i ≡ 0 = omega arith in
       rw (e, drop_of_length-le t {i = entry_place i} (omega arith)) (sym entries_end)
+
+-- what a loop over entries cites
+pub ruleset right_steps = (right_turn, wrong_turn, last_turn, sub-zero)

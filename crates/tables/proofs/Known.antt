@@ -1,44 +1,46 @@
 -- What a valid table says of its entries, as callers have it: a table's bytes, and entry numbers.
+use Rattle.std.specs.Prelude.{Some}
 use mathlib.Core.Path.{◌≡◌, refl, ap, subst, ◌∙◌}
 use mathlib.Core.Bool.{Bool, true, false, true≢false}
 use mathlib.Core.List.{◌∷◌}
 use Prim.Native.Nat.{ℕ, suc, ◌+◌, ◌≤◌, ◌<◌}
 use lib.ListN.{length, get_or, drop}
 use Rattle.rules.specs.Outcome.{done}
-use Rattle.rules.specs.Limits.{deepest_level, formats}
+use Rattle.rules.specs.Limits.{deepest_level}
 use Rattle.rules.specs.Lists.{Bytes}
-use Rattle.rules.specs.Values.{Format, allowed}
+use Rattle.rules.specs.Values.{allowed}
 use Rattle.rules.specs.Table.{What, field, group, Entry, fields_below, parts_from}
 use Rattle.rules.specs.Use.{find}
-use Rattle.tables.specs.Entries.{Valid, entries_of, blank, is_group, is_multiple, is_periodic, format_at, format_number, size_of, decoded}
+use Rattle.tables.specs.Entries.{Valid, entries_of, blank, is_group, is_multiple, is_periodic, format_at, field_format, size_of, decoded}
 use Rattle.tables.specs.declared.Entry.{Entry as Decoded}
 use Rattle.tables.specs.Places.{found_at}
 use Rattle.tables.specs.Groups.{group_end}
 use Rattle.tables.proofs.Names.{one_name, find_name}
 use Rattle.tables.proofs.LevelSteps.{level_range, group_next}
 use Rattle.tables.proofs.Partings.{parts_periodic, parts_members}
-use Rattle.value_formats.proofs.Letters.{number_back, number_small}
+use Rattle.value_formats.specs.declared.Format.{Format}
+use Rattle.tables.proofs.EntryFields.{coded_field}
 use Rattle.tables.proofs.EntryBytes.{Sound}
 use Rattle.tables.proofs.Tables.{valid_levels, valid_names, valid_sound}
 
-field_numbers : (l : ℕ) (w : What) → is_group w ≡ false → Sound l w
-    → (format_number w < formats) × (allowed (format_at (format_number w)) (size_of w) ≡ true)
-field_numbers l (field f s m) e k = (number_small f, ap (λ (g : Format). allowed g s) (number_back f) ∙ k)
-field_numbers l (group p) e k = absurd (true≢false e)
+field_allowed : (l : ℕ) (w : What) → is_group w ≡ false → Sound l w → allowed (field_format w) (size_of w) ≡ true
+field_allowed l (field f s m) e k = k
+field_allowed l (group p) e k = absurd (true≢false e)
 
 -- an entry as the code has it, where its format and its length were read by themselves
-abbrev pub read_apart : Entry → ℕ → ℕ → Decoded
+abbrev pub read_apart : Entry → Format → ℕ → Decoded
 read_apart e f n = record {
   name = e.name;
   level = e.level;
-  format = f;
+  format = Some f;
   size = n;
   multiple = is_multiple e.what;
   periodic = is_periodic e.what;
 }
 
-pub apart_decoded : (e : Entry) (f n : ℕ) → f ≡ format_number e.what → n ≡ size_of e.what → read_apart e f n ≡ decoded e
-apart_decoded e f n a b = rw (a, b)
+pub apart_decoded : (e : Entry) (f : Format) (n : ℕ) → is_group e.what ≡ false → format_at f ≡ field_format e.what → n ≡ size_of e.what
+    → read_apart e f n ≡ decoded e
+apart_decoded e f n g a b = rw (b, coded_field e.what f g a)
 
 module _ (t : Bytes) (v : Valid t) where
   -- entries of one name are one entry
@@ -54,11 +56,10 @@ module _ (t : Bytes) (v : Valid t) where
     pub level_known : (1 ≤ (get_or (entries_of t) i blank).level) × ((get_or (entries_of t) i blank).level ≤ deepest_level)
     level_known = level_range (entries_of t) (valid_levels t v) i h
 
-    -- the code's numbers of a field: a format that is one, and a length that it allows
+    -- a field's length is one that its format allows
     pub field_known : is_group (get_or (entries_of t) i blank).what ≡ false
-        → (format_number (get_or (entries_of t) i blank).what < formats)
-        × (allowed (format_at (format_number (get_or (entries_of t) i blank).what)) (size_of (get_or (entries_of t) i blank).what) ≡ true)
-    field_known e = field_numbers (get_or (entries_of t) i blank).level (get_or (entries_of t) i blank).what e (valid_sound t v i h)
+        → allowed (field_format (get_or (entries_of t) i blank).what) (size_of (get_or (entries_of t) i blank).what) ≡ true
+    field_known e = field_allowed (get_or (entries_of t) i blank).level (get_or (entries_of t) i blank).what e (valid_sound t v i h)
 
     -- a periodic group has level 1
     pub periodic_level : (get_or (entries_of t) i blank).what ≡ group true → (get_or (entries_of t) i blank).level ≡ 1

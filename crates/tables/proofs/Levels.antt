@@ -67,3 +67,6 @@ module _ (es : List Entry) (i : ℕ) where
 
   pub levels_end : length es ≤ i → (g : Bool) (l : ℕ) → not g ≡ levels (mark g) l (drop i es)
   levels_end q g l = rw (drop_of_length-le es q) (sym (levels_nil g l))
+
+-- what a loop over levels cites
+pub ruleset level_steps = (levels_turn, levels_stop, levels_end)

@@ -3,7 +3,7 @@
 use mathlib.Core.Path.{◌≡◌, sym, subst, ◌∙◌}
 use mathlib.Core.Bool.{Bool, true, false, true≢false}
 use mathlib.Core.List.{List, [], ◌∷◌}
-use Prim.Native.Nat.{ℕ, suc, ◌+◌, ◌*◌, ◌/◌, ◌%◌, ◌<◌, ◌≤◌}
+use Prim.Native.Nat.{ℕ, suc, ◌+◌, ◌<◌, ◌≤◌}
 use native.Mathlib.Omega.{arith}
 use borrow.Author.Tests.{ne_eqb, eqb-true, eqb-false}
 use lib.Dec.{eqb}
@@ -11,20 +11,13 @@ use lib.ListN.{length, length-set, get_or, set}
 use lib.Seq.{get_or-set_same, get_or-set_other}
 use Rattle.buffer.proofs.Cases.{by_order}
 use Rattle.rules.specs.Lists.{Bytes}
-use Rattle.rules.specs.Table.{Entry, name_of, differ, names}
+use Rattle.rules.specs.Table.{Entry, differ, names}
 use Rattle.rules.proofs.Steps.{by_test}
 use Rattle.tables.specs.Entries.{blank}
 use Rattle.tables.specs.Validity.{read_entries, Right, unused, mark_of, NamedBefore}
 use Rattle.tables.proofs.Levels.{unused_nil, unused_cons, differ_nil, differ_cons}
 use Rattle.tables.proofs.Names.{one_name}
 use Rattle.tables.proofs.Tables.{read_count, read_name}
-
-pub mark_bytes : (a b : ℕ) → b < 256 → (a * 11 + b) % 256 ≡ mark_of (name_of a b)
-unfolding mark_of name_of
-mark_bytes a b h =
-    let x : (a * 256 + b) / 256 ≡ a = omega arith in
-    let y : (a * 256 + b) % 256 ≡ b = omega arith in
-    rw (x, y)
 
 mark_small : (n : ℕ) → mark_of n < 256
 unfolding mark_of
@@ -96,3 +89,6 @@ module _ (n : ℕ) (t : Bytes) (v : Right n t) (i : ℕ) (h : i < n) (m : ℕ) (
       by_test (differ (names (read_entries n t)))
       (λ d. absurd (omega (arith, x.1, one_name (read_entries n t) d x.0 i (omega (arith, x.1)) (omega arith) q)))
       (λ d. sym d)
+
+-- what a loop over names cites
+pub ruleset mark_steps = (marked_start, marked_turn, marked_end, unmarked_new, named_new, named_twice)

@@ -76,3 +76,6 @@ module _ (n : ℕ) (es : List Entry) where
 -- the name of entry i finds entry i
 pub find_name : (es : List Entry) → differ (names es) ≡ true → (i : ℕ) → i < length es → find (get_or es i blank).name es ≡ done (found_at es i)
 find_name es d i h = find_here (get_or es i blank).name es i h (λ k l q. omega (arith, one_name es d k i (omega arith) h q)) refl
+
+-- what a look-up cites
+pub ruleset find_steps = (none_next, find_here, find_none)

@@ -262,3 +262,6 @@ module _ (es : List Entry) (sound : (k : ℕ) → k < length es → Sound (get_o
       let z : i + (j - i) ≡ j = omega arith in
       let m = member_inside (j - i) (omega arith) in
       rw z at m
+
+-- what a loop over a group's entries cites
+pub ruleset run_steps = (end_start, end_turn, end_here, end_last)

@@ -48,3 +48,6 @@ module _ (es : List Entry) (l i : ℕ) where
 
   pub plain_none : length es ≤ i → true ≡ all plain (fields_below l (drop i es))
   plain_none h = rw (drop_of_length-le es h, below_nil l) (sym all_none)
+
+-- what a loop over a group's entries cites
+pub ruleset plain_steps = (plain_turn, plain_fails, plain_stop, plain_none)

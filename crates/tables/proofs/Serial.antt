@@ -167,3 +167,6 @@ module _ (es : List Entry) (d : differ (names es) ≡ true) (i j : ℕ) (h : j <
     upto = λ t. from_is_done (fields_to (get_or es j blank).name (drop i es)) (sym e ∙ t) (λ gs g. (series_last gs g).0);
     fields = λ t. from_is_done (fields_to (get_or es j blank).name (drop i es)) (sym e ∙ t) (λ gs g. (series_last gs g).1);
   }
+
+-- what a loop over a series cites
+pub ruleset series_steps = (series_none, series_multiple, series_periodic, series_ends, series_turn, spanned, one_name)

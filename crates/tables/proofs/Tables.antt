@@ -1,4 +1,5 @@
 -- What a table's being valid means, and what it says of its entries.
+use Rattle.std.specs.Prelude.{is_none}
 use mathlib.Core.Path.{◌≡◌, refl, sym, ap, subst, ◌∙◌}
 use mathlib.Core.Bool.{Bool, true, false, ◌&&◌, and-true, false≢true}
 use mathlib.Core.List.{List}
@@ -11,12 +12,11 @@ use lib.Seq.{drop-drop}
 use Rattle.rules.specs.Outcome.{Outcome, done, refused, ◌>>=◌, need, is_done}
 use Rattle.rules.specs.Limits.{most_entries, table_head_size, entry_size}
 use Rattle.rules.specs.Lists.{Bytes, same}
-use Rattle.rules.specs.Values.{alpha, binary, fixed, packed, unpacked}
-use Rattle.rules.specs.Table.{What, field, group, Entry, entries, levels, differ, names, table_head, table}
+use Rattle.rules.specs.Table.{What, field, group, Entry, format_of, entries, levels, differ, names, table_head, table}
 use Rattle.rules.proofs.Steps.{by_test, from_bind, from_need}
 use Rattle.rules.proofs.Done.{is_done_after}
 use Rattle.rules.proofs.Bools.{and_both, and_four}
-use Rattle.tables.specs.Entries.{listed, entry_place, HasEntry, Valid, entries_of, blank, format_number, decoded, entry_of_bytes, bytes_at, group_number, is_group}
+use Rattle.tables.specs.Entries.{listed, size_of, is_multiple, is_periodic, entry_place, HasEntry, Valid, entries_of, blank, format_coded, letter_coded, decoded, entry_of_bytes, bytes_at, group_letter, is_group}
 use Rattle.tables.specs.Validity.{read_entries, Right, headed}
 use Rattle.tables.specs.declared.Entry.{Entry as Decoded}
 use Rattle.tables.proofs.EntryBytes.{Sound, Made, entries_length, entry_made}
@@ -51,13 +51,19 @@ module _ (n : ℕ) (t : Bytes) (v : Right n t) where
   pub read_name : (i : ℕ) → i < n → (entry_of_bytes (bytes_at t i)).name ≡ (get_or (read_entries n t) i blank).name
   read_name i h = ap (λ (r : Decoded). r.name) (read_decoded i h)
 
-pub is_group_number : (w : What) → eqb (format_number w) group_number ≡ is_group w
-is_group_number (field alpha n m) = refl
-is_group_number (field binary n m) = refl
-is_group_number (field fixed n m) = refl
-is_group_number (field packed n m) = refl
-is_group_number (field unpacked n m) = refl
-is_group_number (group p) = refl
+  pub read_level : (i : ℕ) → i < n → (entry_of_bytes (bytes_at t i)).level ≡ (get_or (read_entries n t) i blank).level
+  read_level i h = ap (λ (r : Decoded). r.level) (read_decoded i h)
+
+  pub read_grouped : (i : ℕ) → i < n → group_letter (bytes_at t i) ≡ is_group (get_or (read_entries n t) i blank).what
+  read_grouped i h = (read_made i h).grouped
+
+-- what a loop over such entries cites
+pub ruleset read_steps = (read_count, read_reach, read_level, read_grouped, read_name)
+
+-- An entry without a format is a group.
+pub is_group_coded : (w : What) → is_none (format_coded w) ≡ is_group w
+is_group_coded (field f n m) = refl
+is_group_coded (group p) = refl
 
 -- ---- the table as its tests
 
@@ -169,6 +175,39 @@ module _ (t : Bytes) (v : Valid t) where
     pub valid_decoded : entry_of_bytes (bytes_at t i) ≡ decoded (get_or (entries_of t) i blank)
     valid_decoded = valid_made.read
 
+    pub valid_name : (entry_of_bytes (bytes_at t i)).name ≡ (get_or (entries_of t) i blank).name
+    valid_name = ap (λ (r : Decoded). r.name) valid_decoded
+
+    pub valid_level : (entry_of_bytes (bytes_at t i)).level ≡ (get_or (entries_of t) i blank).level
+    valid_level = ap (λ (r : Decoded). r.level) valid_decoded
+
+    pub valid_format : letter_coded (format_of (get_or (bytes_at t i) 3 0)) ≡ format_coded (get_or (entries_of t) i blank).what
+    unfolding entry_of_bytes
+    valid_format = ap (λ (r : Decoded). r.format) valid_decoded
+
+    pub valid_size : get_or (bytes_at t i) 4 0 ≡ size_of (get_or (entries_of t) i blank).what
+    unfolding entry_of_bytes
+    valid_size = ap (λ (r : Decoded). r.size) valid_decoded
+
+    pub valid_multiple : eqb (get_or (bytes_at t i) 5 0) 1 ≡ is_multiple (get_or (entries_of t) i blank).what
+    unfolding entry_of_bytes
+    valid_multiple = ap (λ (r : Decoded). r.multiple) valid_decoded
+
+    pub valid_periodic : eqb (get_or (bytes_at t i) 5 0) 2 ≡ is_periodic (get_or (entries_of t) i blank).what
+    unfolding entry_of_bytes
+    valid_periodic = ap (λ (r : Decoded). r.periodic) valid_decoded
+
+    pub valid_grouped : group_letter (bytes_at t i) ≡ is_group (get_or (entries_of t) i blank).what
+    valid_grouped = valid_made.grouped
+
     -- a field's length is one that its format allows, and a periodic group has level 1
     pub valid_sound : Sound (get_or (entries_of t) i blank).level (get_or (entries_of t) i blank).what
     valid_sound = valid_made.sound
+
+-- what the functions on a valid table's entries cite
+pub ruleset valid_steps = (valid_count, valid_length, valid_reach, valid_decoded, valid_name, valid_level, valid_format, valid_size, valid_multiple, valid_periodic, valid_grouped)
+
+-- what the tests of a table cite
+pub ruleset valid_tests = (headed_long, headed_length, valid_by, headless)
+
+pub ruleset valid_climbs = (valid_levels, valid_sound)

@@ -11,6 +11,7 @@ use Rattle.buffer.proofs.Laws.{splice_nil, splice_then, set_splice, take_splice}
 use Rattle.tables.specs.Entries.{blank, is_group}
 use Rattle.tables.specs.Groups.{run_below, numbers_below, field_at, Expanded, FieldsOf}
 use Rattle.tables.specs.declared.groups.Expansion.{Expansion}
+use Rattle.tables.proofs.Tables.{valid_most}
 use Rattle.tables.proofs.Nesting.{run_short, run_more, run_stop, run_none, numbers_short, numbers_stop, numbers_none, numbers_field, numbers_group, run_then, numbers_then, numbers_fields}
 
 module _ (es : List Entry) (level at count : ℕ) (before : List ℕ) where
@@ -80,3 +81,6 @@ expanded es i before after r x =
           ap (λ (l : List ℕ). map (field_at es) l) (ap (take r.count) x.written ∙ take_splice ns before r.count n)
           ∙ numbers_fields es (get_or es i blank).level (i + 1);
     }
+
+-- what bounds the walk's numbers
+pub ruleset walk_bounds = (valid_most, run_short, numbers_short, length-drop)

@@ -1,12 +1,17 @@
 -- The entries of a table, and what the code's entries mean, in the words of `rules`.
-use Rattle.std.specs.Prelude.{◌≡◌, Bool, true, false, List, [], ℕ, ◌+◌, ◌*◌, ◌≤◌, eqb, length, get_or, drop}
+use Rattle.std.specs.Prelude.{◌≡◌, Bool, true, false, List, [], ℕ, ◌+◌, ◌*◌, ◌≤◌, eqb, length, get_or, drop, None, Some, Option as Optional}
+use Rattle.std.proofs.Math.Option.{Option, none, some}
 use Rattle.rules.specs.Outcome.{Outcome, done, refused, is_done}
-use Rattle.rules.specs.Limits.{formats, table_head_size, entry_size}
+use Rattle.rules.specs.Limits.{table_head_size, entry_size}
 use Rattle.rules.specs.Lists.{Bytes}
 use Rattle.rules.specs.Characters.{space}
-use Rattle.rules.specs.Table.{What, field, group, Entry, name_of, table}
-unfoldable pub use Rattle.value_formats.specs.Formats.{format_at, letter_number}
-pub use Rattle.value_formats.specs.Formats.{number_of}
+use Rattle.rules.specs.Table.{What, field, group, Entry, format_of, name_of, table}
+unfoldable pub use Rattle.value_formats.specs.Formats.{format_at}
+pub use Rattle.value_formats.specs.Formats.{format_given}
+use Rattle.value_formats.specs.declared.Format.{Format}
+use Rattle.value_formats.specs.declared.Format.TheVariants.{Alpha, Binary, Fixed, Packed, Unpacked}
+use Rattle.rules.specs.Values as Rules
+use Rattle.rules.specs.Values.{alpha, binary, fixed, packed, unpacked}
 use Rattle.tables.specs.declared.Entry.{Entry as Decoded}
 
 -- The entries of an outcome: none where it was refused.
@@ -29,10 +34,6 @@ blank = record { name = 0; level = 0; what = group false }
 abbrev pub what_at : List Entry → ℕ → What
 what_at es i = (get_or es i blank).what
 
--- The number that stands in the place of a group's format.
-abbrev pub group_number : ℕ
-group_number = formats
-
 abbrev pub is_group : What → Bool
 is_group (field f n m) = false
 is_group (group p) = true
@@ -49,27 +50,44 @@ abbrev pub size_of : What → ℕ
 size_of (field f n m) = n
 size_of (group p) = 0
 
-abbrev pub format_number : What → ℕ
-format_number (field f n m) = number_of f
-format_number (group p) = group_number
+-- The format of a field; that of a group means nothing.
+abbrev pub field_format : What → Rules.Format
+field_format (field f n m) = f
+field_format (group p) = alpha
+
+-- A format as the code has it; that of an entry, which a group does not have.
+abbrev pub coded : Rules.Format → Format
+coded alpha = Alpha
+coded binary = Binary
+coded fixed = Fixed
+coded packed = Packed
+coded unpacked = Unpacked
+
+abbrev pub format_coded : What → Optional Format
+format_coded (field f n m) = Some (coded f)
+format_coded (group p) = None
 
 -- An entry as the code has it.
 abbrev pub decoded : Entry → Decoded
 decoded e = record {
   name = e.name;
   level = e.level;
-  format = format_number e.what;
+  format = format_coded e.what;
   size = size_of e.what;
   multiple = is_multiple e.what;
   periodic = is_periodic e.what;
 }
+
+abbrev pub letter_coded : Option Rules.Format → Optional Format
+letter_coded (some f) = Some (coded f)
+letter_coded none = None
 
 -- The first six bytes as an entry, whether or not they are right; and whether the letter among them is a group's.
 unfoldable pub entry_of_bytes : Bytes → Decoded
 entry_of_bytes bs = record {
   name = name_of (get_or bs 0 0) (get_or bs 1 0);
   level = get_or bs 2 0;
-  format = letter_number (get_or bs 3 0);
+  format = letter_coded (format_of (get_or bs 3 0));
   size = get_or bs 4 0;
   multiple = eqb (get_or bs 5 0) 1;
   periodic = eqb (get_or bs 5 0) 2;

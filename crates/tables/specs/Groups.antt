@@ -1,11 +1,11 @@
 -- A group's members and fields by their entry numbers, and the fields of a series.
-use Rattle.std.specs.Prelude.{◌≡◌, Bool, true, false, cond, not, ◌&&◌, ◌||◌, List, [], ◌∷◌, map, ℕ, suc, ◌+◌, ◌-◌, ◌≤◌, eqb, leb, ltb, length, get_or, take, drop}
+use Rattle.std.specs.Prelude.{◌≡◌, Bool, true, false, cond, not, ◌&&◌, ◌||◌, List, [], ◌∷◌, map, ℕ, suc, ◌+◌, ◌-◌, ◌≤◌, leb, ltb, length, get_or, take, drop, is_none}
 use Rattle.rules.specs.Values.{alpha}
 use Rattle.rules.specs.Table.{What, field, group, Field, Entry, fields_below}
 use Rattle.rules.specs.Outcome.{done, is_done}
 use Rattle.rules.specs.Use.{fields_to}
 use Rattle.buffer.specs.Splice.{splice}
-use Rattle.tables.specs.Entries.{blank, group_number, what_at}
+use Rattle.tables.specs.Entries.{blank, what_at}
 use Rattle.tables.specs.declared.Entry.{Entry as Decoded}
 use Rattle.tables.specs.declared.groups.Expansion.{Expansion}
 
@@ -63,7 +63,7 @@ pub record FieldsOf (es : List Entry) (i : ℕ) (before after : List ℕ) (r : �
 
 -- Whether an entry can stand in a group that is named: a group, or a field neither MU nor of variable length.
 unfoldable pub plain_entry : Decoded → Bool
-plain_entry r = eqb r.format group_number || (not r.multiple && leb 1 r.size)
+plain_entry r = is_none r.format || (not r.multiple && leb 1 r.size)
 
 -- What is said of the series from entry i to entry j: whether it is one, and that its fields are those of the entries from i to j.
 pub record Spanned (es : List Entry) (i j : ℕ) (r : Bool) : Type 0 where

@@ -1,5 +1,5 @@
 -- An entry by its number: whether it is a periodic group or in one, and what a look-up of its name finds.
-use Rattle.std.specs.Prelude.{◌≡◌, Bool, true, false, List, [], ◌∷◌, ℕ, zero, suc, ◌+◌, ◌<◌, ◌≤◌, length, get_or, drop}
+use Rattle.std.specs.Prelude.{◌≡◌, Bool, true, false, List, [], ◌∷◌, ℕ, zero, suc, ◌+◌, ◌<◌, ◌≤◌, length, get_or, drop, None, Option, Some}
 use Rattle.rules.specs.Outcome.{done, refused}
 use Rattle.rules.specs.Numbers.{refusal}
 use Rattle.rules.specs.declared.Refusal.TheVariants.{UnknownName}
@@ -8,8 +8,6 @@ use Rattle.rules.specs.Use.{find}
 use Rattle.rules.specs.Use as Use
 use Rattle.tables.specs.Entries.{blank, what_at}
 use Rattle.tables.specs.Groups.{run_below}
-use Rattle.tables.specs.declared.Found.{Found}
-use Rattle.tables.specs.declared.Found.TheVariants.{At, Nothing}
 
 -- Whether entry i is a periodic group or in one, where the entry before the first is, or is not.
 unfoldable pub inside_from : Bool → List Entry → ℕ → Bool
@@ -25,9 +23,9 @@ unfoldable pub found_at : List Entry → ℕ → Use.Found
 found_at es i = record { entry = get_or es i blank; inside = inside_at es i; after = drop (suc i) es }
 
 -- What a look-up answers: the number of the entry that has the name, or that none has it.
-abbrev pub Finds : ℕ → List Entry → Found → Type 0
-Finds n es (At i) = (i < length es) × (find n es ≡ done (found_at es i))
-Finds n es Nothing = find n es ≡ refused (refusal UnknownName)
+abbrev pub Finds : ℕ → List Entry → Option ℕ → Type 0
+Finds n es (Some i) = (i < length es) × (find n es ≡ done (found_at es i))
+Finds n es None = find n es ≡ refused (refusal UnknownName)
 
 -- The periodic group that entry i is or lies in: its entry j, with i not after its last member.
 pub record Home (es : List Entry) (i j : ℕ) : Type 0 where
@@ -37,6 +35,6 @@ pub record Home (es : List Entry) (i j : ℕ) : Type 0 where
   pub within : i ≤ j + run_below 1 (drop (suc j) es)
   pub inside : inside_at es i ≡ true
 
-abbrev pub Homes : List Entry → ℕ → Found → Type 0
-Homes es i (At j) = Home es i j
-Homes es i Nothing = inside_at es i ≡ false
+abbrev pub Homes : List Entry → ℕ → Option ℕ → Type 0
+Homes es i (Some j) = Home es i j
+Homes es i None = inside_at es i ≡ false

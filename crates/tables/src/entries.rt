@@ -1,10 +1,12 @@
 // The entries of a table by their bytes: two are the name, the others the level, the format, the length and the option.
-ghost use Rattle.std.specs.Prelude.{◌≡◌, ◌<◌, length, get_or, eqb};
+#![tactic(auto, using(crate::proofs::Tables::valid_steps), unfolding(crate::specs::Entries::entry_of_bytes, crate::specs::Entries::group_letter, rules::specs::Table::name_of))]
+
+ghost use Rattle.std.specs.Prelude.{◌≡◌, false, ◌<◌, length, get_or};
 ghost use Rattle.rules.specs.Limits.{entry_size};
-ghost use Rattle.rules.specs.Table.{name_of};
-ghost use Rattle.tables.specs.Entries.{is_group, is_multiple, is_periodic, size_of, format_number, entry_of_bytes, group_letter, HasEntry, bytes_at, Valid, entries_of, decoded, blank, what_at};
+ghost use Rattle.tables.specs.Entries.{is_group, is_multiple, is_periodic, size_of, format_at, field_format, entry_of_bytes, group_letter, HasEntry, bytes_at, Valid, entries_of, decoded, blank, what_at};
 
 use crate::Entry;
+use value_formats::Format;
 
 // The places of its bytes in an entry.
 pub const NAME_FIRST: usize = 0;
@@ -27,13 +29,6 @@ pub const PERIODIC: u8 = 2;
 // The place in a table of the number of its entries: the head ends with it.
 pub const COUNT: usize = rules::TABLE_HEAD_SIZE - 1;
 
-// A byte as a number.
-pub fn wide(b: u8) -> usize
-    ensures { (result ≡ b) × (result < 256) }
-{
-    b as usize
-}
-
 // Byte k of entry i.
 pub fn entry_byte(t: &[u8], i: usize, k: usize) -> u8
     requires { HasEntry t.now i × (k < entry_size) }
@@ -43,11 +38,11 @@ pub fn entry_byte(t: &[u8], i: usize, k: usize) -> u8
 }
 
 // The name of entry i, as one number.
-fn name_at(t: &[u8], i: usize) -> u16
+pub fn name_at(t: &[u8], i: usize) -> u16
     requires { HasEntry t.now i }
     ensures { result ≡ (entry_of_bytes (bytes_at t.now i)).name }
 {
-    (wide(entry_byte(t, i, NAME_FIRST)) * 256 + wide(entry_byte(t, i, NAME_SECOND))) as u16
+    u16::from_be_bytes([entry_byte(t, i, NAME_FIRST), entry_byte(t, i, NAME_SECOND)])
 }
 
 // Entry i, decoded, whether or not its bytes are right.
@@ -59,22 +54,11 @@ fn decode(t: &[u8], i: usize) -> Entry
     Entry {
         name: name_at(t, i),
         level: entry_byte(t, i, LEVEL),
-        format: value_formats::format_number(entry_byte(t, i, FORMAT)) as u8,
+        format: value_formats::format_of(entry_byte(t, i, FORMAT)),
         size: entry_byte(t, i, SIZE),
         multiple: option == MULTIPLE,
         periodic: option == PERIODIC,
     }
-}
-
-// Whether entry i has the name of two bytes.
-pub fn named_in(t: &[u8], i: usize, a: u8, b: u8) -> bool
-    requires { HasEntry t.now i }
-    ensures { result ≡ eqb (entry_of_bytes (bytes_at t.now i)).name (name_of a b) }
-{
-    if entry_byte(t, i, NAME_FIRST) == a {
-        return entry_byte(t, i, NAME_SECOND) == b;
-    }
-    false
 }
 
 // The level of entry i, whether or not it is right.
@@ -98,7 +82,7 @@ pub fn count(t: &[u8]) -> usize
     requires { Valid t.now }
     ensures { result ≡ length (entries_of t.now) }
 {
-    wide(t[COUNT])
+    usize::from(t[COUNT])
 }
 
 // Entry i.
@@ -117,12 +101,12 @@ pub fn level_at(t: &[u8], i: usize) -> u8
     level_in(t, i)
 }
 
-// The number of the format of entry i: GROUP where it is a group.
-pub fn format_at(t: &[u8], i: usize) -> usize
-    requires { Valid t.now × (i < length (entries_of t.now)) }
-    ensures { result ≡ format_number (what_at (entries_of t.now) i) }
+// The format of entry i, a field.
+pub fn field_format(t: &[u8], i: usize) -> Format
+    requires { Valid t.now × (i < length (entries_of t.now)) × (is_group (what_at (entries_of t.now) i) ≡ false) }
+    ensures { format_at result ≡ field_format (what_at (entries_of t.now) i) }
 {
-    value_formats::format_number(entry_byte(t, i, FORMAT))
+    value_formats::format_of(entry_byte(t, i, FORMAT)).unwrap_or(Format::Alpha)
 }
 
 // The standard length of entry i: 0 where it is a group.
@@ -130,7 +114,7 @@ pub fn size_at(t: &[u8], i: usize) -> usize
     requires { Valid t.now × (i < length (entries_of t.now)) }
     ensures { (result ≡ size_of (what_at (entries_of t.now) i)) × (result < 256) }
 {
-    wide(entry_byte(t, i, SIZE))
+    usize::from(entry_byte(t, i, SIZE))
 }
 
 // Whether entry i is a group.

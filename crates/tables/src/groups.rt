@@ -10,20 +10,19 @@ ghost use Rattle.tables.specs.Groups.{group_end, Expanded, FieldsOf, plain_entry
 use crate::entries;
 
 // The number of the first entry after the members of entry i.
+#[tactic(auto, using(crate::proofs::Nesting::run_steps))]
 pub fn group_end(t: &[u8], i: usize) -> usize
     requires { Valid t.now × (i < length (entries_of t.now)) }
     ensures { result ≡ group_end (entries_of t.now) i }
 {
     let n = entries::count(t);
     let level = entries::level_at(t, i);
-    let mut j = i + 1;
-    while j < n {
+    for j in i + 1..n {
         if entries::level_at(t, j) <= level {
             return j;
         }
-        j += 1;
     }
-    j
+    n
 }
 
 // How far a walk over entries has come: the next entry, and how many fields were written.
@@ -34,6 +33,7 @@ struct Expansion {
 }
 
 // Writes the numbers of the fields among the entries at and after `at` that are deeper than level, a group's members by a call of its own.
+#[tactic(auto, using(crate::proofs::Walks::walk_bounds))]
 fn expand_from(
     t: &[u8],
     at: usize,
@@ -54,53 +54,44 @@ fn expand_from(
     }
     if entries::group_at(t, at) {
         let inner = expand_from(t, at + 1, n, deep, out, count);
-        let next = inner.next;
-        let sofar = inner.count;
-        return expand_from(t, next, n, level, out, sofar);
+        return expand_from(t, inner.next, n, level, out, inner.count);
     }
     out[count] = at as u8;
     expand_from(t, at + 1, n, level, out, count + 1)
 }
 
 // Writes the entry numbers of the fields of group i, in table order; how many there are.
+#[tactic(auto, using(crate::proofs::Tables::valid_most, crate::proofs::Walks::expanded))]
 pub fn expand(t: &[u8], i: usize, out: &mut [u8; rules::MOST_ENTRIES]) -> usize
     requires { Valid t.now × (i < length (entries_of t.now)) × (length out.old ≡ most_entries) }
     ensures { FieldsOf (entries_of t.now) i out.old out.new result }
 {
     let level = entries::level_at(t, i);
-    let walked = expand_from(t, i + 1, entries::count(t), level, out, 0);
-    walked.count
+    expand_from(t, i + 1, entries::count(t), level, out, 0).count
 }
 
 // Whether entry i can stand in a group that is named.
+#[tactic(auto, using(crate::proofs::Tables::is_group_coded), unfolding(crate::specs::Groups::plain_entry))]
 fn plain_at(t: &[u8], i: usize) -> bool
     requires { Valid t.now × (i < length (entries_of t.now)) }
     ensures { result ≡ plain_entry (decoded (get_or (entries_of t.now) i blank)) }
 {
-    if entries::group_at(t, i) {
-        return true;
-    }
-    if entries::multiple_at(t, i) {
-        return false;
-    }
-    1 <= entries::entry_byte(t, i, entries::SIZE)
+    entries::group_at(t, i) || !entries::multiple_at(t, i) && 1 <= entries::size_at(t, i)
 }
 
 // Whether group i can be named: it has neither an MU field nor one of variable length.
+#[tactic(auto, using(crate::proofs::Plains::plain_steps))]
 pub fn plain_group(t: &[u8], i: usize) -> bool
     requires { Valid t.now × (i < length (entries_of t.now)) }
     ensures { result ≡ all plain (fields_below (get_or (entries_of t.now) i blank).level (drop (i + 1) (entries_of t.now))) }
 {
     let n = entries::count(t);
     let level = entries::level_at(t, i);
-    let mut j = i + 1;
-    while j < n {
+    for j in i + 1..n {
         if entries::level_at(t, j) <= level {
             return true;
         }
-        if plain_at(t, j) {
-            j += 1;
-        } else {
+        if !plain_at(t, j) {
             return false;
         }
     }
@@ -108,23 +99,18 @@ pub fn plain_group(t: &[u8], i: usize) -> bool
 }
 
 // Whether the entries from i to j can be a series: no MU field, no periodic group, and j a field not before i.
+#[tactic(auto, using(crate::proofs::Tables::valid_names, crate::proofs::Serial::series_steps))]
 pub fn series(t: &[u8], i: usize, j: usize) -> bool
     requires { Valid t.now × (i < length (entries_of t.now)) × (j < length (entries_of t.now)) }
     ensures { Spanned (entries_of t.now) i j result }
 {
-    let n = entries::count(t);
-    let mut k = i;
-    while k < n {
-        if entries::multiple_at(t, k) {
-            return false;
-        }
-        if entries::periodic_at(t, k) {
+    for k in i..entries::count(t) {
+        if entries::multiple_at(t, k) || entries::periodic_at(t, k) {
             return false;
         }
         if k == j {
             return !entries::group_at(t, k);
         }
-        k += 1;
     }
     false
 }

@@ -7,29 +7,20 @@ mod lookup;
 mod validity;
 
 pub use entries::{
-    count, entry_at, format_at, group_at, level_at, multiple_at, periodic_at, size_at,
+    count, entry_at, field_format, group_at, level_at, multiple_at, periodic_at, size_at,
 };
 pub use groups::{expand, group_end, plain_group, series};
 pub use lookup::{find, find_near, inside, periodic_group};
 pub use validity::valid;
+use value_formats::Format;
 
-// What stands in the place of a group's format.
-pub const GROUP: u8 = rules::FORMATS as u8;
-
-// A decoded entry. A format is its number: A 0, B 1, F 2, P 3, U 4; a group has GROUP.
+// A decoded entry; a group has no format.
 #[derive(Clone, Copy)]
 pub struct Entry {
     pub name: u16,
     pub level: u8,
-    pub format: u8,
+    pub format: Option<Format>,
     pub size: u8,
     pub multiple: bool,
     pub periodic: bool,
-}
-
-// The number of an entry, where there is one.
-#[derive(Clone, Copy)]
-pub enum Found {
-    At(usize),
-    Nothing,
 }

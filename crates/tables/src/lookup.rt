@@ -3,56 +3,45 @@ ghost use Rattle.std.specs.Prelude.{◌≡◌, ◌<◌, length};
 ghost use Rattle.tables.specs.Entries.{Valid, entries_of};
 ghost use Rattle.tables.specs.Places.{Finds, Homes, inside_at};
 
-use crate::{Found, entries};
+use crate::entries;
 
 // The entry that has a name.
-pub fn find(t: &[u8], name: u16) -> Found
+#[tactic(auto, using(crate::proofs::Tables::valid_steps, crate::proofs::Names::find_steps))]
+pub fn find(t: &[u8], name: u16) -> Option<usize>
     requires { Valid t.now }
     ensures { Finds name (entries_of t.now) result }
 {
-    let n = entries::count(t);
-    let a = (name / 256) as u8;
-    let b = (name % 256) as u8;
-    let mut i = 0;
-    while i < n {
-        if entries::named_in(t, i, a, b) {
-            return Found::At(i);
+    for i in 0..entries::count(t) {
+        if entries::name_at(t, i) == name {
+            return Some(i);
         }
-        i += 1;
     }
-    Found::Nothing
+    None
 }
 
 // The entry that has a name: the one given, where it has it, else the first that does.
-pub fn find_near(t: &[u8], near: usize, name: u16) -> Found
+#[tactic(auto, using(crate::proofs::Tables::valid_steps, crate::proofs::Known::name_finds))]
+pub fn find_near(t: &[u8], near: usize, name: u16) -> Option<usize>
     requires { Valid t.now }
     ensures { Finds name (entries_of t.now) result }
 {
-    if near < entries::count(t) {
-        let a = (name / 256) as u8;
-        let b = (name % 256) as u8;
-        if entries::named_in(t, near, a, b) {
-            return Found::At(near);
-        }
+    if near < entries::count(t) && entries::name_at(t, near) == name {
+        return Some(near);
     }
     find(t, name)
 }
 
 // The periodic group that entry i is or lies in: the last entry of level 1 up to it, where that one is periodic.
-pub fn periodic_group(t: &[u8], i: usize) -> Found
+#[tactic(auto, using(crate::proofs::Tables::valid_climbs, crate::proofs::Climbs::climb_steps))]
+pub fn periodic_group(t: &[u8], i: usize) -> Option<usize>
     requires { Valid t.now × (i < length (entries_of t.now)) }
     ensures { Homes (entries_of t.now) i result }
 {
     let mut j = i;
-    loop {
-        if entries::level_at(t, j) == 1 {
-            if entries::periodic_at(t, j) {
-                return Found::At(j);
-            }
-            return Found::Nothing;
-        }
+    while entries::level_at(t, j) != 1 {
         j -= 1;
     }
+    entries::periodic_at(t, j).then_some(j)
 }
 
 // Whether entry i is a periodic group or lies in one.
@@ -60,9 +49,5 @@ pub fn inside(t: &[u8], i: usize) -> bool
     requires { Valid t.now × (i < length (entries_of t.now)) }
     ensures { result ≡ inside_at (entries_of t.now) i }
 {
-    let home = periodic_group(t, i);
-    match home {
-        Found::At(_) => true,
-        Found::Nothing => false,
-    }
+    periodic_group(t, i).is_some()
 }

@@ -1,18 +1,17 @@
--- A field that a span asks for, by the numbers that the code has of its entry. Whether formats convert does not go by the direction, so what
+-- A field that a span asks for, by the format and the length that the code has of its entry. Whether formats convert does not go by the direction, so what
 -- a use rule tests for a read serves an update.
-use mathlib.Core.Path.{◌≡◌, refl, ◌∙◌, subst}
+use mathlib.Core.Path.{◌≡◌, refl, sym, ◌∙◌, subst}
 use mathlib.Core.Bool.{Bool, true, false}
 use Prim.Native.Nat.{ℕ, ◌≤◌, ◌<◌}
 use native.Mathlib.Omega.{arith}
 use lib.ListN.{length, get_or}
-use Rattle.rules.specs.Limits.{formats}
 use Rattle.rules.specs.Lists.{Bytes}
 use Rattle.rules.specs.Values.{Format, alpha, binary, fixed, packed, unpacked, conversion, allowed, converts}
 use Rattle.rules.specs.Use.{as_stored}
 use Rattle.value_formats.specs.Formats.{format_at}
-use Rattle.tables.specs.Entries.{Valid, entries_of, blank, decoded, is_group}
+use Rattle.value_formats.specs.declared.Format.{Format as Coded}
+use Rattle.tables.specs.Entries.{Valid, entries_of, blank, is_group, field_format, size_of}
 use Rattle.tables.specs.Groups.{field_at}
-use Rattle.tables.specs.declared.Entry.{Entry as Row}
 use Rattle.tables.proofs.Known.{field_known}
 use Rattle.uses.specs.Meant.{OneField}
 use Rattle.uses.specs.declared.Span.{Span}
@@ -60,43 +59,42 @@ converts_itself packed = refl
 converts_itself unpacked = refl
 
 module _ (t : Bytes) (v : Valid t) (i : ℕ) (known : i < length (entries_of t)) (single : is_group (get_or (entries_of t) i blank).what ≡ false)
-    (e : Row) (q : e ≡ decoded (get_or (entries_of t) i blank)) where
-  own_format : (field_at (entries_of t) i).format ≡ format_at e.format
-  own_format = rw q (format_of_field (entries_of t) i single).0
+    (own : Coded) (standard : ℕ) (own_is : format_at own ≡ field_format (get_or (entries_of t) i blank).what) (standard_is : standard ≡ size_of (get_or (entries_of t) i blank).what) where
+  own_format : (field_at (entries_of t) i).format ≡ format_at own
+  own_format = format_of_field (entries_of t) i ∙ sym own_is
 
-  own_size : (field_at (entries_of t) i).size ≡ e.size
-  own_size = rw q (size_at (entries_of t) i)
+  own_size : (field_at (entries_of t) i).size ≡ standard
+  own_size = size_at (entries_of t) i ∙ sym standard_is
+
+  own_good : allowed (format_at own) standard ≡ true
+  own_good = rw (own_is, standard_is) (field_known t v i known single)
 
   -- At a format and a length that are right for it.
-  pub gives_at : (format size : ℕ) (bare : Bool) → format < formats → allowed (format_at format) size ≡ true
-      → converts (format_at e.format) (format_at format) ≡ true
-      → Gives (entries_of t) (record { entry = i; format = format; size = size; own = e.format; standard = e.size; bare = bare })
-  gives_at format size bare small good turned = record {
+  pub gives_at : (format : Coded) (size : ℕ) (bare : Bool) → allowed (format_at format) size ≡ true → converts (format_at own) (format_at format) ≡ true
+      → Gives (entries_of t) (record { entry = i; format = format; size = size; own = own; standard = standard; bare = bare })
+  gives_at format size bare good turned = record {
     entry = known;
     field = single;
     own = own_format;
-    own_known = rw q (field_known t v i known single).0;
     standard = own_size;
-    own_allowed = rw q (field_known t v i known single).1;
-    format = small;
+    own_allowed = own_good;
     size = good;
-    converts = converts_turned (format_at format) (format_at e.format) ∙ turned;
+    converts = converts_turned (format_at format) (format_at own) ∙ turned;
   }
 
-  pub gives_stored : (bare : Bool) → Gives (entries_of t) (record { entry = i; format = e.format; size = e.size; own = e.format; standard = e.size; bare = bare })
-  gives_stored bare =
-      gives_at e.format e.size bare (rw q (field_known t v i known single).0) (rw q (field_known t v i known single).1) (converts_itself (format_at e.format))
+  pub gives_stored : (bare : Bool) → Gives (entries_of t) (record { entry = i; format = own; size = standard; own = own; standard = standard; bare = bare })
+  gives_stored bare = gives_at own standard bare own_good (converts_itself (format_at own))
 
   pub asks_stored : (s : Span) (bare : Bool) → s.standard ≡ true
-      → asked_given (entries_of t) (record { entry = i; format = e.format; size = e.size; own = e.format; standard = e.size; bare = bare })
+      → asked_given (entries_of t) (record { entry = i; format = own; size = standard; own = own; standard = standard; bare = bare })
       ≡ asked_as s.standard s (field_at (entries_of t) i)
   unfolding as_stored
-  asks_stored s bare standard = rw (standard, own_format, own_size)
+  asks_stored s bare whole = rw (whole, own_format, own_size)
 
   -- The one field of a span, at the format and the length in effect.
   pub gives_one : (s : Span) → OneField (entries_of t) s → s.first ≤ i → i < s.end → (bare : Bool)
-      → Gives (entries_of t) (record { entry = i; format = s.format; size = s.size; own = e.format; standard = e.size; bare = bare })
+      → Gives (entries_of t) (record { entry = i; format = s.format; size = s.size; own = own; standard = standard; bare = bare })
   gives_one s one low high bare =
       let here : s.first ≡ i = omega (arith, one.next) in
-      gives_at s.format s.size bare one.format one.allowed
+      gives_at s.format s.size bare one.allowed
       (subst (λ (f : Format). converts f (format_at s.format) ≡ true) own_format (subst (λ (j : ℕ). converts (field_at (entries_of t) j).format (format_at s.format) ≡ true) here one.converts))

@@ -1,4 +1,5 @@
 -- One value of the record buffer: it is not there, or it means nothing, or it is as its field stores it, or it is taken as its content is converted.
+use Rattle.std.specs.Prelude.{Err, Ok, Result}
 use mathlib.Core.Path.{◌≡◌, refl, sym, ◌∙◌, ap}
 use mathlib.Core.Bool.{Bool, true, false}
 use mathlib.Core.Logic.{◌⊎◌, ⊎_elim}
@@ -21,16 +22,12 @@ use Rattle.rules.proofs.Readers.{first_sound}
 use Rattle.value_formats.specs.Formats.{format_at}
 use Rattle.values.specs.Fits.{Convertible}
 use Rattle.values.specs.Places.{Located}
-use Rattle.values.specs.declared.FirstValue.{FirstValue}
-use Rattle.values.specs.declared.FirstValue.TheVariants as first
 use Rattle.values.proofs.Cuts.{first_content, found_content}
 use Rattle.values.proofs.Converted.{bad_value, content_allowed}
 use Rattle.values.proofs.Meant.{converted_itself}
 use Rattle.taking.specs.Taking.{Gives, asked_given, given_bytes, Moved, Takes, Stages, StagedValue}
 use Rattle.taking.specs.declared.value.Given.{Given}
 use Rattle.taking.specs.declared.Taking.{Taking}
-use Rattle.taking.specs.declared.Taken.{Taken}
-use Rattle.taking.specs.declared.Taken.TheVariants.{At, Refused}
 
 taking_one : (bare : Bool) (a : Asked) (o k : ℕ) (bs : Bytes) → taking (item_at bare a o k ∷ []) bs ≡ (do
   r ← first_value a.size bs
@@ -63,7 +60,7 @@ value_normal g content e z n =
 
 -- A value that was found from a place on.
 module _ (buffer : Bytes) (g : Given) (at from next : ℕ)
-    (l : Located buffer at (first_value g.size (drop at buffer)) (first.Value from next)) where
+    (l : Located buffer at (first_value g.size (drop at buffer)) (Ok (from, next))) where
   abbrev content : Bytes
   content = take (next - from) (drop from buffer)
 
@@ -90,17 +87,15 @@ module _ (buffer : Bytes) (g : Given) (at from next : ℕ)
 
   pub value_asked : {es : List Entry} → Gives es g → is_done (meaning (format_at g.format) content) ≡ true → Convertible g.format g.own g.standard content
   value_asked gives m = record {
-    source = gives.format;
-    target = gives.own_known;
     size = content_allowed (format_at g.format) g.size (length content) gives.size value_long;
     length_there = gives.own_allowed;
     value = m;
   }
 
 module _ (es : List Entry) (buffer : Bytes) (g : Given) (o k : ℕ) (s : Taking) where
-  pub value_unfound : {v : FirstValue} → Located buffer s.at (first_value g.size (drop s.at buffer)) v
-      → (list : List ℕ) (stage : Bytes) (x : Refusal) → v ≡ first.Refused x
-      → Takes es buffer (item_at g.bare (asked_given es g) o k ∷ []) s list list stage stage (Refused x)
+  pub value_unfound : {v : (Result (ℕ × ℕ) Refusal)} → Located buffer s.at (first_value g.size (drop s.at buffer)) v
+      → (list : List ℕ) (stage : Bytes) (x : Refusal) → v ≡ Err x
+      → Takes es buffer (item_at g.bare (asked_given es g) o k ∷ []) s list list stage stage (Err x)
   value_unfound l list stage x q = record {
     same_list = refl;
     same_stage = refl;
@@ -108,7 +103,7 @@ module _ (es : List Entry) (buffer : Bytes) (g : Given) (o k : ℕ) (s : Taking)
     moved = λ ws h. taking_one g.bare (asked_given es g) o k (drop s.at buffer) ∙ rw (← l.answer, q);
   }
 
-  module _ (from next : ℕ) (l : Located buffer s.at (first_value g.size (drop s.at buffer)) (first.Value from next)) (gives : Gives es g) where
+  module _ (from next : ℕ) (l : Located buffer s.at (first_value g.size (drop s.at buffer)) (Ok (from, next))) (gives : Gives es g) where
     abbrev there : Bytes
     there = take (next - from) (drop from buffer)
 
@@ -117,11 +112,11 @@ module _ (es : List Entry) (buffer : Bytes) (g : Given) (o k : ℕ) (s : Taking)
         ≡ (given_bytes g there >>= λ w. done (record { place = spot (asked_given es g) o k; bare = g.bare; bytes = w } ∷ [], drop next buffer))
     given_here = taking_one g.bare (asked_given es g) o k (drop s.at buffer) ∙ rw (← l.answer, gives.own, gives.standard)
 
-    pub value_staged : {list list' : List ℕ} {stage stage' : Bytes} {r : Taken} → Stages es buffer g o k there next s list list' stage stage' r
+    pub value_staged : {list list' : List ℕ} {stage stage' : Bytes} {r : (Result Taking Refusal)} → Stages es buffer g o k there next s list list' stage stage' r
         → Takes es buffer (item_at g.bare (asked_given es g) o k ∷ []) s list list' stage stage' r
     value_staged {list' = list'} {stage' = stage'} {r = r} t = record { same_list = t.same_list; same_stage = t.same_stage; same_uses = t.same_uses; moved = λ ws h. moved r ws (t.moved ws h) }
       where
-        moved : (r : Taken) (ws : List Assignment) → StagedValue es buffer g o k there next list' stage' ws r
+        moved : (r : Result Taking Refusal) (ws : List Assignment) → StagedValue es buffer g o k there next list' stage' ws r
             → Moved es buffer (item_at g.bare (asked_given es g) o k ∷ []) s.at list' stage' ws r
-        moved (At u) ws x = (record { place = spot (asked_given es g) o k; bare = g.bare; bytes = x.0 } ∷ [], given_here ∙ rw (x.1, x.2), x.3)
-        moved (Refused y) ws x = given_here ∙ rw x
+        moved (Ok u) ws x = (record { place = spot (asked_given es g) o k; bare = g.bare; bytes = x.0 } ∷ [], given_here ∙ rw (x.1, x.2), x.3)
+        moved (Err y) ws x = given_here ∙ rw x

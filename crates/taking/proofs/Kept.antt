@@ -1,4 +1,5 @@
 -- The items of the uses that are kept, a use at a time; and what they give from the start of the record buffer, where nothing is held yet.
+use Rattle.std.specs.Prelude.{Err, Ok, Result}
 use mathlib.Core.Path.{◌≡◌, refl, sym, ◌∙◌, ap, subst}
 use mathlib.Core.Bool.{true, false, true≢false}
 use mathlib.Core.List.{List, [], ◌∷◌, ◌++◌, append-nil, append_assoc}
@@ -28,8 +29,6 @@ use Rattle.uses.specs.declared.Use.{Use}
 use Rattle.assignments.specs.Notes.{note_bound, note_place, firsts_from, start_noted, place_at, bytes_given, assignments_in, given_first, TakesAt}
 use Rattle.taking.specs.Taking.{Holds, Takes, Gave}
 use Rattle.taking.specs.declared.Taking.{Taking}
-use Rattle.taking.specs.declared.Taken.{Taken}
-use Rattle.taking.specs.declared.Taken.TheVariants.{At, Refused}
 
 no_items : (g : ℕ → Meaning) (i : ℕ) → items (run g i 0) ≡ []
 unfolding items run join
@@ -161,9 +160,9 @@ module _ {es : List Entry} {f buffer : Bytes} {kept : List ℕ} where
         λ free. ap (λ (l : List ℕ). get_or l (note_place n) 0) e ∙ get_or-set_same list (note_place n) s.staged 0 (omega (arith, h)) ∙ k.staged free ∙ ap (λ (ws : List Assignment). length (bytes_given ws)) (sym (first_given es f buffer kept n g.own _ g.given)),
       )
 
-  pub gone_on : {n : ℕ} {list₀ list list' : List ℕ} {stage₀ stage stage' : Bytes} {s s' : Taking} {r : Taken} → Gone es f buffer kept n list₀ list stage₀ stage s
+  pub gone_on : {n : ℕ} {list₀ list list' : List ℕ} {stage₀ stage stage' : Bytes} {s s' : Taking} {r : (Result Taking Refusal)} → Gone es f buffer kept n list₀ list stage₀ stage s
       → (s.full ≡ false → start_noted list n ≡ length (bytes_given (given_first es f kept buffer n))) → length stage ≡ longest_new_record
-      → Takes es buffer (items_of (use_meant es f (use_at kept n))) s list list' stage stage' r → r ≡ At s' → Gone es f buffer kept (n + 1) list₀ list' stage₀ stage' s'
+      → Takes es buffer (items_of (use_meant es f (use_at kept n))) s list list' stage stage' r → r ≡ Ok s' → Gone es f buffer kept (n + 1) list₀ list' stage₀ stage' s'
   gone_on {n} {list = list} {list'} {stage = stage} {stage'} {s} {s'} g b l t e =
       let m = rw e at t in
       let y = m.moved g.own g.held in
@@ -179,15 +178,15 @@ module _ {es : List Entry} {f buffer : Bytes} {kept : List ℕ} where
         starts = λ free k h. m.same_uses (note_place k) (omega arith) ∙ by_less k n (omega (arith, h)) (λ x. g.starts (was free) k x) (λ x. rw x (b (was free)));
       }
 
-  pub gone_off : {n count : ℕ} {list₀ list list' : List ℕ} {stage₀ stage stage' : Bytes} {s : Taking} {r : Taken} {x : Refusal} → Gone es f buffer kept n list₀ list stage₀ stage s → n < count
-      → Takes es buffer (items_of (use_meant es f (use_at kept n))) s list list' stage stage' r → r ≡ Refused x → Gave es f buffer kept count list' stage' (Refused x)
+  pub gone_off : {n count : ℕ} {list₀ list list' : List ℕ} {stage₀ stage stage' : Bytes} {s : Taking} {r : (Result Taking Refusal)} {x : Refusal} → Gone es f buffer kept n list₀ list stage₀ stage s → n < count
+      → Takes es buffer (items_of (use_meant es f (use_at kept n))) s list list' stage stage' r → r ≡ Err x → Gave es f buffer kept count list' stage' (Err x)
   gone_off {n} {count} {x = x} g h t e =
       let m = rw e at t in
       assignments_taking (items (uses_kept es f kept count)) buffer
       ∙ rw (uses_all es f kept count n h, taking_stops _ _ (left es f kept count (n + 1)) buffer _ g.own (refusal x) g.given (m.moved g.own g.held))
 
   pub gone_end : {count : ℕ} {list₀ list : List ℕ} {stage₀ stage : Bytes} {s : Taking} → Gone es f buffer kept count list₀ list stage₀ stage s → GoodUses es f kept count
-      → (t : Bytes) → Valid t → es ≡ entries_of t → Below 256 buffer → numbers_kept * count ≤ length kept → note_place count ≤ length list → count < note_bound → length stage ≡ longest_new_record → Gave es f buffer kept count list stage (At s)
+      → (t : Bytes) → Valid t → es ≡ entries_of t → Below 256 buffer → numbers_kept * count ≤ length kept → note_place count ≤ length list → count < note_bound → length stage ≡ longest_new_record → Gave es f buffer kept count list stage (Ok s)
   gone_end {count} {s = s} g u t v w x k l c m = (
     g.own,
     assignments_taking (items (uses_kept es f kept count)) buffer ∙ rw g.given,

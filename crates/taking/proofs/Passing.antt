@@ -1,5 +1,7 @@
 -- Items that are passed over: they give nothing, and the buffer has their bytes or is too short for them. So each kind of use has its own
 -- items.
+use Rattle.std.specs.Prelude.{Err, Ok, Result}
+use Rattle.rules.specs.declared.Refusal.{Refusal}
 use mathlib.Core.Path.{◌≡◌, refl, sym, ◌∙◌, subst}
 use mathlib.Core.List.{List, [], ◌∷◌, ◌++◌, append-nil}
 use Prim.Native.Nat.{ℕ, ◌+◌, ◌-◌, ◌≤◌}
@@ -20,8 +22,6 @@ use Rattle.uses.specs.declared.Use.{Use}
 use Rattle.uses.specs.declared.Use.TheVariants as code
 use Rattle.taking.specs.Taking.{Holds, Takes, Passed}
 use Rattle.taking.specs.declared.Taking.{Taking}
-use Rattle.taking.specs.declared.Taken.{Taken}
-use Rattle.taking.specs.declared.Taken.TheVariants.{At, Refused}
 
 -- Items of n bytes that give nothing.
 abbrev Skips : List Item → ℕ → Type 0
@@ -58,22 +58,22 @@ module _ (es : List Entry) (buffer : Bytes) (n : ℕ) (s : Taking) (list : List 
     firsts = h.firsts;
   }
 
-  passes : (xs : List Item) → Skips xs n → (r : Taken) → Passed buffer n s r → Takes es buffer xs s list list stage stage r
-  passes xs k (At t) p = record {
+  passes : (xs : List Item) → Skips xs n → (r : Result Taking Refusal) → Passed buffer n s r → Takes es buffer xs s list list stage stage r
+  passes xs k (Ok t) p = record {
     same_list = refl;
     same_stage = refl;
     same_uses = λ j h. refl;
     moved = λ ws h. subst (λ t. (own : List Assignment) × (taking xs (drop s.at buffer) ≡ done (own, drop t.at buffer)) × Holds es buffer list stage t (ws ++ own)) (sym p.1)
         ([], k (drop s.at buffer) ∙ rw (cut_enough 7 n (drop s.at buffer) (rw length-drop (omega (arith, p.0)))) (rw drop-drop), rw append-nil (passed_on p.0 h));
   }
-  passes xs k (Refused x) p = record {
+  passes xs k (Err x) p = record {
     same_list = refl;
     same_stage = refl;
     same_uses = λ j h. refl;
     moved = λ ws h. rw p.1 (k (drop s.at buffer) ∙ rw (cut_short 7 n (drop s.at buffer) (rw length-drop (omega (arith, p.0)))));
   }
 
-  module _ (f : Bytes) {u : Use} {r : Taken} (p : Passed buffer n s r) where
+  module _ (f : Bytes) {u : Use} {r : (Result Taking Refusal)} (p : Passed buffer n s r) where
     as_kind : (v : Use) → u ≡ v → Takes es buffer (items_of (use_meant es f v)) s list list stage stage r → Takes es buffer (items_of (use_meant es f u)) s list list stage stage r
     as_kind v e k = rw e k
 

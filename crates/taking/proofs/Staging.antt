@@ -1,4 +1,5 @@
 -- A value comes to the stage where it has room there; else it is only tested, for the new record is too long.
+use Rattle.std.specs.Prelude.{Err, Ok, Result}
 use mathlib.Core.Path.{◌≡◌, refl, sym, ◌∙◌, ap, subst}
 use mathlib.Core.Bool.{true, false, not, true≢false}
 use mathlib.Core.Logic.{◌⊎◌, inl, inr, ⊎_elim}
@@ -25,15 +26,12 @@ use Rattle.value_formats.specs.Formats.{format_at}
 use Rattle.values.specs.Fits.{converted_length}
 use Rattle.values.proofs.Converted.{no_fit, carried_size_is}
 use Rattle.filling.specs.Filling.{in_room, Filling}
-use Rattle.filling.specs.declared.Next.{Next}
-use Rattle.filling.specs.declared.Next.TheVariants as put
 use Rattle.filling.proofs.Continues.{put_on, put_off}
-use Rattle.assignments.specs.Notes.{note_bound, place_at, bytes_given}
+use Rattle.assignments.specs.Notes.{place_at, bytes_given}
 use Rattle.taking.specs.Taking.{RoomEnough, Holds, given_bytes, Gives, Stages, tested_to, noted}
 use Rattle.taking.proofs.Firsts.{noted_length, noted_uses, noted_unindexed, firsts_more}
 use Rattle.taking.specs.declared.value.Given.{Given}
 use Rattle.taking.specs.declared.Taking.{Taking}
-use Rattle.taking.specs.declared.Taken.TheVariants.{At, Refused}
 use Rattle.taking.proofs.Finding.{value_bad}
 
 -- What is refused in limited room is refused itself, or longer than the room; what is done there is done.
@@ -102,7 +100,7 @@ pub record Puts (es : List Entry) (buffer : Bytes) (g : Given) (content : Bytes)
   pub room : RoomEnough list stage
   pub begins : Begins s from
 
-module _ {es : List Entry} {buffer : Bytes} {g : Given} {content : Bytes} {next : ℕ} {s : Taking} {list : List ℕ} {stage stage' : Bytes} {from : ℕ} {r : Next}
+module _ {es : List Entry} {buffer : Bytes} {g : Given} {content : Bytes} {next : ℕ} {s : Taking} {list : List ℕ} {stage stage' : Bytes} {from : ℕ} {r : (Result ℕ Refusal)}
     (p : Puts es buffer g content next s list stage from)
     (f : Filling (in_room (length stage - from) (given_bytes g content)) from (not s.full) stage stage' r)
     (o k : ℕ) where
@@ -139,7 +137,7 @@ module _ {es : List Entry} {buffer : Bytes} {g : Given} {content : Bytes} {next 
       (λ t. let n : ◌≡◌ {A = ℕ} 9 7 = ap (λ (y : outcome.Refusal). y.number) (refused_inj (sym (no_fit (format_at g.format) (format_at g.own) g.standard content t (ap is_done e)) ∙ e)) in omega arith)
       (λ t. let n : ◌≡◌ {A = ℕ} 8 7 = ap (λ (y : outcome.Refusal). y.number) (refused_inj (sym (value_bad g content t) ∙ e)) in omega arith)
 
-  pub stage_beyond : r ≡ put.Refused BeyondBuffer → Stages es buffer g o k content next s list list stage stage' (At (tested_to next s))
+  pub stage_beyond : r ≡ Err BeyondBuffer → Stages es buffer g o k content next s list list stage stage' (Ok (tested_to next s))
   stage_beyond q = record {
     same_list = refl;
     same_stage = f.same;
@@ -157,7 +155,7 @@ module _ {es : List Entry} {buffer : Bytes} {g : Given} {content : Bytes} {next 
         (room_refused (length stage - from) there (by 7) (put_off f BeyondBuffer q));
   }
 
-  pub stage_refused : (x : Refusal) → (refusal_number x ≡ 7 → ⊥) → r ≡ put.Refused x → Stages es buffer g o k content next s list list stage stage' (Refused x)
+  pub stage_refused : (x : Refusal) → (refusal_number x ≡ 7 → ⊥) → r ≡ Err x → Stages es buffer g o k content next s list list stage stage' (Err x)
   stage_refused x n q = record {
     same_list = refl;
     same_stage = f.same;
@@ -165,7 +163,7 @@ module _ {es : List Entry} {buffer : Bytes} {g : Given} {content : Bytes} {next 
     moved = λ ws h. ⊎_elim (λ e. e) (λ y. absurd (n y.3)) (room_refused (length stage - from) there (refusal x) (put_off f x q));
   }
 
-  pub stage_tested : (upto : ℕ) → s.full ≡ true → r ≡ put.At upto → Stages es buffer g o k content next s list list stage stage' (At (tested_to next s))
+  pub stage_tested : (upto : ℕ) → s.full ≡ true → r ≡ Ok upto → Stages es buffer g o k content next s list list stage stage' (Ok (tested_to next s))
   stage_tested upto t q = record {
     same_list = refl;
     same_stage = f.same;
@@ -174,7 +172,7 @@ module _ {es : List Entry} {buffer : Bytes} {g : Given} {content : Bytes} {next 
   }
 
   -- There is room for it.
-  module _ (upto : ℕ) (free : s.full ≡ false) (q : r ≡ put.At upto) where
+  module _ (upto : ℕ) (free : s.full ≡ false) (q : r ≡ Ok upto) where
     put_there : {C : Type 0} → ((b : Bytes) → there ≡ done b → upto ≡ s.staged + length b → upto ≤ length stage → stage' ≡ splice s.staged b stage → C) → C
     put_there j = put_on f upto q λ b e m w.
         let x = room_done (length stage - from) there b e in
@@ -182,11 +180,8 @@ module _ {es : List Entry} {buffer : Bytes} {g : Given} {content : Bytes} {next 
         let i : 1 ≤ length b = some_bytes b x.0 in
         j b x.0 (omega arith) (omega (arith, x.1)) (w ∙ rw (free, n, bytes_done (done b) b refl))
 
-    pub note_small : from + 1 < note_bound
-    note_small = put_there λ b e m u w. let n = p.begins.staged free in let i = some_bytes b e in omega (arith, p.room.1)
-
     pub stage_on : {list' : List ℕ} → list' ≡ noted list g.entry o k from → g.entry < most_entries
-        → Stages es buffer g o k content next s list list' stage stage' (At (record { at = next; staged = upto; full = false }))
+        → Stages es buffer g o k content next s list list' stage stage' (Ok (record { at = next; staged = upto; full = false }))
     stage_on {list'} z less = record {
       same_list = ap length z ∙ noted_length list g.entry o k from;
       same_stage = f.same;

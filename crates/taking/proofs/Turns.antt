@@ -1,5 +1,6 @@
 -- A loop over items: what is left of them, from where the loop stands, gives what the whole gives from its start, with the assignments so
 -- far before it. A turn takes some items off the front, a stop is their refusal.
+use Rattle.std.specs.Prelude.{Err, Ok, Result}
 use mathlib.Core.Path.{◌≡◌, refl, sym, ◌∙◌}
 use mathlib.Core.List.{List, [], ◌++◌, append_assoc, append-nil}
 use Prim.Native.Nat.{ℕ, ◌≤◌}
@@ -16,8 +17,6 @@ use Rattle.rules.proofs.Ranges.{taking, taking_append}
 use Rattle.assignments.specs.Notes.{uses_from}
 use Rattle.taking.specs.Taking.{RoomEnough, Ready, Holds, Takes}
 use Rattle.taking.specs.declared.Taking.{Taking}
-use Rattle.taking.specs.declared.Taken.{Taken}
-use Rattle.taking.specs.declared.Taken.TheVariants.{At, Refused}
 
 -- Assignments that stand before those that are still to come.
 abbrev before : List Assignment → Outcome (List Assignment × Bytes) → Outcome (List Assignment × Bytes)
@@ -65,7 +64,7 @@ module _ {es : List Entry} {buffer : Bytes} {whole rest : List Item} {s t : Taki
   pub turn_ready : Ready es buffer list₀ stage₀ s → Ready es buffer list stage t
   turn_ready r = (turn_roomy r.0, let x = d.left r.1.0 r.1.1 in (r.1.0 ++ x.0, x.2))
 
-  pub turn_on : {list' : List ℕ} {stage' : Bytes} (xs ys : List Item) (a : Taken) (t' : Taking) → rest ≡ xs ++ ys → a ≡ At t'
+  pub turn_on : {list' : List ℕ} {stage' : Bytes} (xs ys : List Item) (a : Result Taking Refusal) (t' : Taking) → rest ≡ xs ++ ys → a ≡ Ok t'
       → Takes es buffer xs t list list' stage stage' a → TakenOn es buffer whole ys s t' list₀ list' stage₀ stage'
   turn_on xs ys a t' e p k =
       let m = rw p at k in
@@ -82,8 +81,8 @@ module _ {es : List Entry} {buffer : Bytes} {whole rest : List Item} {s t : Taki
             );
       }
 
-  pub turn_off : {list' : List ℕ} {stage' : Bytes} (xs ys : List Item) (a : Taken) (x : Refusal) → rest ≡ xs ++ ys → a ≡ Refused x
-      → Takes es buffer xs t list list' stage stage' a → Takes es buffer whole s list₀ list' stage₀ stage' (Refused x)
+  pub turn_off : {list' : List ℕ} {stage' : Bytes} (xs ys : List Item) (a : Result Taking Refusal) (x : Refusal) → rest ≡ xs ++ ys → a ≡ Err x
+      → Takes es buffer xs t list list' stage stage' a → Takes es buffer whole s list₀ list' stage₀ stage' (Err x)
   turn_off xs ys a n e p k =
       let m = rw p at k in
       record {
@@ -95,7 +94,7 @@ module _ {es : List Entry} {buffer : Bytes} {whole rest : List Item} {s t : Taki
             x.1 ∙ rw (e, taking_stop xs ys (drop t.at buffer) (refusal n) (m.moved (ws ++ x.0) x.2));
       }
 
-  pub turn_end : rest ≡ [] → Takes es buffer whole s list₀ list stage₀ stage (At t)
+  pub turn_end : rest ≡ [] → Takes es buffer whole s list₀ list stage₀ stage (Ok t)
   turn_end e = record {
     same_list = d.same_list;
     same_stage = d.same_stage;
@@ -104,5 +103,5 @@ module _ {es : List Entry} {buffer : Bytes} {whole rest : List Item} {s t : Taki
   }
 
 -- No items, and nothing done.
-pub nothing_taken : (es : List Entry) (buffer : Bytes) (xs : List Item) (s : Taking) (list : List ℕ) (stage : Bytes) → xs ≡ [] → Takes es buffer xs s list list stage stage (At s)
+pub nothing_taken : (es : List Entry) (buffer : Bytes) (xs : List Item) (s : Taking) (list : List ℕ) (stage : Bytes) → xs ≡ [] → Takes es buffer xs s list list stage stage (Ok s)
 nothing_taken es buffer xs s list stage e = turn_end (turn_start es buffer xs s list stage) e

@@ -1,7 +1,8 @@
 -- What the record buffer gave so far: the assignments whose bytes the stage holds, and the bytes that are left.
-use Rattle.std.specs.Prelude.{◌≡◌, Bool, true, false, cond, ◌&&◌, List, [], ◌∷◌, ◌++◌, map, ℕ, ◌+◌, ◌≤◌, ◌<◌, ◌-◌, eqb, length, take, drop, get_or}
+use Rattle.std.specs.Prelude.{◌≡◌, Bool, true, false, cond, ◌&&◌, List, [], ◌∷◌, ◌++◌, map, ℕ, ◌+◌, ◌≤◌, ◌<◌, ◌-◌, eqb, length, take, drop, get_or, Err, Ok, Result}
+use Rattle.rules.specs.declared.Refusal.{Refusal}
 use Rattle.rules.specs.Outcome.{Outcome, done, refused}
-use Rattle.rules.specs.Limits.{formats, most_entries, longest_new_record}
+use Rattle.rules.specs.Limits.{most_entries, longest_new_record}
 use Rattle.rules.specs.Lists.{Bytes}
 use Rattle.rules.specs.Numbers.{refusal}
 use Rattle.rules.specs.declared.Refusal.TheVariants.{BeyondBuffer}
@@ -20,8 +21,6 @@ use Rattle.assignments.specs.Notes.{uses_from, place_at, bytes_given, Firsts, Li
 use Rattle.assignments.specs.Answers.{first_put}
 use Rattle.taking.specs.declared.value.Given.{Given}
 use Rattle.taking.specs.declared.Taking.{Taking}
-use Rattle.taking.specs.declared.Taken.{Taken}
-use Rattle.taking.specs.declared.Taken.TheVariants.{At, Refused}
 
 -- The list has room for the numbers of the entries, and the stage for what a new record can hold.
 abbrev pub RoomEnough : List ℕ → Bytes → Type 0
@@ -40,12 +39,12 @@ pub record Holds (es : List Entry) (buffer : Bytes) (list : List ℕ) (stage : B
   pub firsts : s.full ≡ false → Firsts es list ws
 
 -- Items were taken: those assignments came to what was held, or they are refused.
-abbrev pub Moved : List Entry → Bytes → List Item → ℕ → List ℕ → Bytes → List Assignment → Taken → Type 0
-Moved es buffer xs at list stage ws (At s) =
+abbrev pub Moved : List Entry → Bytes → List Item → ℕ → List ℕ → Bytes → List Assignment → Result Taking Refusal → Type 0
+Moved es buffer xs at list stage ws (Ok s) =
     (own : List Assignment) × (taking xs (drop at buffer) ≡ done (own, drop s.at buffer)) × Holds es buffer list stage s (ws ++ own)
-Moved es buffer xs at list stage ws (Refused x) = taking xs (drop at buffer) ≡ refused (refusal x)
+Moved es buffer xs at list stage ws (Err x) = taking xs (drop at buffer) ≡ refused (refusal x)
 
-pub record Takes (es : List Entry) (buffer : Bytes) (xs : List Item) (s : Taking) (list list' : List ℕ) (stage stage' : Bytes) (r : Taken) : Type 0 where
+pub record Takes (es : List Entry) (buffer : Bytes) (xs : List Item) (s : Taking) (list list' : List ℕ) (stage stage' : Bytes) (r : Result Taking Refusal) : Type 0 where
   pub same_list : length list' ≡ length list
   pub same_stage : length stage' ≡ length stage
   -- What is noted of uses stays.
@@ -53,10 +52,10 @@ pub record Takes (es : List Entry) (buffer : Bytes) (xs : List Item) (s : Taking
   pub moved : (ws : List Assignment) → Holds es buffer list stage s ws → Moved es buffer xs s.at list' stage' ws r
 
 -- So many bytes of the buffer were passed over, or it has fewer.
-abbrev pub Passed : Bytes → ℕ → Taking → Taken → Type 0
-Passed buffer n s (At t) =
+abbrev pub Passed : Bytes → ℕ → Taking → Result Taking Refusal → Type 0
+Passed buffer n s (Ok t) =
     (s.at + n ≤ length buffer) × (t ≡ record { at = s.at + n; staged = s.staged; full = s.full })
-Passed buffer n s (Refused x) = (length buffer < s.at + n) × (x ≡ BeyondBuffer)
+Passed buffer n s (Err x) = (length buffer < s.at + n) × (x ≡ BeyondBuffer)
 
 -- The same, after a value up to a place for which the stage has no room.
 abbrev pub tested_to : ℕ → Taking → Taking
@@ -74,10 +73,8 @@ pub record Gives (es : List Entry) (g : Given) : Type 0 where
   pub entry : g.entry < length es
   pub field : is_group (what_at es g.entry) ≡ false
   pub own : (field_at es g.entry).format ≡ format_at g.own
-  pub own_known : g.own < formats
   pub standard : (field_at es g.entry).size ≡ g.standard
   pub own_allowed : allowed (format_at g.own) g.standard ≡ true
-  pub format : g.format < formats
   pub size : allowed (format_at g.format) g.size ≡ true
   pub converts : converts (format_at g.format) (format_at g.own) ≡ true
 
@@ -95,15 +92,15 @@ abbrev pub given_bytes : Given → Bytes → Outcome Bytes
 given_bytes g = converted_bytes (format_at g.format) (format_at g.own) g.standard
 
 -- One value, which stands in the buffer up to `next`, came to what was held, or it is refused.
-abbrev pub StagedValue : List Entry → Bytes → Given → ℕ → ℕ → Bytes → ℕ → List ℕ → Bytes → List Assignment → Taken → Type 0
-StagedValue es buffer g o k content next list stage ws (At s) =
+abbrev pub StagedValue : List Entry → Bytes → Given → ℕ → ℕ → Bytes → ℕ → List ℕ → Bytes → List Assignment → Result Taking Refusal → Type 0
+StagedValue es buffer g o k content next list stage ws (Ok s) =
     (b : Bytes) × (given_bytes g content ≡ done b) × (s.at ≡ next)
     × Holds es buffer list stage s (ws ++ (record { place = place_at es g.entry o k; bare = g.bare; bytes = b } ∷ []))
-StagedValue es buffer g o k content next list stage ws (Refused x) =
+StagedValue es buffer g o k content next list stage ws (Err x) =
     given_bytes g content ≡ refused (refusal x)
 
 pub record Stages (es : List Entry) (buffer : Bytes) (g : Given) (o k : ℕ) (content : Bytes) (next : ℕ) (s : Taking) (list list' : List ℕ)
-    (stage stage' : Bytes) (r : Taken) : Type 0 where
+    (stage stage' : Bytes) (r : Result Taking Refusal) : Type 0 where
   pub same_list : length list' ≡ length list
   pub same_stage : length stage' ≡ length stage
   pub same_uses : (j : ℕ) → uses_from ≤ j → get_or list' j 0 ≡ get_or list j 0
@@ -114,11 +111,11 @@ abbrev pub noted : List ℕ → ℕ → ℕ → ℕ → ℕ → List ℕ
 noted list i o k at = cond (eqb o 1 && eqb k 1) (first_put list i at) list
 
 -- What a record buffer gives to the items of uses: assignments that are listed, if the stage has room for them, or a refusal.
-abbrev pub Gave : List Entry → Bytes → Bytes → List ℕ → ℕ → List ℕ → Bytes → Taken → Type 0
-Gave es f buffer kept count list stage (At s) =
+abbrev pub Gave : List Entry → Bytes → Bytes → List ℕ → ℕ → List ℕ → Bytes → Result Taking Refusal → Type 0
+Gave es f buffer kept count list stage (Ok s) =
     (ws : List Assignment) × (assignments (items (uses_kept es f kept count)) buffer ≡ done ws) × (s.full ≡ true → longest_new_record < length (bytes_given ws))
     × (s.full ≡ false → Listed es f kept count list stage ws) × Unindexed list
-Gave es f buffer kept count list stage (Refused x) = assignments (items (uses_kept es f kept count)) buffer ≡ refused (refusal x)
+Gave es f buffer kept count list stage (Err x) = assignments (items (uses_kept es f kept count)) buffer ≡ refused (refusal x)
 
 -- The items of a span in occurrence o, and in all its occurrences; the items of a field that is given, from value first to value last.
 abbrev pub occurrence_taken : List Entry → Span → ℕ → List Item
@@ -131,11 +128,11 @@ abbrev pub values_taken : Given → ℕ → ℕ → ℕ → List Entry → List 
 values_taken g o first last es = value_items (asked_given es g ∷ []) (just o) (from_to first last) g.bare
 
 -- Items of a field that is given are taken, or its value k in occurrence o is staged, by whichever table has such a field.
-abbrev pub TakesGiven : Bytes → Given → (List Entry → List Item) → Taking → List ℕ → List ℕ → Bytes → Bytes → Taken → Type 0
+abbrev pub TakesGiven : Bytes → Given → (List Entry → List Item) → Taking → List ℕ → List ℕ → Bytes → Bytes → Result Taking Refusal → Type 0
 TakesGiven buffer g items s list list' stage stage' r =
     (es : List Entry) → Gives es g → RoomEnough list stage → Takes es buffer (items es) s list list' stage stage' r
 
-abbrev pub StagesGiven : Bytes → Given → ℕ → ℕ → ℕ → ℕ → Taking → List ℕ → List ℕ → Bytes → Bytes → Taken → Type 0
+abbrev pub StagesGiven : Bytes → Given → ℕ → ℕ → ℕ → ℕ → Taking → List ℕ → List ℕ → Bytes → Bytes → Result Taking Refusal → Type 0
 StagesGiven buffer g o k from next s list list' stage stage' r =
     (es : List Entry) → Gives es g → RoomEnough list stage → Stages es buffer g o k (take (next - from) (drop from buffer)) next s list list' stage stage' r
 

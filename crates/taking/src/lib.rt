@@ -25,43 +25,39 @@ pub struct Taking {
     pub full: bool,
 }
 
-// Where the items stand, or why one is refused.
-#[derive(Clone, Copy)]
-pub enum Taken {
-    At(Taking),
-    Refused(Refusal),
-}
-
 // Passes over n bytes, which are given to nothing.
-fn pass(buffer: &[u8], n: usize, s: Taking) -> Taken
+fn pass(buffer: &[u8], n: usize, s: Taking) -> Result<Taking, Refusal>
     requires { s.at ≤ length buffer.now }
     ensures { Passed buffer.now n s result }
 {
     if buffer.len() - s.at < n {
-        return Taken::Refused(Refusal::BeyondBuffer);
+        return Err(Refusal::BeyondBuffer);
     }
-    Taken::At(Taking {
-        at: s.at + n,
-        staged: s.staged,
-        full: s.full,
-    })
+    Ok(Taking { at: s.at + n, ..s })
 }
 
 // The items of a use. Counts, spaces and text are passed over.
-fn take_use(t: &[u8], buffer: &[u8], u: Use, list: &mut [u16], stage: &mut [u8], s: Taking) -> Taken
+fn take_use(
+    t: &[u8],
+    buffer: &[u8],
+    u: Use,
+    list: &mut [u16],
+    stage: &mut [u8],
+    s: Taking,
+) -> Result<Taking, Refusal>
     requires { Valid t.now × ((f : Bytes) × GoodUse (entries_of t.now) f u) × Ready (entries_of t.now) buffer.now list.old stage.old s }
     ensures { (f : Bytes) → GoodUse (entries_of t.now) f u → Takes (entries_of t.now) buffer.now (items_of (use_meant (entries_of t.now) f u)) s list.old list.new stage.old stage.new result }
 {
     match u {
         Use::Blanks(n) => pass(buffer, n, s),
         Use::Text(from, upto) => pass(buffer, upto - from, s),
-        Use::GroupCount(_) => pass(buffer, 1, s),
-        Use::ValueCount(_, _) => pass(buffer, 1, s),
+        Use::GroupCount(_) | Use::ValueCount(_, _) => pass(buffer, 1, s),
         Use::Values(span) => spans::take_occurrences(t, buffer, span, list, stage, s),
     }
 }
 
 // The items of the first `count` uses that are kept.
+#[tactic(auto, using(tables::proofs::Tables::valid_most, tables::proofs::Tables::valid_names, crate::proofs::Kept::gone_start))]
 pub fn take(
     t: &[u8],
     buffer: &[u8],
@@ -69,7 +65,7 @@ pub fn take(
     count: usize,
     list: &mut [u16],
     stage: &mut [u8],
-) -> Taken
+) -> Result<Taking, Refusal>
     requires { Valid t.now × (numbers_kept * count ≤ length kept.now) × ((f : Bytes) × GoodUses (entries_of t.now) f kept.now count) × CanTake count list.old stage.old }
     ensures { (f : Bytes) → GoodUses (entries_of t.now) f kept.now count → Gave (entries_of t.now) f buffer.now kept.now count list.new stage.new result }
 {
@@ -78,18 +74,9 @@ pub fn take(
         staged: 0,
         full: false,
     };
-    let mut n = 0;
-    while n < count {
+    for n in 0..count {
         assignments::begin(list, n, state.staged);
-        match take_use(t, buffer, uses::kept::get(kept, n), list, stage, state) {
-            Taken::Refused(x) => {
-                return Taken::Refused(x);
-            }
-            Taken::At(next) => {
-                state = next;
-            }
-        }
-        n += 1;
+        state = take_use(t, buffer, uses::kept::get(kept, n), list, stage, state)?;
     }
-    Taken::At(state)
+    Ok(state)
 }

@@ -1,4 +1,6 @@
 // The values of a span, one after the other: its occurrences, in each its fields, and of each field its values.
+#![tactic(auto, using(crate::proofs::Turns::turn_start, crate::proofs::Turns::turn_ready, crate::proofs::Turns::turn_end, uses::proofs::Spreading::ordered_within, rules::proofs::Ranges::no_occurrence))]
+
 ghost use Rattle.std.specs.Prelude.{◌≡◌, false, List, ◌+◌, ◌≤◌, ◌<◌};
 ghost use Rattle.rules.specs.Limits.{highest_index};
 ghost use Rattle.rules.specs.Table.{Entry};
@@ -8,7 +10,8 @@ ghost use Rattle.uses.specs.Meant.{GoodSpan};
 ghost use Rattle.taking.specs.Taking.{Takes, Ready, asked_given, Gives, asked_as, items_between, TakesGiven, values_taken, occurrence_taken, span_taken};
 
 use crate::value::Given;
-use crate::{Taken, Taking, value};
+use crate::{Taking, value};
+use rules::Refusal;
 use uses::Span;
 
 // The values of a field in occurrence o, from value `first` to value `last`.
@@ -21,24 +24,15 @@ fn take_values(
     list: &mut [u16],
     stage: &mut [u8],
     s: Taking,
-) -> Taken
+) -> Result<Taking, Refusal>
     requires { (1 ≤ o) × (o ≤ highest_index) × (1 ≤ first) × (last ≤ highest_index) × ((es : List Entry) × Gives es g × Ready es buffer.now list.old stage.old s) }
     ensures { TakesGiven buffer.now g (values_taken g o first last) s list.old list.new stage.old stage.new result }
 {
     let mut state = s;
-    let mut k = first;
-    while k <= last {
-        match value::take_value(buffer, g, o, k, list, stage, state) {
-            Taken::Refused(x) => {
-                return Taken::Refused(x);
-            }
-            Taken::At(next) => {
-                state = next;
-            }
-        }
-        k += 1;
+    for k in first..=last {
+        state = value::take_value(buffer, g, o, k, list, stage, state)?;
     }
-    Taken::At(state)
+    Ok(state)
 }
 
 // The field of entry i, as a span asks for it.
@@ -46,22 +40,17 @@ fn given_at(t: &[u8], i: usize, s: Span) -> Given
     requires { Valid t.now × GoodSpan (entries_of t.now) s × (s.first ≤ i) × (i < s.end) × (is_group (what_at (entries_of t.now) i) ≡ false) }
     ensures { (result.entry ≡ i) × (result.bare ≡ s.bare) × Gives (entries_of t.now) result × (asked_given (entries_of t.now) result ≡ asked_as s.standard s (field_at (entries_of t.now) i)) }
 {
-    let own = tables::format_at(t, i);
+    let own = tables::field_format(t, i);
     let standard = tables::size_at(t, i);
-    if s.standard {
-        return Given {
-            entry: i,
-            format: own,
-            size: standard,
-            own,
-            standard,
-            bare: s.bare,
-        };
-    }
+    let (format, size) = if s.standard {
+        (own, standard)
+    } else {
+        (s.format, s.size)
+    };
     Given {
         entry: i,
-        format: s.format,
-        size: s.size,
+        format,
+        size,
         own,
         standard,
         bare: s.bare,
@@ -78,12 +67,12 @@ fn take_entry(
     list: &mut [u16],
     stage: &mut [u8],
     s: Taking,
-) -> Taken
+) -> Result<Taking, Refusal>
     requires { Valid t.now × GoodSpan (entries_of t.now) u × (u.first ≤ i) × (i < u.end) × (1 ≤ o) × (o ≤ highest_index) × Ready (entries_of t.now) buffer.now list.old stage.old s }
     ensures { Takes (entries_of t.now) buffer.now (items_between (entries_of t.now) u o i (i + 1)) s list.old list.new stage.old stage.new result }
 {
     if tables::group_at(t, i) {
-        return Taken::At(s);
+        return Ok(s);
     }
     take_values(
         buffer,
@@ -106,24 +95,15 @@ fn take_fields(
     list: &mut [u16],
     stage: &mut [u8],
     s: Taking,
-) -> Taken
+) -> Result<Taking, Refusal>
     requires { Valid t.now × GoodSpan (entries_of t.now) u × (1 ≤ o) × (o ≤ highest_index) × Ready (entries_of t.now) buffer.now list.old stage.old s }
     ensures { Takes (entries_of t.now) buffer.now (occurrence_taken (entries_of t.now) u o) s list.old list.new stage.old stage.new result }
 {
     let mut state = s;
-    let mut i = u.first;
-    while i < u.end {
-        match take_entry(t, buffer, u, i, o, list, stage, state) {
-            Taken::Refused(x) => {
-                return Taken::Refused(x);
-            }
-            Taken::At(next) => {
-                state = next;
-            }
-        }
-        i += 1;
+    for i in u.first..u.end {
+        state = take_entry(t, buffer, u, i, o, list, stage, state)?;
     }
-    Taken::At(state)
+    Ok(state)
 }
 
 // The occurrences of a span.
@@ -134,22 +114,13 @@ pub fn take_occurrences(
     list: &mut [u16],
     stage: &mut [u8],
     s: Taking,
-) -> Taken
+) -> Result<Taking, Refusal>
     requires { Valid t.now × GoodSpan (entries_of t.now) u × Ready (entries_of t.now) buffer.now list.old stage.old s }
     ensures { Takes (entries_of t.now) buffer.now (span_taken (entries_of t.now) u) s list.old list.new stage.old stage.new result }
 {
     let mut state = s;
-    let mut o = u.from;
-    while o <= u.upto {
-        match take_fields(t, buffer, u, o, list, stage, state) {
-            Taken::Refused(x) => {
-                return Taken::Refused(x);
-            }
-            Taken::At(next) => {
-                state = next;
-            }
-        }
-        o += 1;
+    for o in u.from..=u.upto {
+        state = take_fields(t, buffer, u, o, list, stage, state)?;
     }
-    Taken::At(state)
+    Ok(state)
 }

@@ -1,62 +1,54 @@
 // One value of the record buffer: to the stage at its field's own format and length.
-ghost use Rattle.std.specs.Prelude.{◌≡◌, true, ◌⊎◌, List, ◌∷◌, [], ◌+◌, ◌-◌, ◌≤◌, ◌<◌, length, take, drop};
+ghost use Rattle.std.specs.Prelude.{◌≡◌, true, ◌⊎◌, List, ◌∷◌, [], ◌+◌, ◌-◌, ◌≤◌, ◌<◌, length, take, drop, Ok};
 ghost use Rattle.rules.specs.Outcome.{done};
-ghost use Rattle.rules.specs.Limits.{formats, most_entries, highest_index, longest_alpha};
+ghost use Rattle.rules.specs.Limits.{most_entries, highest_index, longest_alpha};
 ghost use Rattle.rules.specs.Values.{allowed, first_value, with_length_byte};
 ghost use Rattle.rules.specs.Table.{Entry};
 ghost use Rattle.rules.proofs.Ranges.{item_at};
 ghost use Rattle.value_formats.specs.Formats.{format_at};
 ghost use Rattle.values.specs.Places.{Located};
-ghost use Rattle.values.specs.declared.FirstValue.TheVariants.{Value};
 ghost use Rattle.filling.specs.Filling.{Filling, in_room};
 ghost use Rattle.taking.specs.Taking.{Ready, asked_given, given_bytes, Gives, tested_to, noted, TakesGiven, StagesGiven};
 ghost use Rattle.assignments.specs.Notes.{note_bound, uses_from};
-ghost use Rattle.taking.specs.declared.Taken.TheVariants.{At};
 
-use crate::{Taken, Taking};
-use filling::Next;
+use crate::Taking;
 use rules::Refusal;
-use values::FirstValue;
+use value_formats::Format;
 
 // A field whose values are taken: its entry, the format and the length in effect, its own, and whether its bare name stands for them.
 #[derive(Clone, Copy)]
 pub struct Given {
     pub entry: usize,
-    pub format: usize,
+    pub format: Format,
     pub size: usize,
-    pub own: usize,
+    pub own: Format,
     pub standard: usize,
     pub bare: bool,
 }
 
 // The same place, after a value for which the stage has no room.
-fn without_room(next: usize, s: Taking) -> Taken
-    ensures { result ≡ At (tested_to next s) }
+fn without_room(next: usize, s: Taking) -> Taking
+    ensures { result ≡ tested_to next s }
 {
-    Taken::At(Taking {
+    Taking {
         at: next,
-        staged: s.staged,
         full: true,
-    })
+        ..s
+    }
 }
 
 // Whether a value at the format and the length in effect, by its content, is known to be what its field stores.
 fn as_stored(content: &[u8], g: Given) -> bool
-    requires { (g.own < formats) × (allowed (format_at g.own) g.standard ≡ true) × (((g.size ≡ 0) × (length content.now ≤ longest_alpha)) ⊎ (g.size ≡ length content.now)) }
+    requires { (allowed (format_at g.own) g.standard ≡ true) × (((g.size ≡ 0) × (length content.now ≤ longest_alpha)) ⊎ (g.size ≡ length content.now)) }
     ensures { result ≡ true → given_bytes g content.now ≡ done (with_length_byte g.size content.now) }
 {
-    if g.format == g.own {
-        if g.size == g.standard {
-            if values::any_bytes(g.own, g.standard) {
-                return true;
-            }
-            return values::is_normal(content, g.own, g.standard);
-        }
-    }
-    false
+    g.format == g.own
+        && g.size == g.standard
+        && (values::any_bytes(g.own, g.standard) || values::is_normal(content, g.own, g.standard))
 }
 
 // A value that stands in the buffer from `at` up to `next`, and its content from `from` on: to the stage at its field's own format and length.
+#[tactic(auto, using(crate::proofs::Finding::value_long, crate::proofs::Finding::value_bytes, crate::proofs::Finding::value_asked))]
 fn put_given(
     buffer: &[u8],
     at: usize,
@@ -66,8 +58,8 @@ fn put_given(
     stage: &mut [u8],
     to: usize,
     write: bool,
-) -> Next
-    requires { ((es : List Entry) × Gives es g) × Located buffer.now at (first_value g.size (drop at buffer.now)) (Value from next) × (to ≤ length stage.old) }
+) -> Result<usize, Refusal>
+    requires { ((es : List Entry) × Gives es g) × Located buffer.now at (first_value g.size (drop at buffer.now)) (Ok (from, next)) × (to ≤ length stage.old) }
     ensures { Filling (in_room (length stage.old - to) (given_bytes g (take (next - from) (drop from buffer.now)))) to write stage.old stage.new result }
 {
     if as_stored(&buffer[from..next], g) {
@@ -85,7 +77,7 @@ fn put_given(
             write,
         );
     }
-    Next::Refused(Refusal::BadValue)
+    Err(Refusal::BadValue)
 }
 
 // Notes where value k of entry i in occurrence o stands, if it is value 1 of occurrence 1.
@@ -93,10 +85,8 @@ fn note(list: &mut [u16], i: usize, o: usize, k: usize, at: usize)
     requires { (uses_from ≤ length list.old) × (i < most_entries) × (at + 1 < note_bound) }
     ensures { list.new ≡ noted list.old i o k at }
 {
-    if o == 1 {
-        if k == 1 {
-            assignments::put(list, i, at);
-        }
+    if o == 1 && k == 1 {
+        assignments::put(list, i, at);
     }
 }
 
@@ -111,23 +101,18 @@ fn stage_value(
     list: &mut [u16],
     stage: &mut [u8],
     s: Taking,
-) -> Taken
-    requires { Located buffer.now s.at (first_value g.size (drop s.at buffer.now)) (Value from next) × (1 ≤ o) × (o ≤ highest_index) × (1 ≤ k) × (k ≤ highest_index) × ((es : List Entry) × Gives es g × Ready es buffer.now list.old stage.old s) }
+) -> Result<Taking, Refusal>
+    requires { Located buffer.now s.at (first_value g.size (drop s.at buffer.now)) (Ok (from, next)) × (1 ≤ o) × (o ≤ highest_index) × (1 ≤ k) × (k ≤ highest_index) × ((es : List Entry) × Gives es g × Ready es buffer.now list.old stage.old s) }
     ensures { StagesGiven buffer.now g o k from next s list.old list.new stage.old stage.new result }
 {
     let to = if s.full { 0 } else { s.staged };
-    let put = put_given(buffer, s.at, from, next, g, stage, to, !s.full);
-    match put {
-        Next::Refused(x) => match x {
-            Refusal::BeyondBuffer => without_room(next, s),
-            _ => Taken::Refused(x),
-        },
-        Next::At(upto) => {
-            if s.full {
-                return without_room(next, s);
-            }
+    match put_given(buffer, s.at, from, next, g, stage, to, !s.full) {
+        Err(Refusal::BeyondBuffer) => Ok(without_room(next, s)),
+        Err(x) => Err(x),
+        Ok(_) if s.full => Ok(without_room(next, s)),
+        Ok(upto) => {
             note(list, g.entry, o, k, to);
-            Taken::At(Taking {
+            Ok(Taking {
                 at: next,
                 staged: upto,
                 full: false,
@@ -145,12 +130,10 @@ pub fn take_value(
     list: &mut [u16],
     stage: &mut [u8],
     s: Taking,
-) -> Taken
+) -> Result<Taking, Refusal>
     requires { (1 ≤ o) × (o ≤ highest_index) × (1 ≤ k) × (k ≤ highest_index) × ((es : List Entry) × Gives es g × Ready es buffer.now list.old stage.old s) }
     ensures { TakesGiven buffer.now g (λ es. item_at g.bare (asked_given es g) o k ∷ []) s list.old list.new stage.old stage.new result }
 {
-    match values::first_value(buffer, s.at, g.size) {
-        FirstValue::Refused(x) => Taken::Refused(x),
-        FirstValue::Value(from, next) => stage_value(buffer, from, next, g, o, k, list, stage, s),
-    }
+    let (from, next) = values::first_value(buffer, s.at, g.size)?;
+    stage_value(buffer, from, next, g, o, k, list, stage, s)
 }

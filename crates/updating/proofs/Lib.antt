@@ -16,3 +16,5 @@ pub mod OldValues
 pub mod InRoom
 pub mod NewCells
 pub mod NewValues
+pub mod Left
+pub mod Counting

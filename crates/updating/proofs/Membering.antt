@@ -1,5 +1,6 @@
 -- An occurrence of a periodic group is laid member by member, up to the entry after the last: the run of entries deeper than level 1. A field
 -- by itself is laid as the only member.
+use Rattle.std.specs.Prelude.{Option}
 use mathlib.Core.Path.{◌≡◌, refl, ◌∙◌, ap}
 use mathlib.Core.List.{List, [], ◌∷◌, ◌++◌, append-nil}
 use mathlib.Core.Logic.{inl, inr}
@@ -18,7 +19,6 @@ use Rattle.tables.specs.Entries.{Valid, entries_of, blank}
 use Rattle.tables.specs.Groups.{run_below, group_end}
 use Rattle.tables.proofs.Nesting.{run_deeper, run_stop, end_turn}
 use Rattle.records.specs.Places.{Entered, MemberEntered}
-use Rattle.records.specs.declared.places.Cell.{Cell}
 use Rattle.records.proofs.Members.{member_cell}
 use Rattle.updating.specs.Laid.{member_laid, occurrence_laid}
 use Rattle.updating.specs.Member.{CelledMember, CellsFrom, members_laid}
@@ -67,15 +67,15 @@ module _ (w : Plan) (o : ℕ) (es : List Entry) where
 
 -- Entry i has its cell; and where it is not the last, it is a member, and the next cell is that of the next.
 module _ (t : Bytes) (valid : Valid t) {b : Bytes} {places : List ℕ} {i last o : ℕ} {r : Record} where
-  pub cells_here : (c : Cell) → i < length (entries_of t) → CellsFrom (entries_of t) b places i last o r c → CelledMember (entries_of t) b i o r c
+  pub cells_here : (c : Option ℕ) → i < length (entries_of t) → CellsFrom (entries_of t) b places i last o r c → CelledMember (entries_of t) b i o r c
   cells_here c less (inl x) what = member_cell t valid c less what x.2
   cells_here c less (inr x) what = x.1
 
-  pub cells_member : (c : Cell) → i + 1 < last → CellsFrom (entries_of t) b places i last o r c → (g : ℕ) × (last ≡ group_end (entries_of t) g) × MemberEntered (entries_of t) b places g i o r c
+  pub cells_member : (c : Option ℕ) → i + 1 < last → CellsFrom (entries_of t) b places i last o r c → (g : ℕ) × (last ≡ group_end (entries_of t) g) × MemberEntered (entries_of t) b places g i o r c
   cells_member c h (inl x) = x
   cells_member c h (inr x) = absurd (omega (arith, h, x.0))
 
-  pub cells_next : (c d : Cell) → i + 1 < last → CellsFrom (entries_of t) b places i last o r c
+  pub cells_next : (c d : Option ℕ) → i + 1 < last → CellsFrom (entries_of t) b places i last o r c
       → ((g : ℕ) → MemberEntered (entries_of t) b places g i o r c → Entered (entries_of t) b places g (i + 1) o r d) → CellsFrom (entries_of t) b places (i + 1) last o r d
   cells_next c d h f on =
       let (g, e, m) = cells_member c h f in

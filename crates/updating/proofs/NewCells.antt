@@ -1,13 +1,14 @@
--- A cell of the new record, by the numbers that the code has of its entry: each value is what is assigned to it, or what the cell had, or null.
+-- A cell of the new record, by the format and the length of its entry: each value is what is assigned to it, or what the cell had, or null.
+use Rattle.std.specs.Prelude.{None, Option, Some}
 use mathlib.Core.Path.{◌≡◌, refl, sym, ◌∙◌, ap, subst}
 use mathlib.Core.Bool.{Bool, true, false, false≢true}
 use mathlib.Core.List.{List, ◌∷◌, ◌++◌}
-use Prim.Native.Nat.{ℕ, zero, suc, pred, max, ◌≤◌, ◌<◌}
+use Prim.Native.Nat.{ℕ, zero, suc, pred, max, ◌≤◌}
 use native.Mathlib.Omega.{arith}
 use lib.ListN.{length, drop, get_or, replicate}
-use Rattle.rules.specs.Limits.{formats, highest_index, greatest_count}
+use Rattle.rules.specs.Limits.{highest_index, greatest_count}
 use Rattle.rules.specs.Lists.{Bytes, join, run}
-use Rattle.rules.specs.Values.{allowed, null}
+use Rattle.rules.specs.Values.{Format, null}
 use Rattle.rules.specs.Outcome.{done}
 use Rattle.rules.specs.Table.{Field, Entry, parts}
 use Rattle.rules.specs.Use.{Place}
@@ -16,17 +17,11 @@ use Rattle.rules.specs.Update.{Assignment, assigned, to_field, bare_only, highes
 use Rattle.rules.proofs.Steps.{by_option}
 use Rattle.rules.proofs.Back.{All}
 use Rattle.rules.proofs.Alls.{all_parts}
-use Rattle.value_formats.specs.Formats.{format_at}
-use Rattle.value_formats.proofs.Letters.{number_back}
-use Rattle.tables.specs.Entries.{Valid, entries_of, blank, decoded, is_group, is_multiple}
+use Rattle.tables.specs.Entries.{blank, is_group, is_multiple, field_format, size_of}
 use Rattle.tables.specs.Groups.{field_at}
-use Rattle.tables.specs.declared.Entry.{Entry as Decoded}
-use Rattle.tables.proofs.Known.{field_known}
 use Rattle.records.specs.Places.{CellOf}
-use Rattle.records.specs.declared.places.Cell.{Cell}
-use Rattle.records.specs.declared.places.Cell.TheVariants.{At, Nothing}
 use Rattle.records.proofs.Cells.{counted_once}
-use Rattle.records.proofs.Placed.{by_field, field_is, cell_numbers}
+use Rattle.records.proofs.Placed.{by_field, field_is}
 use Rattle.assignments.specs.Notes.{place_at, TakesAt, Indexed}
 use Rattle.assignments.specs.Answers.{Names, ReadsBack}
 use Rattle.assignments.specs.declared.Naming.{Naming}
@@ -59,40 +54,35 @@ unfolding count_or_one
 once true n e = absurd (false≢true (sym e))
 once false n e = refl
 
--- The values that entry i had in occurrence o, and the null of an entry as the code has it.
+-- The values that entry i had in occurrence o.
 abbrev pub values_had : List Entry → ℕ → Record → ℕ → List Bytes
 values_had es i r o = values_at (parts es) r (get_or es i blank).name o
 
-abbrev pub null_of : Decoded → Bytes
-null_of e = null (format_at e.format) e.size
+-- An entry which is a field, of format f and length n.
+module _ (es : List Entry) (i : ℕ) (what : is_group (get_or es i blank).what ≡ false) (f : Format) (n : ℕ)
+    (format_is : f ≡ field_format (get_or es i blank).what) (size_is : n ≡ size_of (get_or es i blank).what) where
+  field_numbers : field_at es i ≡ record { name = (get_or es i blank).name; format = f; size = n; multiple = is_multiple (get_or es i blank).what }
+  field_numbers = by_field (get_or es i blank).what what λ g s mu w. rw (field_is es i g s mu w, format_is, size_is, w) refl
 
--- An entry as the code has it, which is a field.
-module _ (t : Bytes) (v : Valid t) (i : ℕ) (h : i < length (entries_of t)) (what : is_group (get_or (entries_of t) i blank).what ≡ false) (e : Decoded) (is : e ≡ decoded (get_or (entries_of t) i blank)) where
-  pub entry_known : (e.format < formats) × (allowed (format_at e.format) e.size ≡ true)
-  entry_known = rw is (field_known t v i h what)
-
-module _ (es : List Entry) (i : ℕ) (what : is_group (get_or es i blank).what ≡ false) (e : Decoded) (is : e ≡ decoded (get_or es i blank)) where
-  field_numbers : field_at es i ≡ record { name = (get_or es i blank).name; format = format_at e.format; size = e.size; multiple = is_multiple (get_or es i blank).what }
-  field_numbers = by_field (get_or es i blank).what what λ f s mu w. rw (field_is es i f s mu w, is, w, number_back f) refl
-
-  cell_read : (bs : Bytes) → stored_cell (field_at es i) bs ≡ counted (is_multiple (get_or es i blank).what) (stored_value (format_at e.format) e.size) bs
-  cell_read bs = rw is (cell_numbers es i bs what)
+  cell_read : (bs : Bytes) → stored_cell (field_at es i) bs ≡ counted (is_multiple (get_or es i blank).what) (stored_value f n) bs
+  unfolding stored_cell
+  cell_read bs = rw field_numbers refl
 
   module _ (r : Record) (o : ℕ) where
     -- The old value k.
-    old_value : (k : ℕ) → value_at (parts es) r (field_at es i) o k ≡ get_or (values_had es i r o) (pred k) (null_of e)
+    old_value : (k : ℕ) → value_at (parts es) r (field_at es i) o k ≡ get_or (values_had es i r o) (pred k) (null f n)
     unfolding value_at
     old_value k = rw field_numbers refl
 
     module _ (b : Bytes) where
       -- A field that is not MU: its one value.
       module _ (plain : is_multiple (get_or es i blank).what ≡ false) where
-        pub plain_was : (c : Cell) → CellOf es b i o r c → Was b (format_at e.format) e.size (get_or (values_had es i r o) 0 (null_of e)) c
-        plain_was (At q) x = counted_once (stored_value (format_at e.format) e.size) (drop q b) (rw plain at (sym (cell_read (drop q b)) ∙ x.2)) λ v u p.
+        pub plain_was : (c : Option ℕ) → CellOf es b i o r c → Was b f n (get_or (values_had es i r o) 0 (null f n)) c
+        plain_was (Some q) x = counted_once (stored_value f n) (drop q b) (rw plain at (sym (cell_read (drop q b)) ∙ x.2)) λ v u p.
             (x.0, x.1, rw u p)
-        plain_was Nothing x = rw x refl
+        plain_was None x = rw x refl
 
-        pub plain_laid : (ws : List Assignment) → cell_laid (update_plan (parts es) r ws) o (field_at es i) ≡ taken (assigned ws (place_at es i o 1)) (get_or (values_had es i r o) 0 (null_of e))
+        pub plain_laid : (ws : List Assignment) → cell_laid (update_plan (parts es) r ws) o (field_at es i) ≡ taken (assigned ws (place_at es i o 1)) (get_or (values_had es i r o) 0 (null f n))
         unfolding update_plan
         plain_laid ws =
             plain_cell (update_plan (parts es) r ws) o (field_at es i) (rw field_numbers plain) (once (field_at es i).multiple _ (rw field_numbers plain))
@@ -100,9 +90,9 @@ module _ (es : List Entry) (i : ℕ) (what : is_group (get_or es i blank).what �
 
       -- An MU field: its count, and as many values.
       module _ (multiple : is_multiple (get_or es i blank).what ≡ true) where
-        pub multiple_had : (c : Cell) → CellOf es b i o r c → Had b (format_at e.format) e.size (values_had es i r o) c
-        multiple_had (At q) x = (x.0, x.1, rw multiple at (sym (cell_read (drop q b)) ∙ x.2))
-        multiple_had Nothing x = x
+        pub multiple_had : (c : Option ℕ) → CellOf es b i o r c → Had b f n (values_had es i r o) c
+        multiple_had (Some q) x = (x.0, x.1, rw multiple at (sym (cell_read (drop q b)) ∙ x.2))
+        multiple_had None x = x
 
         module _ (ws : List Assignment) where
           counted_new : (update_plan (parts es) r ws).values (field_at es i) o ≡ new_value_count ws (get_or es i blank).name o (length (values_had es i r o))
@@ -111,7 +101,7 @@ module _ (es : List Entry) (i : ℕ) (what : is_group (get_or es i blank).what �
 
           module _ (by : List ℕ) (named : Naming) (names : Names es ws i o by named) where
             -- By bare names only the count is the number of names, which is the highest value.
-            pub count_bare : ((n i : ℕ) → bare_only (to_field ws n i) ≡ true → length (to_field ws n i) ≡ highest_value ws n i) → named.bare ≡ true
+            pub count_bare : ((m j : ℕ) → bare_only (to_field ws m j) ≡ true → length (to_field ws m j) ≡ highest_value ws m j) → named.bare ≡ true
                 → (update_plan (parts es) r ws).values (field_at es i) o ≡ named.highest
             unfolding new_value_count
             count_bare a t =
@@ -122,27 +112,27 @@ module _ (es : List Entry) (i : ℕ) (what : is_group (get_or es i blank).what �
             unfolding new_value_count
             count_larger t = let t₂ = sym names.bare ∙ t in counted_new ∙ rw (t₂, new_value_count, names.highest) refl
 
-          value_new : (k : ℕ) → (update_plan (parts es) r ws).value (field_at es i) o k ≡ taken (assigned ws (place_at es i o k)) (get_or (values_had es i r o) (pred k) (null_of e))
+          value_new : (k : ℕ) → (update_plan (parts es) r ws).value (field_at es i) o k ≡ taken (assigned ws (place_at es i o k)) (get_or (values_had es i r o) (pred k) (null f n))
           unfolding update_plan
           value_new k = new_taken ws (value_at (parts es) r (field_at es i) o k) (place_at es i o k) ∙ ap (taken (assigned ws (place_at es i o k))) (old_value k)
 
-          values_new : (k n : ℕ) → values_laid (update_plan (parts es) r ws) (field_at es i) o k n
-              ≡ new_values (λ j. assigned ws (place_at es i o j)) (format_at e.format) e.size (values_had es i r o) k n
+          values_new : (k m : ℕ) → values_laid (update_plan (parts es) r ws) (field_at es i) o k m
+              ≡ new_values (λ j. assigned ws (place_at es i o j)) f n (values_had es i r o) k m
           unfolding values_laid new_values run join
           values_new k zero = refl
-          values_new k (suc n) = rw (value_new k, values_new (suc k) n) refl
+          values_new k (suc m) = rw (value_new k, values_new (suc k) m) refl
 
-          pub multiple_laid : (n : ℕ) → (update_plan (parts es) r ws).values (field_at es i) o ≡ n
-              → cell_laid (update_plan (parts es) r ws) o (field_at es i) ≡ count_bytes n ++ new_values (λ j. assigned ws (place_at es i o j)) (format_at e.format) e.size (values_had es i r o) 1 n
-          multiple_laid n c = multiple_cell (update_plan (parts es) r ws) o (field_at es i) (rw field_numbers multiple) ∙ rw (c, values_new 1 n) refl
+          pub multiple_laid : (m : ℕ) → (update_plan (parts es) r ws).values (field_at es i) o ≡ m
+              → cell_laid (update_plan (parts es) r ws) o (field_at es i) ≡ count_bytes m ++ new_values (λ j. assigned ws (place_at es i o j)) f n (values_had es i r o) 1 m
+          multiple_laid m c = multiple_cell (update_plan (parts es) r ws) o (field_at es i) (rw field_numbers multiple) ∙ rw (c, values_new 1 m) refl
 
   -- What a value takes stands on the stage at the field's own format and length.
-  pub takes_stands : {f : Bytes} {kept : List ℕ} {count : ℕ} {list : List ℕ} {stage : Bytes} {ws : List Assignment} → Indexed es f kept count list stage ws → (o k m : ℕ)
-      → TakesAt ws (place_at es i o k) m → Stands stage (format_at e.format) e.size (assigned ws (place_at es i o k)) m
+  pub takes_stands : {text : Bytes} {kept : List ℕ} {count : ℕ} {list : List ℕ} {stage : Bytes} {ws : List Assignment} → Indexed es text kept count list stage ws → (o k m : ℕ)
+      → TakesAt ws (place_at es i o k) m → Stands stage f n (assigned ws (place_at es i o k)) m
   takes_stands x o k zero t = t
   takes_stands {stage = stage} {ws = ws} x o k (suc p) (a, s, q, w) =
       let l = x.listed in
       let b = (all_parts ReadsBack s.before (a ∷ s.after) (subst (All ReadsBack) s.is (all_read_back l))).1.0 in
-      let z : a.place.field ≡ record { name = (get_or es i blank).name; format = format_at e.format; size = e.size; multiple = is_multiple (get_or es i blank).what } = ap (λ (u : Place). u.field) q ∙ field_numbers in
+      let z : a.place.field ≡ record { name = (get_or es i blank).name; format = f; size = n; multiple = is_multiple (get_or es i blank).what } = ap (λ (u : Place). u.field) q ∙ field_numbers in
       let (h, rest, r) = read_there l.stands s b in
       (a.bytes, w, (h, rest, subst (λ (g : Field). stored_value g.format g.size (drop p stage) ≡ done (a.bytes, rest)) z r))

@@ -1,5 +1,6 @@
 -- The values of an MU field one after the other: each takes what its note gives, or stays as it was, and those that are left fill the room
 -- that is left as all of them do from the start.
+use Rattle.std.specs.Prelude.{Err, None, Ok, Result, Some}
 use mathlib.Core.Path.{◌≡◌, refl, sym, ◌∙◌, subst}
 use mathlib.Core.Bool.{true}
 use mathlib.Core.List.{List, [], ◌∷◌, ◌++◌}
@@ -15,11 +16,8 @@ use Rattle.rules.specs.Values.{Format, null}
 use Rattle.rules.specs.Record.{times, stored_value}
 use Rattle.rules.specs.declared.Refusal.{Refusal}
 use Rattle.records.specs.Walk.{rest_of, EndsAt}
-use Rattle.records.specs.declared.places.Cell.TheVariants as cell
 use Rattle.records.proofs.Cells.{times_first}
 use Rattle.filling.specs.Filling.{in_room, Filling, Continues}
-use Rattle.filling.specs.declared.Next.{Next}
-use Rattle.filling.specs.declared.Next.TheVariants.{At, Refused}
 use Rattle.filling.proofs.Continues.{continues_start}
 use Rattle.updating.specs.New.{Was, Were, Old, taken, new_values}
 use Rattle.updating.specs.declared.cells.Run.{Run}
@@ -78,16 +76,16 @@ module _ (given : ℕ → Option Bytes) (f : Format) (size : ℕ) (vs : List Byt
         let e₂ : ys ≡ drop (suc j) vs = cc in
         c mid (rw e₁ at p) (rw e₂ at t)
 
-    pub stands_next : k ≤ run.count → Was b f size (old_at g.put) (cell.At q)
+    pub stands_next : k ≤ run.count → Was b f size (old_at g.put) (Some q)
     stands_next h = next_there h λ mid p t. (g.were.0, mid, p)
 
-    pub missing_next : run.count < k → Was b f size (old_at g.put) cell.Nothing
+    pub missing_next : run.count < k → Was b f size (old_at g.put) None
     missing_next h = get_or-eq_default vs (null f size) (omega (arith, g.next, x.many))
 
     -- The old values after it.
     pub were_after : k ≤ run.count → (q' : ℕ) → EndsAt b (rest_of (times 1 (stored_value f size) (drop q b))) q' → Were b f size q' (run.count - suc g.put) (drop (suc g.put) vs)
     were_after h q' e = next_there h λ mid p t.
-        let w : Was b f size (old_at g.put) (cell.At q) = (g.were.0, mid, p) in
+        let w : Was b f size (old_at g.put) (Some q) = (g.were.0, mid, p) in
         (was_within b f size (old_at g.put) q w q' e, g.were.1, rw (← was_rest b f size (old_at g.put) q w q' e) t)
 
     pub were_none : run.count < k → Were b f size q (run.count - suc g.put) (drop (suc g.put) vs)
@@ -99,7 +97,7 @@ module _ (given : ℕ → Option Bytes) (f : Format) (size : ℕ) (vs : List Byt
         (g.were.0, drop q b, rw (m, d) refl)
 
   -- A turn that puts the next value, and a stop at it.
-  module _ {b : Bytes} {run : Run} {n end start k q at : ℕ} {out₀ out out' : Bytes} {m : Next} (g : Putting b run n end start k q at out₀ out) (more : k ≤ n)
+  module _ {b : Bytes} {run : Run} {n end start k q at : ℕ} {out₀ out out' : Bytes} {m : (Result ℕ Refusal)} (g : Putting b run n end start k q at out₀ out) (more : k ≤ n)
       (p : Filling (in_room (end - at) (done (taken (given k) (old_at g.put)))) at true out out' m) where
     begun : Continues (in_room (end - start) (done (new_values given f size vs 1 n))) (in_room (end - at) (done (new_at g.put ++ left_from n (suc g.put)))) start at true out₀ out
     begun = rw (← left_first n g.put (omega (arith, g.next))) g.continues
@@ -107,7 +105,7 @@ module _ (given : ℕ → Option Bytes) (f : Format) (size : ℕ) (vs : List Byt
     filled : Filling (in_room (end - at) (done (new_at g.put))) at true out out' m
     filled = rw (← g.next) p
 
-    pub putting_on : (at' : ℕ) → m ≡ At at' → (q' : ℕ) → Were b f size q' (run.count - suc g.put) (drop (suc g.put) vs) → Putting b run n end start (k + 1) q' at' out₀ out'
+    pub putting_on : (at' : ℕ) → m ≡ Ok at' → (q' : ℕ) → Were b f size q' (run.count - suc g.put) (drop (suc g.put) vs) → Putting b run n end start (k + 1) q' at' out₀ out'
     putting_on at' e q' w =
         let j = g.put in
         let t = run_on end (new_at j) (left_from n (suc j)) begun filled g.fits g.room at' e in
@@ -120,9 +118,9 @@ module _ (given : ℕ → Option Bytes) (f : Format) (size : ℕ) (vs : List Byt
           continues = t;
         }
 
-    pub putting_off : (r : Refusal) → m ≡ Refused r → Filling (in_room (end - start) (done (new_values given f size vs 1 n))) start true out₀ out' (Refused r)
+    pub putting_off : (r : Refusal) → m ≡ Err r → Filling (in_room (end - start) (done (new_values given f size vs 1 n))) start true out₀ out' (Err r)
     putting_off r e = run_off end (new_at g.put) (left_from n (suc g.put)) begun filled g.fits g.room r e
 
   pub putting_end : {b : Bytes} {run : Run} {n end start k q at : ℕ} {out₀ out : Bytes} → Putting b run n end start k q at out₀ out → n < k
-      → Filling (in_room (end - start) (done (new_values given f size vs 1 n))) start true out₀ out (At at)
+      → Filling (in_room (end - start) (done (new_values given f size vs 1 n))) start true out₀ out (Ok at)
   putting_end {n = n} {end} {at = at} g h = runs_end (end - at) g.continues (left_none n g.put (omega (arith, g.next)))

@@ -1,4 +1,6 @@
 -- Values as they were: one that stands at a place is the bytes between two places, and one that does not exist is null.
+use Rattle.std.specs.Prelude.{None, Result, Some}
+use Rattle.rules.specs.declared.Refusal.{Refusal}
 use mathlib.Core.Path.{◌≡◌, refl, sym, ◌∙◌, ap, subst}
 use mathlib.Core.Bool.{Bool}
 use mathlib.Core.List.{List, [], ◌∷◌, ◌++◌, append-nil}
@@ -17,14 +19,12 @@ use Rattle.rules.specs.Record.{times, stored_value}
 use Rattle.rules.proofs.Steps.{done_inj}
 use Rattle.rules.proofs.Readers.{value_sound}
 use Rattle.records.specs.Walk.{rest_of, Ends, EndsAt}
-use Rattle.records.specs.declared.places.Cell.TheVariants.{At, Nothing}
 use Rattle.records.proofs.Cells.{counted_many, byte_there}
 use Rattle.filling.specs.Filling.{in_room, Filling}
-use Rattle.filling.specs.declared.Next.{Next}
 use Rattle.updating.specs.New.{Was, Stands, Had, Old}
 
 -- The same bytes, said otherwise.
-pub filling_as : (room : ℕ) {at : ℕ} {write : Bool} {out out' x y : Bytes} {r : Next} → Filling (in_room room (done x)) at write out out' r → x ≡ y → Filling (in_room room (done y)) at write out out' r
+pub filling_as : (room : ℕ) {at : ℕ} {write : Bool} {out out' x y : Bytes} {r : (Result ℕ Refusal)} → Filling (in_room room (done x)) at write out out' r → x ≡ y → Filling (in_room room (done y)) at write out out' r
 filling_as room {at} {write} {out} {out'} {r = r} f e = subst (λ (b : Bytes). Filling (in_room room (done b)) at write out out' r) e f
 
 pub bytes_between : (from upto : ℕ) (s : Bytes) → take (upto - from) (drop from s) ≡ slice from upto s
@@ -43,7 +43,7 @@ unfolding join
 null_alone v = append-nil v
 
 -- A value that stands at a place.
-module _ (b : Bytes) (f : Format) (n : ℕ) (v : Bytes) (q : ℕ) (w : Was b f n v (At q)) where
+module _ (b : Bytes) (f : Format) (n : ℕ) (v : Bytes) (q : ℕ) (w : Was b f n v (Some q)) where
   alone : rest_of (times 1 (stored_value f n) (drop q b)) ≡ done w.1
   alone = ap rest_of (value_alone f n (drop q b) v w.1 w.2)
 
@@ -76,7 +76,7 @@ module _ (b : Bytes) (f : Format) (n : ℕ) (v : Bytes) (q : ℕ) (w : Was b f n
 
 -- The values of a cell of an MU field stand after their count.
 module _ (b : Bytes) (f : Format) (n : ℕ) (vs : List Bytes) where
-  module _ (q : ℕ) (x : Had b f n vs (At q)) where
+  module _ (q : ℕ) (x : Had b f n vs (Some q)) where
     pub had_count : (q < length b) × (get_or b q 0 ≡ length vs) × (length vs ≤ greatest_count) × (times (length vs) (stored_value f n) (drop (q + 1) b) ≡ done (vs, x.1))
     had_count = counted_many (stored_value f n) (drop q b) x.2 λ tail h most t.
         let y = byte_there b q h in (y.0, y.1, most, rw (add-one q, ← y.2) t)
@@ -87,14 +87,14 @@ module _ (b : Bytes) (f : Format) (n : ℕ) (vs : List Bytes) where
         let k = e₂ ∙ c.1 in
         record { were = (omega (arith, c.0), x.1, rw (e, k) c.3); many = k; most = omega (arith, c.2) }
 
-  pub had_none : Had b f n vs Nothing → Old b f n vs (record { from = 0; count = 0 })
+  pub had_none : Had b f n vs None → Old b f n vs (record { from = 0; count = 0 })
   unfolding times
   had_none x = record { were = (omega arith, b, ap (λ (us : List Bytes). done (us, b)) (sym x)); many = sym (ap length x); most = omega arith }
 
 -- What stands on the stage, by one above its place.
-pub stands_there : (stage : Bytes) (f : Format) (n : ℕ) (o : Option Bytes) (m : ℕ) → Stands stage f n o m → 0 < m → (v : Bytes) × (o ≡ some v) × Was stage f n v (At (m - 1))
+pub stands_there : (stage : Bytes) (f : Format) (n : ℕ) (o : Option Bytes) (m : ℕ) → Stands stage f n o m → 0 < m → (v : Bytes) × (o ≡ some v) × Was stage f n v (Some (m - 1))
 stands_there stage f n o zero t h = absurd (omega arith)
-stands_there stage f n o (suc p) (v, e, w) h = let z : p ≡ suc p - 1 = omega arith in (v, e, subst (λ (q : ℕ). Was stage f n v (At q)) z w)
+stands_there stage f n o (suc p) (v, e, w) h = let z : p ≡ suc p - 1 = omega arith in (v, e, subst (λ (q : ℕ). Was stage f n v (Some q)) z w)
 
 pub stands_none : (stage : Bytes) (f : Format) (n : ℕ) (o : Option Bytes) (m : ℕ) → Stands stage f n o m → m ≤ 0 → o ≡ none
 stands_none stage f n o zero t h = t

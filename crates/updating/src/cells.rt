@@ -1,10 +1,11 @@
 // A cell of the new record: each value takes what is assigned to it, or stays as it was, or is null.
-ghost use Rattle.std.specs.Prelude.{◌≡◌, true, false, List, ℕ, ◌-◌, ◌≤◌, ◌<◌, max, length};
+ghost use Rattle.std.specs.Prelude.{◌≡◌, true, false, List, ℕ, ◌-◌, ◌≤◌, ◌<◌, length, Some};
 ghost use Rattle.std.proofs.Math.Option.{Option};
 ghost use Rattle.rules.specs.Outcome.{done};
-ghost use Rattle.rules.specs.Limits.{formats, highest_index, greatest_count};
+ghost use Rattle.rules.specs.Limits.{highest_index, greatest_count};
 ghost use Rattle.rules.specs.Lists.{Bytes};
-ghost use Rattle.rules.specs.Values.{Format, allowed};
+ghost use Rattle.rules.specs.Values as Rules;
+ghost use Rattle.rules.specs.Values.{allowed};
 ghost use Rattle.rules.specs.Record.{count_bytes};
 ghost use Rattle.value_formats.specs.Formats.{format_at};
 ghost use Rattle.tables.specs.Entries.{Valid, entries_of, is_group, is_multiple, what_at};
@@ -13,10 +14,9 @@ ghost use Rattle.filling.specs.Filling.{Roomy, Filling, in_room};
 ghost use Rattle.updating.specs.Laid.{cell_laid};
 ghost use Rattle.updating.specs.New.{PutsCell, Was, Stands, taken, Had, Old, CanPutCell, HasNotes, HasOld, PutsValues};
 
-use filling::Next;
-use records::places::Cell;
 use rules::Refusal;
 use uses::Index;
+use value_formats::Format;
 
 // The values of an MU field that stand one after the other from a place on.
 #[derive(Clone, Copy)]
@@ -25,27 +25,28 @@ pub struct Run {
     pub count: usize,
 }
 
-pub fn larger(a: usize, b: usize) -> usize
-    ensures { result ≡ max a b }
-{
-    if a < b { b } else { a }
-}
-
 // A count, in room.
-pub fn put_count(n: usize, out: &mut [u8], at: usize, end: usize) -> Next
+pub fn put_count(n: usize, out: &mut [u8], at: usize, end: usize) -> Result<usize, Refusal>
     requires { (n ≤ greatest_count) × Roomy at end out.old }
     ensures { Filling (in_room (end - at) (done (count_bytes n))) at true out.old out.new result }
 {
     if end - at < rules::COUNT_SIZE {
-        return Next::Refused(Refusal::BeyondBuffer);
+        return Err(Refusal::BeyondBuffer);
     }
-    Next::At(records::counts::put_count(n, out, at))
+    Ok(records::counts::put_count(n, out, at))
 }
 
 // A value of a standard length that stands at a place.
-fn put_stored(s: &[u8], from: usize, size: usize, out: &mut [u8], at: usize, end: usize) -> Next
-    requires { ((f : Format) × (v : Bytes) × Was s.now f size v (Cell.At from)) × Roomy at end out.old }
-    ensures { (f : Format) (v : Bytes) → Was s.now f size v (Cell.At from) → Filling (in_room (end - at) (done v)) at true out.old out.new result }
+fn put_stored(
+    s: &[u8],
+    from: usize,
+    size: usize,
+    out: &mut [u8],
+    at: usize,
+    end: usize,
+) -> Result<usize, Refusal>
+    requires { ((f : Rules.Format) × (v : Bytes) × Was s.now f size v (Some from)) × Roomy at end out.old }
+    ensures { (f : Rules.Format) (v : Bytes) → Was s.now f size v (Some from) → Filling (in_room (end - at) (done v)) at true out.old out.new result }
 {
     let upto = records::skip::values_end(s, from, 1, size);
     filling::put_bytes(&s[from..upto], out, at, end, true)
@@ -54,19 +55,19 @@ fn put_stored(s: &[u8], from: usize, size: usize, out: &mut [u8], at: usize, end
 // A value as it was.
 fn put_old(
     b: &[u8],
-    cell: Cell,
-    format: usize,
+    cell: Option<usize>,
+    format: Format,
     size: usize,
     out: &mut [u8],
     at: usize,
     end: usize,
-) -> Next
-    requires { (format < formats) × (allowed (format_at format) size ≡ true) × ((v : Bytes) × Was b.now (format_at format) size v cell) × Roomy at end out.old }
+) -> Result<usize, Refusal>
+    requires { (allowed (format_at format) size ≡ true) × ((v : Bytes) × Was b.now (format_at format) size v cell) × Roomy at end out.old }
     ensures { (v : Bytes) → Was b.now (format_at format) size v cell → Filling (in_room (end - at) (done v)) at true out.old out.new result }
 {
     match cell {
-        Cell::At(from) => put_stored(b, from, size, out, at, end),
-        Cell::Nothing => filling::put_nulls(1, format, size, out, at, end, true),
+        Some(from) => put_stored(b, from, size, out, at, end),
+        None => filling::put_nulls(1, format, size, out, at, end, true),
     }
 }
 
@@ -75,14 +76,14 @@ fn put_value(
     b: &[u8],
     stage: &[u8],
     staged: usize,
-    cell: Cell,
-    format: usize,
+    cell: Option<usize>,
+    format: Format,
     size: usize,
     out: &mut [u8],
     at: usize,
     end: usize,
-) -> Next
-    requires { (format < formats) × (allowed (format_at format) size ≡ true) × ((o : Option Bytes) × Stands stage.now (format_at format) size o staged) × ((v : Bytes) × Was b.now (format_at format) size v cell) × Roomy at end out.old }
+) -> Result<usize, Refusal>
+    requires { (allowed (format_at format) size ≡ true) × ((o : Option Bytes) × Stands stage.now (format_at format) size o staged) × ((v : Bytes) × Was b.now (format_at format) size v cell) × Roomy at end out.old }
     ensures { (o : Option Bytes) (v : Bytes) → Stands stage.now (format_at format) size o staged → Was b.now (format_at format) size v cell → Filling (in_room (end - at) (done (taken o v))) at true out.old out.new result }
 {
     if 0 < staged {
@@ -98,49 +99,40 @@ fn put_values(
     by: &[u16; assignments::VALUES],
     old: Run,
     n: usize,
-    format: usize,
+    format: Format,
     size: usize,
     out: &mut [u8],
     at: usize,
     end: usize,
-) -> Next
-    requires { (format < formats) × (allowed (format_at format) size ≡ true) × (n ≤ highest_index) × HasNotes stage.now (format_at format) size by.now × HasOld b.now (format_at format) size old × Roomy at end out.old }
+) -> Result<usize, Refusal>
+    requires { (allowed (format_at format) size ≡ true) × (n ≤ highest_index) × HasNotes stage.now (format_at format) size by.now × HasOld b.now (format_at format) size old × Roomy at end out.old }
     ensures { PutsValues b.now stage.now by.now old (format_at format) size n at end out.old out.new result }
 {
     let mut q = old.from;
     let mut p = at;
-    let mut k = 1;
-    while k <= n {
+    for k in 1..=n {
         let exists = k <= old.count;
-        let cell = if exists { Cell::At(q) } else { Cell::Nothing };
-        let staged = by[k] as usize;
-        match put_value(b, stage, staged, cell, format, size, out, p, end) {
-            Next::Refused(x) => {
-                return Next::Refused(x);
-            }
-            Next::At(next) => {
-                p = next;
-            }
-        }
+        let cell = if exists { Some(q) } else { None };
+        let staged = usize::from(by[k]);
+        p = put_value(b, stage, staged, cell, format, size, out, p, end)?;
         if exists {
             q = records::skip::values_end(b, q, 1, size);
         }
-        k += 1;
     }
-    Next::At(p)
+    Ok(p)
 }
 
 // The old values of an MU field.
-fn old_values(b: &[u8], cell: Cell) -> Run
-    requires { (f : Format) × (n : ℕ) × (vs : List Bytes) × Had b.now f n vs cell }
-    ensures { (f : Format) (n : ℕ) (vs : List Bytes) → Had b.now f n vs cell → Old b.now f n vs result }
+fn old_values(b: &[u8], cell: Option<usize>) -> Run
+    requires { (f : Rules.Format) × (n : ℕ) × (vs : List Bytes) × Had b.now f n vs cell }
+    ensures { (f : Rules.Format) (n : ℕ) (vs : List Bytes) → Had b.now f n vs cell → Old b.now f n vs result }
 {
     match cell {
-        Cell::At(q) => Run {
+        Some(q) => Run {
             from: records::counts::after_count(b, q),
             count: records::counts::count_at(b, q),
         },
-        Cell::Nothing => Run { from: 0, count: 0 },
+        None => Run { from: 0, count: 0 },
     }
 }
 
@@ -154,15 +146,15 @@ fn put_counted(
     stage: &[u8],
     i: usize,
     o: usize,
-    cell: Cell,
+    cell: Option<usize>,
     out: &mut [u8],
     at: usize,
     end: usize,
-) -> Next
+) -> Result<usize, Refusal>
     requires { Valid t.now × (i < length (entries_of t.now)) × (is_multiple (what_at (entries_of t.now) i) ≡ true) × CanPutCell (entries_of t.now) b.now kept.now list.now stage.now i o cell at end out.old }
     ensures { PutsCell (entries_of t.now) b.now kept.now list.now stage.now i o cell (λ w. cell_laid w o (field_at (entries_of t.now) i)) at end out.old out.new result }
 {
-    let format = tables::format_at(t, i);
+    let format = tables::field_format(t, i);
     let size = tables::size_at(t, i);
     let old = old_values(b, cell);
     let mut by = [0u16; assignments::VALUES];
@@ -170,12 +162,10 @@ fn put_counted(
     let n = if named.bare {
         named.highest
     } else {
-        larger(old.count, named.highest)
+        old.count.max(named.highest)
     };
-    match put_count(n, out, at, end) {
-        Next::Refused(x) => Next::Refused(x),
-        Next::At(p) => put_values(b, stage, &by, old, n, format, size, out, p, end),
-    }
+    let p = put_count(n, out, at, end)?;
+    put_values(b, stage, &by, old, n, format, size, out, p, end)
 }
 
 // The cell of entry i, a field that is not MU, in occurrence o.
@@ -187,11 +177,11 @@ fn put_plain(
     stage: &[u8],
     i: usize,
     o: usize,
-    cell: Cell,
+    cell: Option<usize>,
     out: &mut [u8],
     at: usize,
     end: usize,
-) -> Next
+) -> Result<usize, Refusal>
     requires { Valid t.now × (i < length (entries_of t.now)) × (is_group (what_at (entries_of t.now) i) ≡ false) × (is_multiple (what_at (entries_of t.now) i) ≡ false) × CanPutCell (entries_of t.now) b.now kept.now list.now stage.now i o cell at end out.old }
     ensures { PutsCell (entries_of t.now) b.now kept.now list.now stage.now i o cell (λ w. cell_laid w o (field_at (entries_of t.now) i)) at end out.old out.new result }
 {
@@ -200,7 +190,7 @@ fn put_plain(
     if 0 < staged {
         return put_stored(stage, staged - 1, size, out, at, end);
     }
-    put_old(b, cell, tables::format_at(t, i), size, out, at, end)
+    put_old(b, cell, tables::field_format(t, i), size, out, at, end)
 }
 
 // The cell of entry i, a field, in occurrence o.
@@ -212,11 +202,11 @@ pub fn put_cell(
     stage: &[u8],
     i: usize,
     o: usize,
-    cell: Cell,
+    cell: Option<usize>,
     out: &mut [u8],
     at: usize,
     end: usize,
-) -> Next
+) -> Result<usize, Refusal>
     requires { Valid t.now × (i < length (entries_of t.now)) × (is_group (what_at (entries_of t.now) i) ≡ false) × CanPutCell (entries_of t.now) b.now kept.now list.now stage.now i o cell at end out.old }
     ensures { PutsCell (entries_of t.now) b.now kept.now list.now stage.now i o cell (λ w. cell_laid w o (field_at (entries_of t.now) i)) at end out.old out.new result }
 {

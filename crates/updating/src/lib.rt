@@ -17,11 +17,12 @@ ghost use Rattle.updating.specs.New.{HasBoth, Puts, Between};
 mod cells;
 mod members;
 
-use filling::Next;
 use records::DIRECTORY;
+use rules::Refusal;
 use uses::Index;
 
 // The periodic group that entry g is: the larger of its old count and the highest occurrence named, and as many occurrences.
+#[tactic(auto, using(tables::proofs::Tables::valid_most))]
 fn put_named_group(
     t: &[u8],
     b: &[u8],
@@ -33,20 +34,16 @@ fn put_named_group(
     out: &mut [u8],
     at: usize,
     end: usize,
-) -> Next
+) -> Result<usize, Refusal>
     requires { Valid t.now × (g < length (entries_of t.now)) × (what_at (entries_of t.now) g ≡ group true) × HasBoth (entries_of t.now) b.now places.now kept.now list.now stage.now × Roomy at end out.old }
     ensures { Puts (entries_of t.now) b.now places.now kept.now list.now stage.now (group_added (entries_of t.now) g) at end out.old out.new result }
 {
     let old = records::places::group_count(t, b, places, g);
     let last = tables::group_end(t, g);
     let highest = assignments::highest_occurrence(kept, list, g + 1, last);
-    let n = cells::larger(old, highest);
-    match cells::put_count(n, out, at, end) {
-        Next::Refused(x) => Next::Refused(x),
-        Next::At(p) => members::put_occurrences(
-            t, b, places, kept, list, stage, g, last, n, out, p, end,
-        ),
-    }
+    let n = old.max(highest);
+    let p = cells::put_count(n, out, at, end)?;
+    members::put_occurrences(t, b, places, kept, list, stage, g, last, n, out, p, end)
 }
 
 // The old bytes from entry first's part up to that of entry next, in one piece.
@@ -59,7 +56,7 @@ fn put_kept(
     out: &mut [u8],
     at: usize,
     end: usize,
-) -> Next
+) -> Result<usize, Refusal>
     requires { Valid t.now × (first ≤ next) × (next ≤ length (entries_of t.now)) × HasRecord (entries_of t.now) b.now places.now × ((old : Bytes) × Between (entries_of t.now) b.now first next old) × Roomy at end out.old }
     ensures { (old : Bytes) → Between (entries_of t.now) b.now first next old → Filling (in_room (end - at) (done old)) at true out.old out.new result }
 {
@@ -69,6 +66,7 @@ fn put_kept(
 }
 
 // The periodic group that entry g is: as it was where none of its fields is named.
+#[tactic(auto, using(tables::proofs::Tables::valid_most))]
 fn put_group(
     t: &[u8],
     b: &[u8],
@@ -80,7 +78,7 @@ fn put_group(
     out: &mut [u8],
     at: usize,
     end: usize,
-) -> Next
+) -> Result<usize, Refusal>
     requires { Valid t.now × (g < length (entries_of t.now)) × (what_at (entries_of t.now) g ≡ group true) × HasBoth (entries_of t.now) b.now places.now kept.now list.now stage.now × Roomy at end out.old }
     ensures { Puts (entries_of t.now) b.now places.now kept.now list.now stage.now (group_added (entries_of t.now) g) at end out.old out.new result }
 {
@@ -92,6 +90,7 @@ fn put_group(
 }
 
 // The field outside periodic groups that entry i is: as it was where it is not named.
+#[tactic(auto, using(tables::proofs::Tables::valid_most))]
 fn put_field(
     t: &[u8],
     b: &[u8],
@@ -103,7 +102,7 @@ fn put_field(
     out: &mut [u8],
     at: usize,
     end: usize,
-) -> Next
+) -> Result<usize, Refusal>
     requires { Valid t.now × (i < length (entries_of t.now)) × (is_group (what_at (entries_of t.now) i) ≡ false) × (inside_at (entries_of t.now) i ≡ false) × HasBoth (entries_of t.now) b.now places.now kept.now list.now stage.now × Roomy at end out.old }
     ensures { Puts (entries_of t.now) b.now places.now kept.now list.now stage.now (λ w r. cell_laid w 1 (field_at (entries_of t.now) i)) at end out.old out.new result }
 {
@@ -141,18 +140,15 @@ fn put_entry(
     out: &mut [u8],
     at: usize,
     end: usize,
-) -> Next
+) -> Result<usize, Refusal>
     requires { Valid t.now × (i < length (entries_of t.now)) × (inside ≡ inside_at (entries_of t.now) i) × HasBoth (entries_of t.now) b.now places.now kept.now list.now stage.now × Roomy at end out.old }
     ensures { Puts (entries_of t.now) b.now places.now kept.now list.now stage.now (entry_added (entries_of t.now) inside i) at end out.old out.new result }
 {
     if tables::periodic_at(t, i) {
         return put_group(t, b, places, kept, list, stage, i, out, at, end);
     }
-    if inside {
-        return Next::At(at);
-    }
-    if tables::group_at(t, i) {
-        return Next::At(at);
+    if inside || tables::group_at(t, i) {
+        return Ok(at);
     }
     put_field(t, b, places, kept, list, stage, i, out, at, end)
 }
@@ -166,26 +162,16 @@ pub fn put_record(
     list: &[u16],
     stage: &[u8],
     out: &mut [u8],
-) -> Next
+) -> Result<usize, Refusal>
     requires { Valid t.now × HasBoth (entries_of t.now) b.now places.now kept.now list.now stage.now × (length out.old ≡ longest_new_record) }
     ensures { Puts (entries_of t.now) b.now places.now kept.now list.now stage.now (record_added (entries_of t.now)) 0 longest_new_record out.old out.new result }
 {
-    let n = tables::count(t);
     let end = out.len();
     let mut p = records::heads::put_head(out);
     let mut inside = false;
-    let mut i = 0;
-    while i < n {
+    for i in 0..tables::count(t) {
         inside = records::inside_next(t, i, inside);
-        match put_entry(t, b, places, kept, list, stage, i, inside, out, p, end) {
-            Next::Refused(x) => {
-                return Next::Refused(x);
-            }
-            Next::At(next) => {
-                p = next;
-            }
-        }
-        i += 1;
+        p = put_entry(t, b, places, kept, list, stage, i, inside, out, p, end)?;
     }
-    Next::At(p)
+    Ok(p)
 }

@@ -10,9 +10,8 @@ ghost use Rattle.updating.specs.New.{HasBoth, Puts};
 ghost use Rattle.updating.specs.Member.{HasMember, PutsMember, members_laid, CellsFollow, CanPutOccurrence};
 
 use crate::cells;
-use filling::Next;
 use records::DIRECTORY;
-use records::places::Cell;
+use rules::Refusal;
 use uses::Index;
 
 // What entry i adds to occurrence o of the periodic group that it lies in: its cell where it is a field, and else nothing.
@@ -24,21 +23,22 @@ fn put_member(
     stage: &[u8],
     i: usize,
     o: usize,
-    cell: Cell,
+    cell: Option<usize>,
     out: &mut [u8],
     at: usize,
     end: usize,
-) -> Next
+) -> Result<usize, Refusal>
     requires { Valid t.now × (i < length (entries_of t.now)) × (1 ≤ o) × (o ≤ highest_index) × HasMember (entries_of t.now) b.now kept.now list.now stage.now i o cell × Roomy at end out.old }
     ensures { PutsMember (entries_of t.now) b.now kept.now list.now stage.now i o cell at end out.old out.new result }
 {
     if tables::group_at(t, i) {
-        return Next::At(at);
+        return Ok(at);
     }
     cells::put_cell(t, b, kept, list, stage, i, o, cell, out, at, end)
 }
 
 // What the entries from first up to last add to occurrence o, one after the other, beside the cells that they had.
+#[tactic(auto, using(tables::proofs::Tables::valid_most))]
 pub fn put_members(
     t: &[u8],
     b: &[u8],
@@ -49,35 +49,27 @@ pub fn put_members(
     first: usize,
     last: usize,
     o: usize,
-    had: Cell,
+    had: Option<usize>,
     out: &mut [u8],
     at: usize,
     end: usize,
-) -> Next
+) -> Result<usize, Refusal>
     requires { Valid t.now × (last ≤ length (entries_of t.now)) × (1 ≤ o) × (o ≤ highest_index) × HasBoth (entries_of t.now) b.now places.now kept.now list.now stage.now × CellsFollow (entries_of t.now) b.now places.now first last o had × Roomy at end out.old }
     ensures { Puts (entries_of t.now) b.now places.now kept.now list.now stage.now (λ w r. members_laid w o (entries_of t.now) first (last - first)) at end out.old out.new result }
 {
     let mut cell = had;
     let mut p = at;
-    let mut i = first;
-    while i < last {
-        match put_member(t, b, kept, list, stage, i, o, cell, out, p, end) {
-            Next::Refused(x) => {
-                return Next::Refused(x);
-            }
-            Next::At(next) => {
-                p = next;
-            }
-        }
+    for i in first..last {
+        p = put_member(t, b, kept, list, stage, i, o, cell, out, p, end)?;
         if i + 1 < last {
             cell = records::places::next_cell(t, b, i, cell);
         }
-        i += 1;
     }
-    Next::At(p)
+    Ok(p)
 }
 
 // Occurrence o of the periodic group that entry g is, with members up to last.
+#[tactic(auto, using(tables::proofs::Tables::valid_most))]
 fn put_occurrence(
     t: &[u8],
     b: &[u8],
@@ -91,7 +83,7 @@ fn put_occurrence(
     out: &mut [u8],
     at: usize,
     end: usize,
-) -> Next
+) -> Result<usize, Refusal>
     requires { Valid t.now × (g < length (entries_of t.now)) × (what_at (entries_of t.now) g ≡ group true) × CanPutOccurrence (entries_of t.now) b.now places.now kept.now list.now stage.now g last o at end out.old }
     ensures { Puts (entries_of t.now) b.now places.now kept.now list.now stage.now (λ w r. occurrence_laid w o (drop (g + 1) (entries_of t.now))) at end out.old out.new result }
 {
@@ -127,22 +119,13 @@ pub fn put_occurrences(
     out: &mut [u8],
     at: usize,
     end: usize,
-) -> Next
+) -> Result<usize, Refusal>
     requires { Valid t.now × (g < length (entries_of t.now)) × (what_at (entries_of t.now) g ≡ group true) × (last ≡ group_end (entries_of t.now) g) × (n ≤ highest_index) × HasBoth (entries_of t.now) b.now places.now kept.now list.now stage.now × Roomy at end out.old }
     ensures { Puts (entries_of t.now) b.now places.now kept.now list.now stage.now (λ w r. occurrences_laid w (drop (g + 1) (entries_of t.now)) 1 n) at end out.old out.new result }
 {
     let mut p = at;
-    let mut o = 1;
-    while o <= n {
-        match put_occurrence(t, b, places, kept, list, stage, g, last, o, out, p, end) {
-            Next::Refused(x) => {
-                return Next::Refused(x);
-            }
-            Next::At(next) => {
-                p = next;
-            }
-        }
-        o += 1;
+    for o in 1..=n {
+        p = put_occurrence(t, b, places, kept, list, stage, g, last, o, out, p, end)?;
     }
-    Next::At(p)
+    Ok(p)
 }

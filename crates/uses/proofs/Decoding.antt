@@ -1,4 +1,5 @@
 -- A format decoded one element at a time: what is left of it, from where it stands, says what the whole format does.
+use Rattle.std.specs.Prelude.{Err, Ok, Option, Result, Some}
 use mathlib.Core.Path.{◌≡◌, refl, sym, ap, subst, ◌∙◌}
 use mathlib.Core.Bool.{true, false, not, ◌||◌}
 use mathlib.Core.List.{List, [], ◌∷◌, ◌++◌}
@@ -9,7 +10,7 @@ use lib.ListN.{length, get_or, drop, replicate}
 use lib.Seq.{sets, length-sets}
 use Rattle.rules.specs.Outcome.{Outcome, done, refused, by, ◌>>=◌}
 use Rattle.rules.specs.Outcome as outcome
-use Rattle.rules.specs.Limits.{longest_format}
+use Rattle.rules.specs.Limits.{most_entries, longest_format}
 use Rattle.rules.specs.Characters.{period}
 use Rattle.rules.specs.Lists.{Bytes, run}
 use Rattle.rules.specs.Numbers.{refusal}
@@ -24,25 +25,20 @@ use Rattle.rules.proofs.Lasts.{no_N_yet, lasts_plain, in_full_plain, scoped_mean
 use Rattle.format_buffer.specs.Elements.{element_of, sound}
 use Rattle.format_buffer.specs.Syntax.{parsed, elements_after, element_before, Stepped}
 use Rattle.format_buffer.specs.declared.Element.{Element}
-use Rattle.format_buffer.specs.declared.syntax.Step.{Step}
-use Rattle.format_buffer.specs.declared.syntax.Step.TheVariants as step
 use Rattle.format_buffer.proofs.StepLaws.{elements_parsed, elements_long, after_last, after_more}
-use Rattle.uses.specs.Meant.{use_meant, GoodUse, uses_of}
+use Rattle.uses.specs.Meant.{use_meant, GoodUse, GoodSpanOf, uses_of}
 use Rattle.uses.specs.Scopes.{scope_at, is_written}
 use Rattle.uses.specs.Meanings.{meaning_meant, Means, indexes_kept, Remembers, Remembered}
 use Rattle.uses.specs.Kept.{numbers_kept, numbers, small, uses_kept, GoodUses, Decodes}
 use Rattle.uses.specs.Decoding.{uses_so_far, uses_left, KeepsElement}
 use Rattle.uses.specs.declared.Use.{Use}
-use Rattle.uses.specs.declared.Meant.TheVariants as meant
 use Rattle.uses.specs.declared.scopes.Meaning.{Meaning}
-use Rattle.uses.specs.declared.kept.Decoded.{Decoded}
-use Rattle.uses.specs.declared.kept.Decoded.TheVariants.{Uses, Refused}
 use Rattle.uses.proofs.Scoping.{written_told, values_written}
-use Rattle.uses.proofs.Remembering.{none_remembered, plain_remembered}
-use Rattle.uses.proofs.Numbers.{uses_more, good_more}
+use Rattle.uses.proofs.Remembering.{none_remembered, plain_remembered, span_known}
+use Rattle.uses.proofs.Numbers.{uses_more, good_more, use_small}
 
 -- An answer that is matched is one of its variants.
-pub step_as : {f : Bytes} {at : ℕ} {o : Outcome (List rules.Element)} {r s : Step} → r ≡ s → Stepped f at o r → Stepped f at o s
+pub step_as : {f : Bytes} {at : ℕ} {o : Outcome (List rules.Element)} {r s : (Option (Element × ℕ))} → r ≡ s → Stepped f at o r → Stepped f at o s
 step_as {f} {at} {o} e h = subst (Stepped f at o) e h
 
 -- Lists joined: after one more, and with none.
@@ -104,41 +100,38 @@ no_uses es ls = refl
 
 -- What is left, with the element x first and without it.
 module _ (es : List Entry) (f : Bytes) (ls : Indexes) (x : rules.Element) (kept : List ℕ) where
-  left_passed : (n : Refusal) (xs : Outcome (List rules.Element)) → uses_left es f ls (element_before x xs) kept (Refused n) ≡ uses_left es f ls xs kept (Refused n)
+  left_passed : (n : Refusal) (xs : Outcome (List rules.Element)) → uses_left es f ls (element_before x xs) kept (Err n) ≡ uses_left es f ls xs kept (Err n)
   unfolding uses_left
   left_passed n (done xs) = refl
   left_passed n (refused k) = refl
 
   left_refused : (n : ℕ) (y : Refusal) → ((ys : List rules.Element) → uses es ls (x ∷ ys) ≡ refused (refusal y)) → (xs : Outcome (List rules.Element))
-      → uses_left es f ls (element_before x xs) kept (Uses n) ≡ uses_left es f ls xs kept (Refused y)
+      → uses_left es f ls (element_before x xs) kept (Ok n) ≡ uses_left es f ls xs kept (Err y)
   unfolding uses_left
   left_refused n y e (done xs) = ap (λ o. o >>= λ us. done (uses_kept es f kept n ++ us)) (e xs)
   left_refused n y e (refused k) = refl
 
   left_used : (n m : ℕ) (u : Used) (kept' : List ℕ) → use_of es ls x ≡ done u → has_N x ≡ false → uses_kept es f kept' m ≡ uses_kept es f kept n ++ (u ∷ [])
-      → (xs : Outcome (List rules.Element)) → uses_left es f ls (element_before x xs) kept (Uses n) ≡ uses_left es f (indexes_after u ls) xs kept' (Uses m)
+      → (xs : Outcome (List rules.Element)) → uses_left es f ls (element_before x xs) kept (Ok n) ≡ uses_left es f (indexes_after u ls) xs kept' (Ok m)
   unfolding uses_left
   left_used n m u kept' e q k xs =
       ap (λ o. o >>= λ us. done (uses_kept es f kept n ++ us)) (before_done es ls x xs u e q) ∙ joined u (uses_kept es f kept n) k (xs >>= uses es (indexes_after u ls))
 
 -- One element more, by where the decoding stands and what the element means.
 module _ {es : List Entry} {e : Element} {last : List ℕ} where
-  pub keeps_as : {last' kept kept' : List ℕ} {d d₁ d' : Decoded} → d ≡ d₁ → KeepsElement es e last last' kept kept' d₁ d' → KeepsElement es e last last' kept kept' d d'
-  keeps_as {last'} {kept} {kept'} {d' = d'} q k = subst (λ (d : Decoded). KeepsElement es e last last' kept kept' d d') (sym q) k
-
-  pub keeps_passed : (kept : List ℕ) (x : Refusal) → KeepsElement es e last last kept kept (Refused x) (Refused x)
-  keeps_passed kept x = record {
+  pub keeps_passed : (kept : List ℕ) (d : Result ℕ Refusal) (x : Refusal) → d ≡ Err x → KeepsElement es e last last kept kept d (Err x)
+  keeps_passed kept d x p = rw p (record {
     same = refl;
     room = refl;
     more = omega arith;
     good = λ f s g. g;
     left = λ f s ls q. (ls, q, left_passed es f ls (element_of f e) kept x);
-  }
+  })
 
-  -- What the element means, by what was matched of the answer.
-  module _ (m : Meaning) (w : Means es last e m) where
-    pub keeps_refused : (kept : List ℕ) (n : ℕ) (x : Refusal) → m.meant ≡ meant.Refused x → KeepsElement es e last last kept kept (Uses n) (Refused x)
-    keeps_refused kept n x h = record {
+  -- What the element means, after n uses.
+  module _ (m : Meaning) (w : Means es last e m) (d : Result ℕ Refusal) (n : ℕ) (p : d ≡ Ok n) where
+    pub keeps_refused : (kept : List ℕ) (x : Refusal) → m.meant ≡ Err x → KeepsElement es e last last kept kept d (Err x)
+    keeps_refused kept x h = rw p (record {
       same = refl;
       room = refl;
       more = omega arith;
@@ -149,49 +142,58 @@ module _ {es : List Entry} {e : Element} {last : List ℕ} where
         left_refused es f ls (element_of f e) kept n x (λ ys. first_refused es ls (element_of f e) ys _
             (use_refused es ls (element_of f e) _ (rw h at (w.answer f ls [] s q)))),
       );
-    }
+    })
 
-    module _ (u : Use) (h : m.meant ≡ meant.As u) where
-      pub use_held : (f : Bytes) → sound f e → GoodUse es f u
+    module _ (u : Use) (h : m.meant ≡ Ok u) where
+      use_held : (f : Bytes) → sound f e → GoodUse es f u
       use_held f s = rw h at (w.held f s)
+
+      pub span_held : (f : Bytes) → sound f e → GoodSpanOf es u
+      span_held f s = span_known es f u (use_held f s)
+
+      pub small_held : (f : Bytes) → sound f e → length f ≤ longest_format → length es ≤ most_entries → small u
+      small_held f s l k = use_small es k f l u (use_held f s)
+
+      pub room_for : (kept : List ℕ) → numbers_kept * uses_so_far d + numbers_kept ≤ length kept → numbers_kept * n + numbers_kept ≤ length kept
+      room_for kept l = rw p at l
 
       told : (f : Bytes) (ls : Indexes) → sound f e → Remembers es last ls [] → (use_of es ls (element_of f e) ≡ done (use_meant es f u)) × (has_N (element_of f e) ≡ not (is_written m.scopes))
       told f ls s q =
           let d = use_done es ls (element_of f e) (meaning_meant es f u m.scopes) (rw h at (w.answer f ls [] s q)) in
           (d.0, d.1 ∙ written_told m.scopes)
 
-      pub keeps_last : (kept : List ℕ) (n : ℕ) → is_written m.scopes ≡ false → KeepsElement es e last last kept kept (Uses n) (Refused UseRule)
-      keeps_last kept n z = record {
+      pub keeps_last : (kept : List ℕ) → is_written m.scopes ≡ false → KeepsElement es e last last kept kept d (Err UseRule)
+      keeps_last kept z = rw p (record {
         same = refl;
         room = refl;
         more = omega arith;
         good = λ f s g i h. absurd (omega arith);
-        left = λ f s ls q. let d = told f ls s q in
-            (ls, q, left_refused es f ls (element_of f e) kept n UseRule (λ ys. first_last es ls (element_of f e) ys _ d.0 (d.1 ∙ ap not z)));
-      }
+        left = λ f s ls q. let t = told f ls s q in
+            (ls, q, left_refused es f ls (element_of f e) kept n UseRule (λ ys. first_last es ls (element_of f e) ys _ t.0 (t.1 ∙ ap not z)));
+      })
 
-      pub keeps_use : (kept : List ℕ) (n : ℕ) {last' kept' : List ℕ} → numbers_kept * n + numbers_kept ≤ length kept → small u → is_written m.scopes ≡ true
-          → Remembered es u m.scopes.values last last' → kept' ≡ sets kept (numbers_kept * n) (numbers u) → KeepsElement es e last last' kept kept' (Uses n) (Uses (n + 1))
-      keeps_use kept n {last'} l t z k q = rw q (record {
+      pub keeps_use : (kept : List ℕ) {last' kept' : List ℕ} → numbers_kept * n + numbers_kept ≤ length kept → small u → is_written m.scopes ≡ true
+          → Remembered es u m.scopes.values last last' → kept' ≡ sets kept (numbers_kept * n) (numbers u) → KeepsElement es e last last' kept kept' d (Ok (n + 1))
+      keeps_use kept {last'} l t z k q = rw (p, q) (record {
         same = k.same;
         room = length-sets kept (numbers_kept * n) (numbers u);
         more = omega arith;
         good = λ f s g. good_more es f kept n u l t (use_held f s) g;
-        left = λ f s ls r. let d = told f ls s r in (
+        left = λ f s ls r. let i = told f ls s r in (
           indexes_after (use_meant es f u) ls,
           plain_remembered es last' _ _ (lasts_plain (use_meant es f u) (scope_at m.scopes.values) [] (values_written m.scopes z) no_N_yet) (k.indexes f ls [] r),
-          left_used es f ls (element_of f e) kept n (n + 1) (use_meant es f u) _ d.0 (d.1 ∙ ap not z) (uses_more es f kept n u l t),
+          left_used es f ls (element_of f e) kept n (n + 1) (use_meant es f u) _ i.0 (i.1 ∙ ap not z) (uses_more es f kept n u l t),
         );
       })
 
 -- The decoding stands somewhere, with some elements left.
-pub record Decoding (es : List Entry) (f : Bytes) (last : List ℕ) (xs : Outcome (List rules.Element)) (kept : List ℕ) (d : Decoded) : Type 0 where
+pub record Decoding (es : List Entry) (f : Bytes) (last : List ℕ) (xs : Outcome (List rules.Element)) (kept : List ℕ) (d : Result ℕ Refusal) : Type 0 where
   pub indexes : Indexes
   pub remembers : Remembers es last indexes []
   pub good : GoodUses es f kept (uses_so_far d)
   pub left : uses_of es f ≡ uses_left es f indexes xs kept d
 
-pub decode_long : (es : List Entry) (f : Bytes) (kept : List ℕ) → longest_format < length f → Decodes es f kept (Refused BadSyntax)
+pub decode_long : (es : List Entry) (f : Bytes) (kept : List ℕ) → longest_format < length f → Decodes es f kept (Err BadSyntax)
 unfolding uses_of
 decode_long es f kept h = ap (λ o. o >>= uses es []) (elements_long f h)
 
@@ -200,7 +202,7 @@ after_none (done us) = refl
 after_none (refused k) = refl
 
 module _ (es : List Entry) (f : Bytes) (kept : List ℕ) where
-  pub decode_start : length f ≤ longest_format → Decoding es f (replicate indexes_kept 0) (parsed (drop 0 f)) kept (Uses 0)
+  pub decode_start : length f ≤ longest_format → Decoding es f (replicate indexes_kept 0) (parsed (drop 0 f)) kept (Ok 0)
   unfolding uses_of uses_left uses_kept run
   decode_start h = record {
     indexes = [];
@@ -211,24 +213,24 @@ module _ (es : List Entry) (f : Bytes) (kept : List ℕ) where
 
 module _ {es : List Entry} {f : Bytes} where
   module _ {last : List ℕ} {kept : List ℕ} where
-    pub decode_bad : (d : Decoded) → Decoding es f last (refused (by 3)) kept d → Decodes es f kept (Refused BadSyntax)
+    pub decode_bad : (d : Result ℕ Refusal) → Decoding es f last (refused (by 3)) kept d → Decodes es f kept (Err BadSyntax)
     unfolding uses_left
-    decode_bad (Uses n) w = w.left
-    decode_bad (Refused x) w = w.left
+    decode_bad (Ok n) w = w.left
+    decode_bad (Err x) w = w.left
 
     -- Nothing is left.
-    decode_end : (d : Decoded) → numbers_kept * uses_so_far d ≤ length kept → Decoding es f last (done []) kept d → Decodes es f kept d
+    decode_end : (d : Result ℕ Refusal) → numbers_kept * uses_so_far d ≤ length kept → Decoding es f last (done []) kept d → Decodes es f kept d
     unfolding uses_left
-    decode_end (Uses n) h w =
+    decode_end (Ok n) h w =
         (w.left ∙ ap (λ o. o >>= λ us. done (uses_kept es f kept n ++ us)) (no_uses es w.indexes) ∙ ap done (none_joined (uses_kept es f kept n)), w.good, h)
-    decode_end (Refused x) h w = w.left
+    decode_end (Err x) h w = w.left
 
     -- The same elements in other words.
-    pub decode_as : {d : Decoded} {xs ys : Outcome (List rules.Element)} → xs ≡ ys → Decoding es f last xs kept d → Decoding es f last ys kept d
+    pub decode_as : {d : (Result ℕ Refusal)} {xs ys : Outcome (List rules.Element)} → xs ≡ ys → Decoding es f last xs kept d → Decoding es f last ys kept d
     decode_as {d} e w = subst (λ (o : Outcome (List rules.Element)). Decoding es f last o kept d) e w
 
   -- The element at a place is decoded.
-  module _ {at : ℕ} {e : Element} {stop : ℕ} (t : Stepped f at (parsed (drop at f)) (step.At e stop)) {last last' kept kept' : List ℕ} {d d' : Decoded}
+  module _ {at : ℕ} {e : Element} {stop : ℕ} (t : Stepped f at (parsed (drop at f)) (Some (e, stop))) {last last' kept kept' : List ℕ} {d d' : (Result ℕ Refusal)}
       (w : Decoding es f last (parsed (drop at f)) kept d) (k : KeepsElement es e last last' kept kept' d d') where
     after_element : Decoding es f last' (elements_after f stop) kept' d'
     after_element = let v = decode_as t.answer w in let n = k.left f t.place.2 v.indexes v.remembers in record {

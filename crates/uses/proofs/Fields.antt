@@ -9,19 +9,16 @@ use borrow.Author.Tests.{ltb-true, ltb-false}
 use lib.Dec.{eqb, ltb}
 use lib.ListN.{length, get_or, take, drop, length-drop}
 use Rattle.rules.specs.Outcome.{Outcome, done, refused, by, ◌>>=◌, need, is_done}
-use Rattle.rules.specs.Limits.{formats}
 use Rattle.rules.specs.Lists.{all, filter}
 use Rattle.rules.specs.Table.{What, field, group, Field, Entry, fields_below}
 use Rattle.rules.specs.Use.{plain, as_stored, fields_to}
 use Rattle.rules.proofs.Steps.{by_test, true_T}
 use Rattle.rules.proofs.Uses.{by_what, Single, plain_single, to_picked}
-use Rattle.value_formats.specs.Formats.{format_at}
-use Rattle.tables.specs.Entries.{blank, is_group, is_multiple, size_of, format_number}
+use Rattle.tables.specs.Entries.{blank, is_multiple, size_of, field_format}
 use Rattle.tables.specs.Groups.{run_below, group_end, field_by, field_at, with_field, fields_in}
 use Rattle.tables.proofs.EntryFields.{no_fields, first_field}
 use Rattle.tables.proofs.Nesting.{below_deeper, below_ends, below_nil, run_nil, run_deeper, run_ends, run_short}
 use Rattle.uses.specs.Meant.{fields_from}
-use Rattle.value_formats.proofs.Letters.{number_back, number_small}
 
 -- What a field's entry says of it.
 multiple_by : (n : ℕ) (w : What) → (field_by n w).multiple ≡ is_multiple w
@@ -34,10 +31,10 @@ unfolding field_by
 size_by n (field f s m) = refl
 size_by n (group p) = refl
 
-format_by : (n : ℕ) (w : What) → is_group w ≡ false → ((field_by n w).format ≡ format_at (format_number w)) × (format_number w < formats)
+format_by : (n : ℕ) (w : What) → (field_by n w).format ≡ field_format w
 unfolding field_by
-format_by n (field f s m) e = (sym (number_back f), number_small f)
-format_by n (group p) e = absurd (true≢false e)
+format_by n (field f s m) = refl
+format_by n (group p) = refl
 
 module _ (es : List Entry) (i : ℕ) where
   pub multiple_at : (field_at es i).multiple ≡ is_multiple (get_or es i blank).what
@@ -48,10 +45,9 @@ module _ (es : List Entry) (i : ℕ) where
   unfolding field_at
   size_at = size_by (get_or es i blank).name (get_or es i blank).what
 
-  pub format_of_field : is_group (get_or es i blank).what ≡ false
-      → ((field_at es i).format ≡ format_at (format_number (get_or es i blank).what)) × (format_number (get_or es i blank).what < formats)
+  pub format_of_field : (field_at es i).format ≡ field_format (get_or es i blank).what
   unfolding field_at
-  format_of_field e = format_by (get_or es i blank).name (get_or es i blank).what e
+  format_of_field = format_by (get_or es i blank).name (get_or es i blank).what
 
 -- The fields of a group stand among the entries after it that are deeper.
 below_run : (l : ℕ) (es : List Entry) → fields_below l es ≡ fields_in (take (run_below l es) es)

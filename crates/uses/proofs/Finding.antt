@@ -1,4 +1,6 @@
 -- What an element means, by the entries that its names find: a count and a series by the rules alone, a name by the entry's kind.
+use Rattle.std.specs.Prelude.{Err, Ok, Result}
+use Rattle.rules.specs.declared.Refusal.{Refusal}
 use mathlib.Core.Path.{◌≡◌, refl, sym, ap, ◌∙◌}
 use mathlib.Core.Bool.{Bool, false, cond}
 use mathlib.Core.List.{List, [], ◌∷◌}
@@ -22,8 +24,7 @@ use Rattle.format_buffer.specs.declared.Count.{Count}
 use Rattle.uses.specs.Meant.{use_meant, outcome_of, Settles, count_use, series_use, count_named, series_named}
 use Rattle.uses.specs.Scopes.{scope_at}
 use Rattle.uses.specs.Meanings.{scoped_outcome}
-use Rattle.uses.specs.declared.Meant.{Meant}
-use Rattle.uses.specs.declared.Meant.TheVariants as meant
+use Rattle.uses.specs.declared.Use.{Use as CodeUse}
 use Rattle.uses.specs.declared.scopes.Scopes.{Scopes}
 
 -- The entry that is found has the name.
@@ -66,22 +67,22 @@ module _ (n : ℕ) (es : List Entry) where
 
 -- A count, and a series.
 module _ (es : List Entry) (c : Count) where
-  pub counted_nothing : find c.name es ≡ refused (by 4) → Settles es (count_named es c) (meant.Refused UnknownName)
+  pub counted_nothing : find c.name es ≡ refused (by 4) → Settles es (count_named es c) (Err UnknownName)
   counted_nothing e = record { answer = λ f. rw e refl; held = λ f. tt }
 
-  pub counted_as : (i : ℕ) → find c.name es ≡ done (found_at es i) → (r : Meant) → Settles es (count_use es i c) r → Settles es (count_named es c) r
+  pub counted_as : (i : ℕ) → find c.name es ≡ done (found_at es i) → (r : Result CodeUse Refusal) → Settles es (count_use es i c) r → Settles es (count_named es c) r
   unfolding found_at
   counted_as i e r s = record { answer = λ f. s.answer f ∙ rw (found_name c.name es i e, e) refl; held = s.held }
 
 module _ (es : List Entry) (n m : ℕ) where
-  pub no_first : find n es ≡ refused (by 4) → Settles es (series_named es n m) (meant.Refused UnknownName)
+  pub no_first : find n es ≡ refused (by 4) → Settles es (series_named es n m) (Err UnknownName)
   no_first e = record { answer = λ f. rw e refl; held = λ f. tt }
 
   module _ (i : ℕ) (e : find n es ≡ done (found_at es i)) where
-    pub no_last : find m es ≡ refused (by 4) → Settles es (series_named es n m) (meant.Refused UnknownName)
+    pub no_last : find m es ≡ refused (by 4) → Settles es (series_named es n m) (Err UnknownName)
     no_last q = record { answer = λ f. rw (e, q) refl; held = λ f. tt }
 
-    pub series_to : (j : ℕ) → find m es ≡ done (found_at es j) → (r : Meant) → Settles es (series_use es i j) r → Settles es (series_named es n m) r
+    pub series_to : (j : ℕ) → find m es ≡ done (found_at es j) → (r : Result CodeUse Refusal) → Settles es (series_use es i j) r → Settles es (series_named es n m) r
     series_to j q r s = record { answer = λ f. s.answer f ∙ rw (found_name m es j q, e, q) refl; held = s.held }
 
 -- The rules' outcome with scopes, where the code has both.
@@ -89,12 +90,17 @@ abbrev pub as_scoped : Scopes → Use → Meaning
 as_scoped s u = record { meant = u; occurrences = scope_at s.occurrences; values = scope_at s.values }
 
 module _ (es : List Entry) (f : Bytes) where
-  outcome_scoped : (m : Meant) (s : Scopes) (g : Use → Meaning) {o : Outcome Use} → outcome_of es f m ≡ o → ((u : Use) → g u ≡ as_scoped s u)
+  outcome_scoped : (m : Result CodeUse Refusal) (s : Scopes) (g : Use → Meaning) {o : Outcome Use} → outcome_of es f m ≡ o → ((u : Use) → g u ≡ as_scoped s u)
       → scoped_outcome es f m s ≡ (o >>= λ u. done (g u))
-  outcome_scoped (meant.As u) s g e h = rw (← e) (ap done (sym (h (use_meant es f u))))
-  outcome_scoped (meant.Refused x) s g e h = rw (← e) refl
+  outcome_scoped (Ok u) s g e h = rw (← e) (ap done (sym (h (use_meant es f u))))
+  outcome_scoped (Err x) s g e h = rw (← e) refl
 
-  pub meaning_as : (ls : Indexes) (ns : Lasts) (x y : rules.Element) (m : Meant) (s : Scopes) → in_full es ns x ≡ y → outcome_of es f m ≡ use_of es ls y
+  pub meaning_as : (ls : Indexes) (ns : Lasts) (x y : rules.Element) (m : Result CodeUse Refusal) (s : Scopes) → in_full es ns x ≡ y → outcome_of es f m ≡ use_of es ls y
       → ((u : Use) → scoped es y u ≡ as_scoped s u) → scoped_outcome es f m s ≡ meaning_of es ls ns x
   unfolding meaning_of
   meaning_as ls ns x y m s e q h = rw e (outcome_scoped m s (scoped es y) q h)
+
+-- What settles a count and a series by their names.
+pub ruleset count_laws = (counted_nothing, counted_as)
+
+pub ruleset series_laws = (no_first, no_last, series_to)

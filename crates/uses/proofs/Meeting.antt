@@ -13,9 +13,11 @@ use Rattle.rules.proofs.Bools.{or_crossed}
 use Rattle.uses.specs.Meant.{use_meant}
 use Rattle.uses.specs.Kept.{use_at, uses_kept, GoodUses}
 use Rattle.uses.specs.Twice.{GoodSpans, met_by, Alike, Met, NamedTwice}
+use Rattle.uses.specs.declared.Span.{Span}
 use Rattle.uses.specs.declared.Use.{Use}
+use Rattle.uses.specs.declared.Use.TheVariants as code
 use Rattle.uses.proofs.Remembering.{span_known}
-use Rattle.uses.proofs.Sharing.{one_right}
+use Rattle.uses.proofs.Sharing.{one_left, one_right}
 use Rattle.uses.proofs.Numbers.{uses_none, uses_last}
 
 or_middle : (a b c : Bool) → (a || (b || c)) ≡ (b || (a || c))
@@ -28,7 +30,7 @@ any_last p [] x = refl
 any_last p (y ∷ ys) x = ap (λ b. p y || b) (any_last p ys x) ∙ or_middle (p y) (p x) (any p ys)
 
 -- One item names nothing.
-pub none_met : (us : List rules.Use) (x : rules.Item) → met_by us (rules.one x) ≡ false
+none_met : (us : List rules.Use) (x : rules.Item) → met_by us (rules.one x) ≡ false
 unfolding met_by any
 none_met [] x = refl
 none_met (u ∷ us) x = ap (λ b. b || met_by us (rules.one x)) (one_right u x) ∙ none_met us x
@@ -101,6 +103,21 @@ alike_as es v {r = r} e a = subst (λ (w : Use). Alike es w v r) (sym e) a
 pub met_as : (es : List Entry) (kept : List ℕ) (count : ℕ) {u v : Use} {r : Bool} → u ≡ v → Met es kept count v r → Met es kept count u r
 met_as es kept count {r = r} e m = subst (λ (w : Use). Met es kept count w r) (sym e) m
 
+-- What is no span names nothing.
+pub alike_other : (es : List Entry) (u v : Use) → ((s : Span) → u ≡ code.Values s → ⊥) → Alike es u v false
+alike_other es (code.Blanks n) v h f = sym (one_left _ _)
+alike_other es (code.Text from upto) v h f = sym (one_left _ _)
+alike_other es (code.GroupCount i) v h f = sym (one_left _ _)
+alike_other es (code.ValueCount i k) v h f = sym (one_left _ _)
+alike_other es (code.Values s) v h f = absurd (h s refl)
+
+pub met_other : (es : List Entry) (kept : List ℕ) (count : ℕ) (u : Use) → ((s : Span) → u ≡ code.Values s → ⊥) → Met es kept count u false
+met_other es kept count (code.Blanks n) h f = sym (none_met _ _)
+met_other es kept count (code.Text from upto) h f = sym (none_met _ _)
+met_other es kept count (code.GroupCount i) h f = sym (none_met _ _)
+met_other es kept count (code.ValueCount i k) h f = sym (none_met _ _)
+met_other es kept count (code.Values s) h f = absurd (h s refl)
+
 -- None of the first n uses names what one before it names.
 abbrev pub Once : List Entry → List ℕ → ℕ → Type 0
 Once es kept n = (f : Bytes) → named_twice (uses_kept es f kept n) ≡ false
@@ -122,3 +139,6 @@ module _ (es : List Entry) (kept : List ℕ) where
 
   pub spans_known : (f : Bytes) (count : ℕ) → GoodUses es f kept count → GoodSpans es kept count
   spans_known f count g i h = span_known es f (use_at kept i) (g i h)
+
+-- What a look for what is named twice begins and ends with.
+pub ruleset once_laws = (once_start, once_end, spans_known)

@@ -9,15 +9,18 @@ use borrow.Author.Tests.{ne_eqb}
 use lib.Dec.{eqb, leb, leb→le, eqb→eq}
 use lib.ListN.{length, get_or, set, length-set}
 use lib.Seq.{sets, get_or-set_same, get_or-set_other}
-use Rattle.rules.specs.Limits.{most_entries, highest_index, formats, longest_format, longest_alpha, longest_binary, longest_packed, longest_unpacked}
-use Rattle.rules.specs.Values.{Format, alpha, binary, fixed, packed, unpacked, allowed}
+use Rattle.rules.specs.Limits.{most_entries, highest_index, longest_format, longest_alpha, longest_binary, longest_packed, longest_unpacked}
+use Rattle.rules.specs.Values as Rules
+use Rattle.rules.specs.Values.{alpha, binary, fixed, packed, unpacked, allowed}
 use Rattle.rules.specs.Lists.{Bytes, run}
 use Rattle.rules.specs.Table.{Entry}
 use Rattle.rules.proofs.Steps.{true_T, and_right, by_test}
 use Rattle.buffer.proofs.Cases.{by_order}
+use Rattle.value_formats.specs.declared.Format.{Format}
+use Rattle.value_formats.specs.declared.Format.TheVariants.{Alpha, Binary, Fixed, Packed, Unpacked}
 use Rattle.format_buffer.specs.Elements.{range}
 use Rattle.uses.specs.Meant.{use_meant, GoodSpan, GoodUse}
-use Rattle.uses.specs.Kept.{numbers_kept, blanks_kept, text_kept, group_count_kept, value_count_kept, stored_kept, pair_base, pair, bare_weight, format_weight, size_weight, formats_kept, kind_at, span_at, use_of_kind, use_at, span_kind, flag, span_what, span_numbers, numbers, SmallSpan, small, uses_kept, GoodUses}
+use Rattle.uses.specs.Kept.{numbers_kept, blanks_kept, text_kept, group_count_kept, value_count_kept, stored_kept, pair_base, pair, bare_weight, format_weight, size_weight, formats_kept, format_number, format_kept, kind_at, span_at, use_of_kind, use_at, span_kind, flag, span_what, span_numbers, numbers, SmallSpan, small, uses_kept, GoodUses}
 use Rattle.uses.specs.declared.Span.{Span}
 use Rattle.uses.specs.declared.Use.{Use}
 use Rattle.uses.specs.declared.Use.TheVariants as code
@@ -39,19 +42,6 @@ sets_at (v ∷ vs) l at (suc j) k e h i = sets_at vs (set l at v) (suc at) j k (
 pub sets_above : (vs l : List ℕ) (at k : ℕ) → at + length vs ≤ k → get_or (sets l at vs) k 0 ≡ get_or l k 0
 sets_above [] l at k h = refl
 sets_above (v ∷ vs) l at k h = sets_above vs (set l at v) (suc at) k (omega arith) ∙ get_or-set_other l at k v 0 (λ e. absurd (omega arith))
-
-pub three_sets : (l : List ℕ) (at a b c : ℕ) → set (set (set l at a) (at + 1) b) (at + 2) c ≡ sets l at (a ∷ b ∷ c ∷ [])
-three_sets l at a b c =
-    let one : at + 1 ≡ suc at = omega arith in
-    let two : at + 2 ≡ suc (suc at) = omega arith in
-    rw (one, two)
-
-pub four_sets : (l : List ℕ) (at a b c d : ℕ) → set (set (set (set l at a) (at + 1) b) (at + 2) c) (at + 3) d ≡ sets l at (a ∷ b ∷ c ∷ d ∷ [])
-four_sets l at a b c d =
-    let one : at + 1 ≡ suc at = omega arith in
-    let two : at + 2 ≡ suc (suc at) = omega arith in
-    let three : at + 3 ≡ suc (suc (suc at)) = omega arith in
-    rw (one, two, three)
 
 -- The uses before the place stay.
 module _ (l vs : List ℕ) (at : ℕ) where
@@ -81,6 +71,22 @@ flag_small : (b : Bool) → flag b < 2
 flag_small true = omega arith
 flag_small false = omega arith
 
+-- So was what was kept of a format.
+format_told : (f : Format) → format_kept (format_number f) ≡ f
+unfolding format_kept
+format_told Alpha = refl
+format_told Binary = refl
+format_told Fixed = refl
+format_told Packed = refl
+format_told Unpacked = refl
+
+format_small : (f : Format) → format_number f < formats_kept
+format_small Alpha = omega arith
+format_small Binary = omega arith
+format_small Fixed = omega arith
+format_small Packed = omega arith
+format_small Unpacked = omega arith
+
 kind_spans : (b : Bool) (m n : ℕ) (s : Span) → use_of_kind (span_kind b) m n s ≡ code.Values s
 unfolding use_of_kind
 kind_spans true m n s = refl
@@ -101,11 +107,11 @@ module _ (s : Span) (t : SmallSpan s) where
   what_bare : span_what s / bare_weight % 2 ≡ flag s.bare
   what_bare = omega (arith, kind_small s.standard, flag_small s.bare)
 
-  what_format : span_what s / format_weight % formats_kept ≡ s.format
-  what_format = omega (arith, kind_small s.standard, flag_small s.bare, t.6)
+  what_format : span_what s / format_weight % formats_kept ≡ format_number s.format
+  what_format = omega (arith, kind_small s.standard, flag_small s.bare, format_small s.format)
 
   what_size : span_what s / size_weight ≡ s.size
-  what_size = omega (arith, kind_small s.standard, flag_small s.bare, t.6)
+  what_size = omega (arith, kind_small s.standard, flag_small s.bare, format_small s.format)
 
 module _ (l : List ℕ) (at : ℕ) (h : at + numbers_kept ≤ length l) where
   module _ (s : Span) (t : SmallSpan s) where
@@ -123,6 +129,7 @@ module _ (l : List ℕ) (at : ℕ) (h : at + numbers_kept ≤ length l) where
       what_bare s t,
       flag_told s.bare,
       what_format s t,
+      format_told s.format,
       what_size s t,
       sets_at (span_numbers s) l at 1 (at + 1) refl h (omega arith),
       pair_first s.first s.end t.1,
@@ -218,17 +225,14 @@ module _ (es : List Entry) (f : Bytes) (l : List ℕ) (n : ℕ) (u : Use) (h : n
       (λ below. subst (GoodUse es f) (sym (use_again l (numbers u) (numbers_kept * n) i (omega arith))) (k i below))
       (λ here. let e : i ≡ n = omega arith in subst (λ j. GoodUse es f (use_at (sets l (numbers_kept * n) (numbers u)) j)) (sym e) (subst (GoodUse es f) (sym (use_here u l n h t)) g))
 
--- The numbers of a use are small: an index, a number of entries and a size are each one of a pair, and there is room for each format.
+-- The numbers of a use are small: an index, a number of entries and a size are each one of a pair.
 index_paired : {n : ℕ} → n ≤ highest_index → n < pair_base
 index_paired h = omega arith
 
 entry_paired : {n : ℕ} → n ≤ most_entries → n < pair_base
 entry_paired h = omega arith
 
-format_room : {n : ℕ} → n < formats → n < formats_kept
-format_room h = omega arith
-
-size_paired : (t : Format) (n : ℕ) → allowed t n ≡ true → n < pair_base
+size_paired : (t : Rules.Format) (n : ℕ) → allowed t n ≡ true → n < pair_base
 unfolding allowed
 size_paired alpha n e = let q = leb→le n longest_alpha (true_T e) in omega arith
 size_paired binary n e = let q = leb→le n longest_binary (and_right (leb 1 n) (leb n longest_binary) (true_T e)) in omega arith
@@ -242,17 +246,16 @@ module _ (es : List Entry) (l : length es ≤ most_entries) where
       let o = ordered_within (range s.from s.upto) h.occurrences in
       let v = ordered_within (range s.value_from s.value_upto) h.values in
       let end : s.end ≤ most_entries = omega (arith, h.upto) in
-      let effect : (s.format < formats_kept) × (s.size < pair_base) = by_test s.standard
-      (λ e. let z = h.unasked e in (omega (arith, z.0), omega (arith, z.1)))
-      (λ e. let a = h.alone e in (format_room a.format, size_paired _ _ a.allowed)) in (
+      let size : s.size < pair_base = by_test s.standard
+      (λ e. let z = h.unasked e in omega (arith, z.1))
+      (λ e. size_paired _ _ (h.alone e).allowed) in (
         entry_paired (omega (arith, h.ordered)),
         entry_paired end,
         index_paired (omega (arith, o.1, o.2)),
         index_paired o.2,
         index_paired (omega (arith, v.1, v.2)),
         index_paired v.2,
-        effect.0,
-        effect.1,
+        size,
       )
 
   pub use_small : (f : Bytes) → length f ≤ longest_format → (u : Use) → GoodUse es f u → small u

@@ -1,66 +1,75 @@
--- How far indexes reach, by the code's numbers: each law is one of the three cases of a scope.
+-- How far indexes reach: each law is one of the three cases of a scope.
+use Rattle.std.specs.Prelude.{None, Some, Option as Optional}
 use mathlib.Core.Path.{◌≡◌, refl, ap, ◌∙◌}
-use mathlib.Core.Bool.{Bool, true, false, not, ◌&&◌, ◌||◌}
+use mathlib.Core.Bool.{Bool, true, false, not, ◌&&◌, ◌||◌, false≢true}
+use mathlib.Core.Option.{some}
 use Prim.Native.Nat.{ℕ}
-use lib.Dec.{eqb}
-use borrow.Author.Tests.{eqb-false, ne_eqb}
-use Rattle.rules.specs.Format.{Range}
-use Rattle.rules.specs.Use.{ranges_of}
+use Rattle.rules.specs.Use.{range_of, ranges_of}
 use Rattle.rules.specs.Last.{as_written, last_alone, up_to_last, scope_of, is_last}
-use Rattle.rules.proofs.Steps.{by_test}
 use Rattle.rules.proofs.Bools.{and_both}
-use Rattle.format_buffer.specs.Elements.{optional, range, written_scope, last_scope, reaching, SmallRange}
-use Rattle.format_buffer.specs.declared.Named.{Named}
-use Rattle.uses.specs.Scopes.{scope_at, both_written, is_written, scopes_of_name}
+use Rattle.format_buffer.specs.Elements.{range, reaching, indexing_given, small_indexing}
+use Rattle.format_buffer.specs.declared.Scope.{Scope}
+use Rattle.format_buffer.specs.declared.Scope.TheVariants.{AsWritten, LastAlone, UpToLast}
+use Rattle.format_buffer.specs.declared.Indexing.{Indexing}
+use Rattle.uses.specs.Spread.{range_given}
+use Rattle.uses.specs.Scopes.{scope_at, as_written as is_as_written, is_written, scope_given}
 use Rattle.uses.specs.declared.scopes.Scopes.{Scopes}
 
-pub written_at : (s : ℕ) → s ≡ written_scope → scope_at s ≡ as_written
-unfolding scope_at
+pub written_at : (s : Scope) → s ≡ AsWritten → scope_at s ≡ as_written
 written_at s e = rw e refl
 
-pub last_at : (s : ℕ) → s ≡ last_scope → scope_at s ≡ last_alone
-unfolding scope_at
+pub last_at : (s : Scope) → s ≡ LastAlone → scope_at s ≡ last_alone
 last_at s e = rw e refl
 
-pub all_at : (s : ℕ) → (s ≡ written_scope → ⊥) → (s ≡ last_scope → ⊥) → scope_at s ≡ up_to_last
-unfolding scope_at
-all_at s e q = rw (ne_eqb _ _ e, ne_eqb _ _ q) refl
+pub all_at : (s : Scope) → (s ≡ AsWritten → ⊥) → (s ≡ LastAlone → ⊥) → scope_at s ≡ up_to_last
+all_at AsWritten e q = absurd (e refl)
+all_at LastAlone e q = absurd (q refl)
+all_at UpToLast e q = refl
 
-pub names_written : (inside : Bool) (n : Named) → n.scope ≡ written_scope → n.value_scope ≡ written_scope → both_written ≡ scopes_of_name inside n
-names_written true n e q = rw (e, q) refl
-names_written false n e q = rw e refl
+-- With N indexes are not as they are written.
+pub last_unwritten : LastAlone ≡ AsWritten → ⊥
+last_unwritten e = false≢true (ap is_as_written e)
+
+pub all_unwritten : UpToLast ≡ AsWritten → ⊥
+all_unwritten e = false≢true (ap is_as_written e)
 
 -- The use rules take indexes by their numbers, which are 1 with N.
-pub ranges_told : (b : Bool) (i j s : ℕ) → SmallRange i j s → ranges_of (optional b (reaching s (range i j))) ≡ optional b (range i j)
-unfolding reaching
-ranges_told false i j s h = refl
-ranges_told true i j s h =
-    by_test (eqb s written_scope) (λ e. rw e refl)
-    (λ e. by_test (eqb s last_scope)
-    (λ k. rw (e, k, (h.one (eqb-false _ _ e)).0, (h.one (eqb-false _ _ e)).1) refl)
-    (λ k. rw (e, k, (h.one (eqb-false _ _ e)).0, (h.one (eqb-false _ _ e)).1) refl))
+range_told : (s : Scope) (i j : ℕ) → ((s ≡ AsWritten → ⊥) → (i ≡ 1) × (j ≡ 1)) → range_of (reaching s (range i j)) ≡ range i j
+range_told AsWritten i j h = refl
+range_told LastAlone i j h = let o = h last_unwritten in rw (o.0, o.1) refl
+range_told UpToLast i j h = let o = h all_unwritten in rw (o.0, o.1) refl
+
+pub ranges_told : (x : Optional Indexing) → small_indexing x → ranges_of (indexing_given x) ≡ range_given x
+ranges_told None h = refl
+ranges_told (Some x) h = rw (range_told x.scope x.from x.upto h.one) refl
 
 -- The scope of indexes, where they are given.
-pub scope_told : (b : Bool) (s : ℕ) (r : Range) → (b ≡ false → s ≡ written_scope) → scope_of (optional b (reaching s r)) ≡ scope_at s
-unfolding reaching scope_at
-scope_told false s r h = rw (h refl) refl
-scope_told true s r h =
-    by_test (eqb s written_scope) (λ e. rw e refl)
-    (λ e. by_test (eqb s last_scope) (λ k. rw (e, k) refl) (λ k. rw (e, k) refl))
+scope_reached : (s : Scope) (i j : ℕ) → scope_of (some (reaching s (range i j))) ≡ scope_at s
+scope_reached AsWritten i j = refl
+scope_reached LastAlone i j = refl
+scope_reached UpToLast i j = refl
+
+pub scope_told : (x : Optional Indexing) → scope_of (indexing_given x) ≡ scope_at (scope_given x)
+scope_told None = refl
+scope_told (Some x) = scope_reached x.scope x.from x.upto
 
 -- Whether it is N.
-pub last_told : (s : ℕ) → is_last (scope_at s) ≡ not (eqb s written_scope)
-unfolding scope_at
-last_told s =
-    by_test (eqb s written_scope) (λ e. rw e refl)
-    (λ e. by_test (eqb s last_scope) (λ k. rw (e, k) refl) (λ k. rw (e, k) refl))
+last_told : (s : Scope) → is_last (scope_at s) ≡ not (is_as_written s)
+last_told AsWritten = refl
+last_told LastAlone = refl
+last_told UpToLast = refl
+
+pub unwritten_last : (s : Scope) → (s ≡ AsWritten → ⊥) → is_last (scope_at s) ≡ true
+unwritten_last AsWritten e = absurd (e refl)
+unwritten_last LastAlone e = refl
+unwritten_last UpToLast e = refl
 
 either_not : (a b : Bool) → (not a || not b) ≡ not (a && b)
 either_not true b = refl
 either_not false b = refl
 
 pub written_told : (s : Scopes) → (is_last (scope_at s.occurrences) || is_last (scope_at s.values)) ≡ not (is_written s)
-written_told s = rw (last_told s.occurrences, last_told s.values) (either_not (eqb s.occurrences written_scope) (eqb s.values written_scope))
+written_told s = rw (last_told s.occurrences, last_told s.values) (either_not (is_as_written s.occurrences) (is_as_written s.values))
 
 pub values_written : (s : Scopes) → is_written s ≡ true → is_last (scope_at s.values) ≡ false
-values_written s e = last_told s.values ∙ ap not (and_both (eqb s.occurrences written_scope) (eqb s.values written_scope) e).1
+values_written s e = last_told s.values ∙ ap not (and_both (is_as_written s.occurrences) (is_as_written s.values) e).1

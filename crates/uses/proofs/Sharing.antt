@@ -17,6 +17,7 @@ use Rattle.tables.specs.Entries.{blank, is_group}
 use Rattle.tables.specs.Groups.{field_at}
 use Rattle.tables.proofs.EntryFields.{name_at}
 use Rattle.format_buffer.specs.Elements.{range}
+use Rattle.tables.proofs.Known.{one_entry}
 use Rattle.uses.specs.Meant.{fields_from, asked_of, use_meant, GoodSpan}
 use Rattle.uses.specs.Twice.{stored_fields, Alike}
 use Rattle.uses.specs.declared.Span.{Span}
@@ -179,3 +180,6 @@ pub one_right : (u : rules.Use) (x : rules.Item) → name_alike u (rules.one x) 
 unfolding name_alike
 one_right (rules.one y) x = refl
 one_right (rules.values gs os vs b) x = refl
+
+-- What a look for a shared entry keeps and finds.
+pub ruleset sharing_laws = (one_entry, shared, apart_start, apart_more)

@@ -2,7 +2,8 @@
 use mathlib.Core.Path.{◌≡◌, refl, ap}
 use mathlib.Core.Bool.{Bool, true, false, ◌&&◌, and-true}
 use mathlib.Core.Option.{Option, none, some}
-use Prim.Native.Nat.{ℕ, suc, ◌≤◌}
+use Prim.Native.Nat.{ℕ, suc, ◌+◌, ◌≤◌}
+use native.Mathlib.Numerals.{add-one}
 use borrow.Author.Tests.{leb-true}
 use lib.Dec.{leb}
 use Rattle.rules.specs.Outcome.{done, refused, by}
@@ -12,21 +13,6 @@ use Rattle.rules.specs.Use.{Spread, just, in_order, spread}
 use Rattle.rules.proofs.Steps.{from_need, done_inj, not_done}
 use Rattle.rules.proofs.Bools.{and_both}
 use Rattle.uses.specs.Spread.{ranged}
-
--- Two ranges are in order, or one of them is not.
-module _ (os vs : Range) (bare : Bool) where
-  pub both_ordered : in_order os ≡ true → in_order vs ≡ true
-      → done (record { occurrences = os; values = vs; bare = bare }) ≡ ranged os vs bare
-  unfolding ranged
-  both_ordered p q = rw (p, q)
-
-  pub values_broken : in_order os ≡ true → in_order vs ≡ false → refused (by 5) ≡ ranged os vs bare
-  unfolding ranged
-  values_broken p q = rw (p, q)
-
-  pub occurrences_broken : in_order os ≡ false → refused (by 5) ≡ ranged os vs bare
-  unfolding ranged
-  occurrences_broken p = rw p
 
 pub one_ordered : in_order (just 1) ≡ true
 unfolding in_order
@@ -66,9 +52,9 @@ module _ (last : ℕ) where
   bracketed false none vs = refl
   bracketed false (some os) vs = refl
 
-  pub next_value : ranged (just 1) (just (suc last)) true ≡ spread false true last none none
+  pub next_value : ranged (just 1) (just (last + 1)) true ≡ spread false true last none none
   unfolding ranged spread
-  next_value = rw one_ordered
+  next_value = rw (add-one, one_ordered)
 
   pub outside_values : (vs : Range) → ranged (just 1) vs false ≡ spread false true last (some vs) none
   unfolding ranged spread
@@ -103,3 +89,8 @@ value_one true last (some os) (some vs) s p = absurd (not_done p)
 value_one false last os (some vs) s p = absurd (not_done p)
 value_one false last none none s p = rw (← done_inj p) refl
 value_one false last (some os) none s p = absurd (not_done p)
+
+-- What lies in a periodic group, and outside.
+pub ruleset inside_laws = (no_occurrences, no_values, its_values, not_multiple)
+
+pub ruleset outside_laws = (bracketed, next_value, outside_values, plain_alone, plain_indexed)

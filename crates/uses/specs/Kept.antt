@@ -1,17 +1,18 @@
 -- The uses of a format's elements, kept one after the other as numbers.
-use Rattle.std.specs.Prelude.{◌≡◌, Bool, cond, List, [], ◌∷◌, ℕ, ◌+◌, ◌*◌, ◌/◌, ◌%◌, ◌≤◌, ◌<◌, eqb, length, get_or}
+use Rattle.std.specs.Prelude.{◌≡◌, Bool, cond, List, [], ◌∷◌, ℕ, ◌+◌, ◌*◌, ◌/◌, ◌%◌, ◌≤◌, ◌<◌, eqb, length, get_or, Err, Ok, Result}
+use Rattle.rules.specs.declared.Refusal.{Refusal}
 use Rattle.rules.specs.Outcome.{done, refused}
 use Rattle.rules.specs.Lists.{Bytes, run}
 use Rattle.rules.specs.Numbers.{refusal}
 use Rattle.rules.specs.Table.{Entry}
 use Rattle.rules.specs.Use as rules
+use Rattle.value_formats.specs.declared.Format.{Format}
+use Rattle.value_formats.specs.declared.Format.TheVariants.{Alpha, Binary, Fixed, Packed, Unpacked}
 use Rattle.uses.specs.Spread.{index_bound}
 use Rattle.uses.specs.Meant.{use_meant, uses_of, GoodUse}
 use Rattle.uses.specs.declared.Span.{Span}
 use Rattle.uses.specs.declared.Use.{Use}
 use Rattle.uses.specs.declared.Use.TheVariants as code
-use Rattle.uses.specs.declared.kept.Decoded.{Decoded}
-use Rattle.uses.specs.declared.kept.Decoded.TheVariants.{Uses, Refused}
 
 -- How many numbers are kept of a use: what it is, and what it says.
 abbrev pub numbers_kept : ℕ
@@ -61,6 +62,18 @@ size_weight = 128
 abbrev pub formats_kept : ℕ
 formats_kept = 8
 
+-- A format as a number, and back.
+abbrev pub format_number : Format → ℕ
+format_number Alpha = 0
+format_number Binary = 1
+format_number Fixed = 2
+format_number Packed = 3
+format_number Unpacked = 4
+
+unfoldable pub format_kept : ℕ → Format
+format_kept n =
+    cond (eqb n 0) Alpha (cond (eqb n 1) Binary (cond (eqb n 2) Fixed (cond (eqb n 3) Packed Unpacked)))
+
 -- The kind of the use whose numbers are kept at a place.
 abbrev pub kind_at : List ℕ → ℕ → ℕ
 kind_at kept at = get_or kept at 0 % bare_weight
@@ -75,7 +88,7 @@ span_at kept at = record {
   value_from = get_or kept (at + 3) 0 / pair_base;
   value_upto = get_or kept (at + 3) 0 % pair_base;
   standard = eqb (kind_at kept at) stored_kept;
-  format = get_or kept at 0 / format_weight % formats_kept;
+  format = format_kept (get_or kept at 0 / format_weight % formats_kept);
   size = get_or kept at 0 / size_weight;
   bare = eqb (get_or kept at 0 / bare_weight % 2) 1;
 }
@@ -102,7 +115,7 @@ flag b = cond b 1 0
 
 -- What a span is, in one number.
 abbrev pub span_what : Span → ℕ
-span_what s = span_kind s.standard + bare_weight * flag s.bare + format_weight * s.format + size_weight * s.size
+span_what s = span_kind s.standard + bare_weight * flag s.bare + format_weight * format_number s.format + size_weight * s.size
 
 abbrev pub span_numbers : Span → List ℕ
 span_numbers s = span_what s ∷ pair s.first s.end ∷ pair s.from s.upto ∷ pair s.value_from s.value_upto ∷ []
@@ -117,7 +130,7 @@ numbers (code.Values s) = span_numbers s
 abbrev pub SmallSpan : Span → Type 0
 SmallSpan s =
     (s.first < pair_base) × (s.end < pair_base) × (s.from < pair_base) × (s.upto < pair_base) × (s.value_from < pair_base)
-    × (s.value_upto < pair_base) × (s.format < formats_kept) × (s.size < pair_base)
+    × (s.value_upto < pair_base) × (s.size < pair_base)
 
 abbrev pub small : Use → Type 0
 small (code.Blanks n) = n < index_bound
@@ -134,6 +147,6 @@ abbrev pub GoodUses : List Entry → Bytes → List ℕ → ℕ → Type 0
 GoodUses es f kept n = (i : ℕ) → i < n → GoodUse es f (use_at kept i)
 
 -- The uses of a format were decoded, or it is refused.
-abbrev pub Decodes : List Entry → Bytes → List ℕ → Decoded → Type 0
-Decodes es f kept (Uses n) = (uses_of es f ≡ done (uses_kept es f kept n)) × GoodUses es f kept n × (numbers_kept * n ≤ length kept)
-Decodes es f kept (Refused x) = uses_of es f ≡ refused (refusal x)
+abbrev pub Decodes : List Entry → Bytes → List ℕ → Result ℕ Refusal → Type 0
+Decodes es f kept (Ok n) = (uses_of es f ≡ done (uses_kept es f kept n)) × GoodUses es f kept n × (numbers_kept * n ≤ length kept)
+Decodes es f kept (Err x) = uses_of es f ≡ refused (refusal x)

@@ -1,25 +1,39 @@
--- How far the indexes of an element reach, by the code's numbers.
-use Rattle.std.specs.Prelude.{Bool, true, false, cond, ◌&&◌, ℕ, eqb}
-use Rattle.rules.specs.Last.{Scope, as_written, last_alone, up_to_last}
-use Rattle.format_buffer.specs.Elements.{written_scope, last_scope}
+-- How far the indexes of an element reach, in the words of `rules`.
+use Rattle.std.specs.Prelude.{Bool, true, false, ◌&&◌, None, Option, Some}
+use Rattle.rules.specs.Last as rules
+use Rattle.format_buffer.specs.declared.Scope.{Scope}
+use Rattle.format_buffer.specs.declared.Scope.TheVariants.{AsWritten, LastAlone, UpToLast}
+use Rattle.format_buffer.specs.declared.Indexing.{Indexing}
 use Rattle.format_buffer.specs.declared.Named.{Named}
 use Rattle.format_buffer.specs.declared.Count.{Count}
 use Rattle.uses.specs.declared.scopes.Scopes.{Scopes}
 
-unfoldable pub scope_at : ℕ → Scope
-scope_at s = cond (eqb s written_scope) as_written (cond (eqb s last_scope) last_alone up_to_last)
+abbrev pub scope_at : Scope → rules.Scope
+scope_at AsWritten = rules.as_written
+scope_at LastAlone = rules.last_alone
+scope_at UpToLast = rules.up_to_last
 
 -- No N.
 abbrev pub both_written : Scopes
-both_written = record { occurrences = written_scope; values = written_scope }
+both_written = record { occurrences = AsWritten; values = AsWritten }
+
+abbrev pub as_written : Scope → Bool
+as_written AsWritten = true
+as_written LastAlone = false
+as_written UpToLast = false
 
 abbrev pub is_written : Scopes → Bool
-is_written s = eqb s.occurrences written_scope && eqb s.values written_scope
+is_written s = as_written s.occurrences && as_written s.values
+
+-- How far indexes reach, where there are any.
+abbrev pub scope_given : Option Indexing → Scope
+scope_given (Some x) = x.scope
+scope_given None = AsWritten
 
 -- The scopes of a count; of a name, by whether its entry is a periodic group or in one.
 abbrev pub scopes_of_count : Count → Scopes
-scopes_of_count c = record { occurrences = c.scope; values = written_scope }
+scopes_of_count c = record { occurrences = scope_given c.index; values = AsWritten }
 
 abbrev pub scopes_of_name : Bool → Named → Scopes
-scopes_of_name true n = record { occurrences = n.scope; values = n.value_scope }
-scopes_of_name false n = record { occurrences = written_scope; values = n.scope }
+scopes_of_name true n = record { occurrences = scope_given n.occurrences; values = scope_given n.values }
+scopes_of_name false n = record { occurrences = AsWritten; values = scope_given n.occurrences }

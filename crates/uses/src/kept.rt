@@ -7,13 +7,13 @@ ghost use Rattle.tables.specs.Entries.{Valid, entries_of};
 ghost use Rattle.format_buffer.specs.Elements.{sound};
 ghost use Rattle.uses.specs.Spread.{index_bound};
 ghost use Rattle.uses.specs.Meanings.{indexes_kept};
-ghost use Rattle.uses.specs.Kept.{numbers_kept, element_bytes, pair_base, pair, bare_weight, span_at, use_at, span_kind, flag, span_what, span_numbers, numbers, SmallSpan, small, Decodes};
+ghost use Rattle.uses.specs.Kept.{numbers_kept, element_bytes, pair_base, pair, bare_weight, format_kept, span_at, use_at, span_kind, span_what, span_numbers, numbers, SmallSpan, small, Decodes};
 ghost use Rattle.uses.specs.Decoding.{uses_so_far, KeepsElement};
 
-use crate::{INDEXES, Index, Meant, Span, Use, index, meaning, memory, scopes};
+use crate::{INDEXES, Index, Span, Use, meaning, memory, scopes};
 use format_buffer::Element;
-use format_buffer::syntax::Step;
 use rules::Refusal;
+use value_formats::Format;
 
 // How many numbers are kept of a use: what it is, and what it says.
 pub const NUMBERS: usize = 4;
@@ -45,13 +45,6 @@ const FORMATS: Index = 8;
 // numbers after its kind, as they are.
 const PAIR: usize = 256;
 
-// The uses of a format, by how many they are; or why it is refused.
-#[derive(Clone, Copy)]
-pub enum Decoded {
-    Uses(usize),
-    Refused(Refusal),
-}
-
 // A use of a kind with two numbers.
 fn put_numbers(kept: &mut [Index], at: usize, kind: Index, a: usize, b: usize)
     requires { (at + numbers_kept ≤ length kept.old) × (a < index_bound) × (b < index_bound) }
@@ -68,19 +61,13 @@ fn span_kind(standard: bool) -> Index
     if standard { STORED } else { IN_EFFECT }
 }
 
-fn flag(b: bool) -> Index
-    ensures { (result ≡ flag b) × (result < 2) }
-{
-    if b { 1 } else { 0 }
-}
-
 // What a span is, in one number.
 fn span_what(s: Span) -> Index
     requires { SmallSpan s }
     ensures { result ≡ span_what s }
 {
     span_kind(s.standard)
-        + BARE * flag(s.bare)
+        + BARE * Index::from(s.bare)
         + FORMAT * (s.format as Index)
         + SIZE * (s.size as Index)
 }
@@ -128,15 +115,29 @@ fn put(kept: &mut [Index], n: usize, u: Use)
     }
 }
 
+// The format that is kept as a number.
+#[tactic(auto, unfolding(crate::specs::Kept::format_kept))]
+fn format_kept(n: Index) -> Format
+    ensures { result ≡ format_kept n }
+{
+    match n {
+        0 => Format::Alpha,
+        1 => Format::Binary,
+        2 => Format::Fixed,
+        3 => Format::Packed,
+        _ => Format::Unpacked,
+    }
+}
+
 // The span whose numbers are kept at a place.
 pub fn span_at(kept: &[Index], at: usize) -> Span
     requires { at + numbers_kept ≤ length kept.now }
     ensures { result ≡ span_at kept.now at }
 {
     let what = kept[at];
-    let entries = index(kept[at + 1]);
-    let occurrences = index(kept[at + 2]);
-    let values = index(kept[at + 3]);
+    let entries = usize::from(kept[at + 1]);
+    let occurrences = usize::from(kept[at + 2]);
+    let values = usize::from(kept[at + 3]);
     Span {
         first: entries / PAIR,
         end: entries % PAIR,
@@ -145,32 +146,26 @@ pub fn span_at(kept: &[Index], at: usize) -> Span
         value_from: values / PAIR,
         value_upto: values % PAIR,
         standard: what % BARE == STORED,
-        format: index(what / FORMAT % FORMATS),
-        size: index(what / SIZE),
+        format: format_kept(what / FORMAT % FORMATS),
+        size: usize::from(what / SIZE),
         bare: what / BARE % 2 == 1,
     }
 }
 
 // The use with the number n.
+#[tactic(auto, unfolding(crate::specs::Kept::use_at, crate::specs::Kept::use_of_kind))]
 pub fn get(kept: &[Index], n: usize) -> Use
     requires { numbers_kept * n + numbers_kept ≤ length kept.now }
     ensures { result ≡ use_at kept.now n }
 {
     let at = NUMBERS * n;
-    let kind = kept[at] % BARE;
-    if kind == BLANKS {
-        return Use::Blanks(index(kept[at + 1]));
+    match kept[at] % BARE {
+        BLANKS => Use::Blanks(usize::from(kept[at + 1])),
+        TEXT => Use::Text(usize::from(kept[at + 1]), usize::from(kept[at + 2])),
+        GROUP_COUNT => Use::GroupCount(usize::from(kept[at + 1])),
+        VALUE_COUNT => Use::ValueCount(usize::from(kept[at + 1]), usize::from(kept[at + 2])),
+        _ => Use::Values(span_at(kept, at)),
     }
-    if kind == TEXT {
-        return Use::Text(index(kept[at + 1]), index(kept[at + 2]));
-    }
-    if kind == GROUP_COUNT {
-        return Use::GroupCount(index(kept[at + 1]));
-    }
-    if kind == VALUE_COUNT {
-        return Use::ValueCount(index(kept[at + 1]), index(kept[at + 2]));
-    }
-    Use::Values(span_at(kept, at))
 }
 
 // One element more: its use is kept, or it is refused, as N is in an update. After an element that is refused the uses of the others do
@@ -180,54 +175,39 @@ fn keep_element(
     e: Element,
     last: &mut [Index; INDEXES],
     kept: &mut [Index],
-    d: Decoded,
-) -> Decoded
+    d: Result<usize, Refusal>,
+) -> Result<usize, Refusal>
     requires { Valid t.now × (length last.old ≡ indexes_kept) × (numbers_kept * uses_so_far d + numbers_kept ≤ length kept.old) × ((f : Bytes) × sound f e × (length f ≤ longest_format)) }
     ensures { KeepsElement (entries_of t.now) e last.old last.new kept.old kept.new d result }
 {
-    match d {
-        Decoded::Refused(x) => Decoded::Refused(x),
-        Decoded::Uses(n) => {
-            let m = meaning::use_of(t, last, e);
-            let meant = m.meant;
-            match meant {
-                Meant::Refused(x) => Decoded::Refused(x),
-                Meant::As(u) => {
-                    if scopes::is_written(m.scopes) {
-                        memory::remember(t, last, u, m.scopes.values);
-                        put(kept, n, u);
-                        return Decoded::Uses(n + 1);
-                    }
-                    Decoded::Refused(Refusal::UseRule)
-                }
-            }
-        }
+    let n = d?;
+    let m = meaning::use_of(t, last, e);
+    let u = m.meant?;
+    if !scopes::is_written(m.scopes) {
+        return Err(Refusal::UseRule);
     }
+    memory::remember(t, last, u, m.scopes.values);
+    put(kept, n, u);
+    Ok(n + 1)
 }
 
 // The uses of a format, or the first refusal, of the whole format's syntax, then of its elements.
-pub fn decode(t: &[u8], f: &[u8], kept: &mut [Index]) -> Decoded
+pub fn decode(t: &[u8], f: &[u8], kept: &mut [Index]) -> Result<usize, Refusal>
     requires { Valid t.now × (numbers_kept * length f.now ≤ element_bytes * length kept.old) }
     ensures { Decodes (entries_of t.now) f.now kept.new result × (length kept.new ≡ length kept.old) }
 {
     if rules::LONGEST_FORMAT < f.len() {
-        return Decoded::Refused(Refusal::BadSyntax);
+        return Err(Refusal::BadSyntax);
     }
     let mut last: [Index; INDEXES] = [0; INDEXES];
-    let mut d = Decoded::Uses(0);
+    let mut d = Ok(0);
     let mut at = 0;
     loop {
-        match format_buffer::syntax::next(f, at) {
-            Step::Bad => {
-                return Decoded::Refused(Refusal::BadSyntax);
-            }
-            Step::At(e, stop) => {
-                d = keep_element(t, e, &mut last, kept, d);
-                if format_buffer::syntax::is_last(f, stop) {
-                    return d;
-                }
-                at = stop + 1;
-            }
+        let (e, stop) = format_buffer::syntax::next(f, at).ok_or(Refusal::BadSyntax)?;
+        d = keep_element(t, e, &mut last, kept, d);
+        if format_buffer::syntax::is_last(f, stop) {
+            return d;
         }
+        at = stop + 1;
     }
 }

@@ -11,12 +11,9 @@ pub mod scopes;
 mod spread;
 pub mod twice;
 
-ghost use Rattle.std.specs.Prelude.{◌≡◌, ◌<◌};
-ghost use Rattle.uses.specs.Spread.{index_bound};
-
 pub use meaning::use_of;
 pub use memory::remember;
-use rules::Refusal;
+use value_formats::Format;
 
 // What is kept of indexes and of entry numbers along a format.
 pub type Index = u16;
@@ -41,7 +38,7 @@ pub struct Span {
     pub value_from: usize,
     pub value_upto: usize,
     pub standard: bool,
-    pub format: usize,
+    pub format: Format,
     pub size: usize,
     pub bare: bool,
 }
@@ -55,28 +52,4 @@ pub enum Use {
     GroupCount(usize),
     ValueCount(usize, usize),
     Values(Span),
-}
-
-#[derive(Clone, Copy)]
-pub enum Meant {
-    As(Use),
-    Refused(Refusal),
-}
-
-fn wide(n: u16) -> usize
-    ensures { result ≡ n }
-{
-    n as usize
-}
-
-fn byte(n: u8) -> usize
-    ensures { (result ≡ n) × (result < 256) }
-{
-    n as usize
-}
-
-fn index(n: Index) -> usize
-    ensures { (result ≡ n) × (result < index_bound) }
-{
-    n as usize
 }

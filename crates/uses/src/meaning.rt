@@ -7,15 +7,12 @@ ghost use Rattle.uses.specs.Spread.{index_bound};
 ghost use Rattle.uses.specs.Meant.{Settles, SettlesEntry, field_use, group_use, entry_use, count_use, series_use, count_named, series_named, stored_span, field_span};
 ghost use Rattle.uses.specs.Meanings.{unscoped, name_in_full, Means, NameMeans};
 
-use crate::effect::Effect;
 use crate::scopes::Meaning;
-use crate::spread::{Ranges, Spreads};
-use crate::{
-    AFTER_N, INDEXES, Index, Meant, NEAR, Span, Use, byte, effect, index, scopes, spread, wide,
-};
-use format_buffer::{Count, Element, Indexing, LAST_ALONE, Named};
+use crate::spread::Ranges;
+use crate::{AFTER_N, INDEXES, Index, NEAR, Span, Use, effect, scopes, spread};
+use format_buffer::{Count, Element, Indexing, Named};
 use rules::Refusal;
-use tables::Found;
+use value_formats::Format;
 
 // Fields at their own formats and lengths.
 fn stored(first: usize, end: usize, r: Ranges) -> Span
@@ -29,14 +26,14 @@ fn stored(first: usize, end: usize, r: Ranges) -> Span
         value_from: r.value_from,
         value_upto: r.value_upto,
         standard: true,
-        format: 0,
+        format: Format::Alpha,
         size: 0,
         bare: r.bare,
     }
 }
 
 // One field at the format and the length in effect.
-fn one_field(i: usize, r: Ranges, format: usize, size: usize) -> Span
+fn one_field(i: usize, r: Ranges, format: Format, size: usize) -> Span
     requires { i < most_entries }
     ensures { result ≡ field_span i r format size }
 {
@@ -55,112 +52,83 @@ fn one_field(i: usize, r: Ranges, format: usize, size: usize) -> Span
 }
 
 // The field of entry i, after its last index so far.
-fn use_of_field(t: &[u8], i: usize, last: usize, n: Named) -> Meant
+#[tactic(auto, using(crate::proofs::Settling::field_laws))]
+fn use_of_field(t: &[u8], i: usize, last: usize, n: Named) -> Result<Use, Refusal>
     requires { Valid t.now × (i < length (entries_of t.now)) × (is_group (what_at (entries_of t.now) i) ≡ false) × (last < index_bound) }
     ensures { SettlesEntry (entries_of t.now) i (field_use (entries_of t.now) i last n) result }
 {
-    let s = spread::spread(tables::inside(t, i), tables::multiple_at(t, i), last, n);
-    let a = effect::asked(tables::format_at(t, i), tables::size_at(t, i), n);
-    match s {
-        Spreads::Over(ranges) => match a {
-            Effect::At(format, size) => Meant::As(Use::Values(one_field(i, ranges, format, size))),
-            Effect::Broken => Meant::Refused(Refusal::UseRule),
-        },
-        Spreads::Broken => Meant::Refused(Refusal::UseRule),
-    }
+    let spread = spread::spread(tables::inside(t, i), tables::multiple_at(t, i), last, n);
+    let ranges = spread.ok_or(Refusal::UseRule)?;
+    let asked = effect::asked(tables::field_format(t, i), tables::size_at(t, i), n);
+    let (format, size) = asked.ok_or(Refusal::UseRule)?;
+    Ok(Use::Values(one_field(i, ranges, format, size)))
 }
 
 // The fields of group i: it takes no length and no format.
-fn use_of_group(t: &[u8], i: usize, n: Named) -> Meant
+#[tactic(auto, using(crate::proofs::Settling::group_laws))]
+fn use_of_group(t: &[u8], i: usize, n: Named) -> Result<Use, Refusal>
     requires { Valid t.now × (i < length (entries_of t.now)) × (is_group (what_at (entries_of t.now) i) ≡ true) }
     ensures { SettlesEntry (entries_of t.now) i (group_use (entries_of t.now) i n) result }
 {
-    if n.sized {
-        return Meant::Refused(Refusal::UseRule);
+    if n.length.is_some() || n.letter.is_some() || !tables::plain_group(t, i) {
+        return Err(Refusal::UseRule);
     }
-    if n.lettered {
-        return Meant::Refused(Refusal::UseRule);
-    }
-    if tables::plain_group(t, i) {
-        let s = spread::spread(tables::inside(t, i), false, 0, n);
-        return match s {
-            Spreads::Over(ranges) => Meant::As(Use::Values(stored(
-                i + 1,
-                tables::group_end(t, i),
-                ranges,
-            ))),
-            Spreads::Broken => Meant::Refused(Refusal::UseRule),
-        };
-    }
-    Meant::Refused(Refusal::UseRule)
+    let ranges = spread::spread(tables::inside(t, i), false, 0, n).ok_or(Refusal::UseRule)?;
+    Ok(Use::Values(stored(i + 1, tables::group_end(t, i), ranges)))
 }
 
 // The count of the MU field of entry i.
-fn use_of_value_count(t: &[u8], i: usize, c: Count) -> Meant
+#[tactic(auto, using(crate::proofs::Settling::value_count_laws))]
+fn use_of_value_count(t: &[u8], i: usize, c: Count) -> Result<Use, Refusal>
     requires { Valid t.now × (i < length (entries_of t.now)) × (is_multiple (what_at (entries_of t.now) i) ≡ true) }
     ensures { Settles (entries_of t.now) (count_use (entries_of t.now) i c) result }
 {
-    if tables::inside(t, i) {
-        if c.indexed {
-            let k = wide(c.index);
-            if spread::in_order(k, k) {
-                return Meant::As(Use::ValueCount(i, k));
+    match c.index {
+        Some(x) => {
+            let k = usize::from(x.from);
+            if !tables::inside(t, i) || !spread::in_order(k, k) {
+                return Err(Refusal::UseRule);
             }
+            Ok(Use::ValueCount(i, k))
         }
-        return Meant::Refused(Refusal::UseRule);
+        None => {
+            if tables::inside(t, i) {
+                return Err(Refusal::UseRule);
+            }
+            Ok(Use::ValueCount(i, 1))
+        }
     }
-    if c.indexed {
-        return Meant::Refused(Refusal::UseRule);
-    }
-    Meant::As(Use::ValueCount(i, 1))
 }
 
 // The count of entry i.
-fn use_of_count(t: &[u8], i: usize, c: Count) -> Meant
+#[tactic(auto, using(crate::proofs::Settling::count_laws))]
+fn use_of_count(t: &[u8], i: usize, c: Count) -> Result<Use, Refusal>
     requires { Valid t.now × (i < length (entries_of t.now)) }
     ensures { Settles (entries_of t.now) (count_use (entries_of t.now) i c) result }
 {
     if tables::multiple_at(t, i) {
         return use_of_value_count(t, i, c);
     }
-    if tables::periodic_at(t, i) {
-        if c.indexed {
-            return Meant::Refused(Refusal::UseRule);
-        }
-        return Meant::As(Use::GroupCount(i));
+    if tables::periodic_at(t, i) && c.index.is_none() {
+        return Ok(Use::GroupCount(i));
     }
-    Meant::Refused(Refusal::UseRule)
+    Err(Refusal::UseRule)
 }
 
 // The series from entry i to entry j.
-fn use_of_series(t: &[u8], i: usize, j: usize) -> Meant
+#[tactic(auto, using(crate::proofs::Settling::series_laws))]
+fn use_of_series(t: &[u8], i: usize, j: usize) -> Result<Use, Refusal>
     requires { Valid t.now × (i < length (entries_of t.now)) × (j < length (entries_of t.now)) }
     ensures { Settles (entries_of t.now) (series_use (entries_of t.now) i j) result }
 {
-    if tables::group_at(t, i) {
-        return Meant::Refused(Refusal::UseRule);
+    if tables::group_at(t, i) || tables::inside(t, i) || !tables::series(t, i, j) {
+        return Err(Refusal::UseRule);
     }
-    if tables::inside(t, i) {
-        return Meant::Refused(Refusal::UseRule);
-    }
-    if tables::series(t, i, j) {
-        return Meant::As(Use::Values(stored(
-            i,
-            j + 1,
-            Ranges {
-                from: 1,
-                upto: 1,
-                value_from: 1,
-                value_upto: 1,
-                bare: false,
-            },
-        )));
-    }
-    Meant::Refused(Refusal::UseRule)
+    Ok(Use::Values(stored(i, j + 1, Ranges::ONE)))
 }
 
 // The group or the field of entry i, after its last index so far.
-fn use_of_entry(t: &[u8], i: usize, last: usize, n: Named) -> Meant
+fn use_of_entry(t: &[u8], i: usize, last: usize, n: Named) -> Result<Use, Refusal>
     requires { Valid t.now × (i < length (entries_of t.now)) × (last < index_bound) }
     ensures { SettlesEntry (entries_of t.now) i (entry_use (entries_of t.now) i last n) result }
 {
@@ -175,24 +143,14 @@ fn in_full(t: &[u8], i: usize, last: usize, n: Named) -> Named
     requires { Valid t.now × (i < length (entries_of t.now)) }
     ensures { result ≡ name_in_full (inside_at (entries_of t.now) i) last n }
 {
-    if last == index(AFTER_N) {
-        if n.indexed {
-            return n;
-        }
-        if tables::inside(t, i) {
-            return n;
-        }
-        return n.with_occurrences(Indexing {
-            from: 1,
-            upto: 1,
-            scope: LAST_ALONE,
-        });
+    if last == usize::from(AFTER_N) && n.occurrences.is_none() && !tables::inside(t, i) {
+        return n.with_occurrences(Indexing::LAST);
     }
     n
 }
 
 // What has no N.
-fn unscoped(meant: Meant) -> Meaning
+fn unscoped(meant: Result<Use, Refusal>) -> Meaning
     ensures { result ≡ unscoped meant }
 {
     Meaning {
@@ -203,58 +161,53 @@ fn unscoped(meant: Meant) -> Meaning
 
 // A name, after the last index so far of each entry. A format mostly names fields in table order, so the entry after the one that was
 // named last is tried first.
+#[tactic(auto, using(crate::proofs::Elements::name_laws))]
 fn use_of_name(t: &[u8], last: &[Index; INDEXES], n: Named) -> Meaning
     requires { Valid t.now }
     ensures { NameMeans (entries_of t.now) last.now n result }
 {
-    let found = tables::find_near(t, index(last[NEAR]), n.name);
+    let found = tables::find_near(t, usize::from(last[NEAR]), n.name);
     match found {
-        Found::At(i) => {
-            let kept = index(last[i]);
+        Some(i) => {
+            let kept = usize::from(last[i]);
             let full = in_full(t, i, kept, n);
             Meaning {
                 meant: use_of_entry(t, i, kept, full),
                 scopes: scopes::of_name(t, i, full),
             }
         }
-        Found::Nothing => unscoped(Meant::Refused(Refusal::UnknownName)),
+        None => unscoped(Err(Refusal::UnknownName)),
     }
 }
 
-fn use_of_counted(t: &[u8], c: Count) -> Meant
+#[tactic(auto, using(crate::proofs::Finding::count_laws))]
+fn use_of_counted(t: &[u8], c: Count) -> Result<Use, Refusal>
     requires { Valid t.now }
     ensures { Settles (entries_of t.now) (count_named (entries_of t.now) c) result }
 {
-    let found = tables::find(t, c.name);
-    match found {
-        Found::At(i) => use_of_count(t, i, c),
-        Found::Nothing => Meant::Refused(Refusal::UnknownName),
-    }
+    let i = tables::find(t, c.name).ok_or(Refusal::UnknownName)?;
+    use_of_count(t, i, c)
 }
 
-fn use_of_names(t: &[u8], from: u16, upto: u16) -> Meant
+#[tactic(auto, using(crate::proofs::Finding::series_laws))]
+fn use_of_names(t: &[u8], from: u16, upto: u16) -> Result<Use, Refusal>
     requires { Valid t.now }
     ensures { Settles (entries_of t.now) (series_named (entries_of t.now) from upto) result }
 {
-    let first = tables::find(t, from);
-    let last = tables::find(t, upto);
-    match first {
-        Found::At(i) => match last {
-            Found::At(j) => use_of_series(t, i, j),
-            Found::Nothing => Meant::Refused(Refusal::UnknownName),
-        },
-        Found::Nothing => Meant::Refused(Refusal::UnknownName),
-    }
+    let i = tables::find(t, from).ok_or(Refusal::UnknownName)?;
+    let j = tables::find(t, upto).ok_or(Refusal::UnknownName)?;
+    use_of_series(t, i, j)
 }
 
 // What an element of a read means.
+#[tactic(auto, using(crate::proofs::Elements::element_laws))]
 pub fn use_of(t: &[u8], last: &[Index; INDEXES], e: Element) -> Meaning
     requires { Valid t.now }
     ensures { Means (entries_of t.now) last.now e result }
 {
     match e {
-        Element::Blanks(n) => unscoped(Meant::As(Use::Blanks(byte(n)))),
-        Element::Text(from, upto) => unscoped(Meant::As(Use::Text(from, upto))),
+        Element::Blanks(n) => unscoped(Ok(Use::Blanks(usize::from(n)))),
+        Element::Text(from, upto) => unscoped(Ok(Use::Text(from, upto))),
         Element::Named(n) => use_of_name(t, last, n),
         Element::Count(c) => Meaning {
             meant: use_of_counted(t, c),

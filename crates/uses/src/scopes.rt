@@ -4,22 +4,23 @@ ghost use Rattle.format_buffer.specs.Elements.{range};
 ghost use Rattle.rules.specs.Last.{resolved};
 ghost use Rattle.tables.specs.Entries.{Valid, entries_of};
 ghost use Rattle.tables.specs.Places.{inside_at};
-ghost use Rattle.uses.specs.Scopes.{scope_at, is_written, both_written, scopes_of_count, scopes_of_name};
+ghost use Rattle.uses.specs.Scopes.{scope_at, is_written, both_written, scope_given, scopes_of_count, scopes_of_name};
 
-use crate::{Meant, ranges};
-use format_buffer::{AS_WRITTEN, Count, LAST_ALONE, Named};
+use crate::Use;
+use format_buffer::{Count, Indexing, Named, Scope};
+use rules::Refusal;
 
 // The scope of the occurrences that an element names, and that of the values.
-#[derive(Clone, Copy)]
+#[derive(Clone, Copy, Debug, PartialEq, Eq)]
 pub struct Scopes {
-    pub occurrences: u8,
-    pub values: u8,
+    pub occurrences: Scope,
+    pub values: Scope,
 }
 
 // What an element of a read means, with how far its indexes reach.
 #[derive(Clone, Copy)]
 pub struct Meaning {
-    pub meant: Meant,
+    pub meant: Result<Use, Refusal>,
     pub scopes: Scopes,
 }
 
@@ -27,8 +28,8 @@ pub fn both_written() -> Scopes
     ensures { result ≡ both_written }
 {
     Scopes {
-        occurrences: AS_WRITTEN,
-        values: AS_WRITTEN,
+        occurrences: Scope::AsWritten,
+        values: Scope::AsWritten,
     }
 }
 
@@ -36,10 +37,17 @@ pub fn both_written() -> Scopes
 pub fn is_written(s: Scopes) -> bool
     ensures { result ≡ is_written s }
 {
-    if s.occurrences == AS_WRITTEN {
-        return s.values == AS_WRITTEN;
+    s.occurrences == Scope::AsWritten && s.values == Scope::AsWritten
+}
+
+// How far indexes reach, where there are any.
+fn scope_given(indexes: Option<Indexing>) -> Scope
+    ensures { result ≡ scope_given indexes }
+{
+    match indexes {
+        Some(x) => x.scope,
+        None => Scope::AsWritten,
     }
-    false
 }
 
 // The scopes of a count.
@@ -47,8 +55,8 @@ pub fn of_count(c: Count) -> Scopes
     ensures { result ≡ scopes_of_count c }
 {
     Scopes {
-        occurrences: c.scope,
-        values: AS_WRITTEN,
+        occurrences: scope_given(c.index),
+        values: Scope::AsWritten,
     }
 }
 
@@ -57,44 +65,40 @@ pub fn of_name(t: &[u8], i: usize, n: Named) -> Scopes
     requires { Valid t.now × (i < length (entries_of t.now)) }
     ensures { result ≡ scopes_of_name (inside_at (entries_of t.now) i) n }
 {
-    if n.scope == AS_WRITTEN {
-        if n.value_scope == AS_WRITTEN {
-            return both_written();
-        }
+    let first = scope_given(n.occurrences);
+    let second = scope_given(n.values);
+    if first == Scope::AsWritten && second == Scope::AsWritten {
+        return both_written();
     }
     if tables::inside(t, i) {
         return Scopes {
-            occurrences: n.scope,
-            values: n.value_scope,
+            occurrences: first,
+            values: second,
         };
     }
     Scopes {
-        occurrences: AS_WRITTEN,
-        values: n.scope,
+        occurrences: Scope::AsWritten,
+        values: first,
     }
 }
 
 // The first of the indexes that are meant, and the last, where `stored` are stored.
-pub fn resolved_from(scope: u8, from: usize, upto: usize, stored: usize) -> usize
+pub fn resolved_from(scope: Scope, from: usize, upto: usize, stored: usize) -> usize
     ensures { result ≡ (resolved (scope_at scope) (range from upto) stored).from }
 {
-    if scope == AS_WRITTEN {
-        return from;
+    match scope {
+        Scope::AsWritten => from,
+        Scope::LastAlone => stored.max(1),
+        Scope::UpToLast => 1,
     }
-    if scope == LAST_ALONE {
-        return ranges::larger(1, stored);
-    }
-    1
 }
 
-pub fn resolved_upto(scope: u8, from: usize, upto: usize, stored: usize) -> usize
+pub fn resolved_upto(scope: Scope, from: usize, upto: usize, stored: usize) -> usize
     ensures { result ≡ (resolved (scope_at scope) (range from upto) stored).upto }
 {
-    if scope == AS_WRITTEN {
-        return upto;
+    match scope {
+        Scope::AsWritten => upto,
+        Scope::LastAlone => stored.max(1),
+        Scope::UpToLast => stored,
     }
-    if scope == LAST_ALONE {
-        return ranges::larger(1, stored);
-    }
-    stored
 }

@@ -4,7 +4,6 @@ ghost use Rattle.rules.specs.Use.{in_order, spread};
 ghost use Rattle.format_buffer.specs.Elements.{range};
 ghost use Rattle.uses.specs.Spread.{index_bound, occurrences, bracket, spread_of, ranged, SpreadInside};
 
-use crate::wide;
 use format_buffer::Named;
 
 // The occurrences and the values that an element means, and whether the bare name of an MU field means them.
@@ -17,10 +16,15 @@ pub struct Ranges {
     pub bare: bool,
 }
 
-#[derive(Clone, Copy)]
-pub enum Spreads {
-    Over(Ranges),
-    Broken,
+impl Ranges {
+    // Occurrence 1 and value 1.
+    pub const ONE: Ranges = Ranges {
+        from: 1,
+        upto: 1,
+        value_from: 1,
+        value_upto: 1,
+        bare: false,
+    };
 }
 
 // Whether indexes lie in their bounds, and the range does not descend.
@@ -28,78 +32,77 @@ pub enum Spreads {
 pub fn in_order(from: usize, upto: usize) -> bool
     ensures { result ≡ in_order (range from upto) }
 {
-    if from < 1 {
-        return false;
-    }
-    if upto < from {
-        return false;
-    }
-    upto <= rules::HIGHEST_INDEX
+    1 <= from && from <= upto && upto <= rules::HIGHEST_INDEX
 }
 
 // Occurrences and values, where both ranges are in order.
-fn ranged(from: usize, upto: usize, low: usize, high: usize, bare: bool) -> Spreads
+#[tactic(auto, unfolding(crate::specs::Spread::ranged))]
+fn ranged(from: usize, upto: usize, low: usize, high: usize, bare: bool) -> Option<Ranges>
     ensures { spread_of result ≡ ranged (range from upto) (range low high) bare }
 {
-    if in_order(from, upto) {
-        if in_order(low, high) {
-            return Spreads::Over(Ranges {
-                from,
-                upto,
-                value_from: low,
-                value_upto: high,
-                bare,
-            });
-        }
+    if in_order(from, upto) && in_order(low, high) {
+        return Some(Ranges {
+            from,
+            upto,
+            value_from: low,
+            value_upto: high,
+            bare,
+        });
     }
-    Spreads::Broken
+    None
 }
 
 // A periodic group, or what lies in one.
-fn spread_inside(multiple: bool, n: Named) -> Spreads
+#[tactic(auto, using(crate::proofs::Spreading::inside_laws))]
+fn spread_inside(multiple: bool, n: Named) -> Option<Ranges>
     ensures { SpreadInside multiple n result }
 {
-    if n.indexed {
-        if n.bracketed {
-            if multiple {
-                return ranged(
-                    wide(n.from),
-                    wide(n.upto),
-                    wide(n.first),
-                    wide(n.last),
-                    false,
-                );
+    let o = n.occurrences?;
+    match n.values {
+        None => ranged(usize::from(o.from), usize::from(o.upto), 1, 1, false),
+        Some(v) => {
+            if !multiple {
+                return None;
             }
-            return Spreads::Broken;
+            ranged(
+                usize::from(o.from),
+                usize::from(o.upto),
+                usize::from(v.from),
+                usize::from(v.upto),
+                false,
+            )
         }
-        return ranged(wide(n.from), wide(n.upto), 1, 1, false);
     }
-    Spreads::Broken
 }
 
 // What lies outside periodic groups.
-fn spread_outside(multiple: bool, last: usize, n: Named) -> Spreads
+#[tactic(auto, using(crate::proofs::Spreading::outside_laws))]
+fn spread_outside(multiple: bool, last: usize, n: Named) -> Option<Ranges>
     requires { last < index_bound }
     ensures { spread_of result ≡ spread false multiple last (occurrences n) (bracket n) }
 {
-    if n.bracketed {
-        return Spreads::Broken;
+    if n.values.is_some() {
+        return None;
     }
-    if multiple {
-        if n.indexed {
-            return ranged(1, 1, wide(n.from), wide(n.upto), false);
+    match n.occurrences {
+        Some(v) => {
+            if !multiple {
+                return None;
+            }
+            ranged(1, 1, usize::from(v.from), usize::from(v.upto), false)
         }
-        return ranged(1, 1, last + 1, last + 1, true);
+        None => {
+            if multiple {
+                return ranged(1, 1, last + 1, last + 1, true);
+            }
+            ranged(1, 1, 1, 1, false)
+        }
     }
-    if n.indexed {
-        return Spreads::Broken;
-    }
-    ranged(1, 1, 1, 1, false)
 }
 
 // The occurrences and the values that a name means, by whether it is a periodic group or in one, whether it is an MU field, and that
 // field's last index so far.
-pub fn spread(inside: bool, multiple: bool, last: usize, n: Named) -> Spreads
+pub fn spread(inside: bool, multiple: bool, last: usize, n: Named) -> Option<Ranges>
     requires { last < index_bound }
     ensures { spread_of result ≡ spread inside multiple last (occurrences n) (bracket n) }
 {

@@ -1,3 +1,2 @@
-pub mod Five
-pub mod Constants
 pub mod Letters
+pub mod Constants

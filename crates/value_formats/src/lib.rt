@@ -1,34 +1,36 @@
-// The formats by their numbers, 0 A, 1 B, 2 F, 3 P, 4 U: their letters, which lengths they have, and which convert.
+// The five formats: their letters, which lengths they have, and which convert.
 #![tactic(auto)]
 
-ghost use Rattle.std.specs.Prelude.{◌≡◌, ◌<◌, ◌≤◌};
-ghost use Rattle.rules.specs.Limits.{formats};
+ghost use Rattle.std.specs.Prelude.{◌≡◌};
+ghost use Rattle.rules.specs.Table.{format_of};
 ghost use Rattle.rules.specs.Values as Rules;
-ghost use Rattle.value_formats.specs.Formats.{format_at, letter_number, kind_of, is_every, is_natural};
+ghost use Rattle.value_formats.specs.Formats.{format_at, format_given, kind_of};
 
+use self::Kind::{Every, Natural, Never, Word};
 use rules::FORMATS;
 
-pub const ALPHA: usize = 0;
+// A, B, F, P and U, in the order of the tables below.
+#[derive(Clone, Copy, Debug, PartialEq, Eq)]
+pub enum Format {
+    Alpha,
+    Binary,
+    Fixed,
+    Packed,
+    Unpacked,
+}
 
-pub const BINARY: usize = 1;
-
-pub const FIXED: usize = 2;
-
-pub const PACKED: usize = 3;
-
-pub const UNPACKED: usize = 4;
-
-// The number of a format letter, being A, B, F, P or U; FORMATS for any other.
-pub fn format_number(letter: u8) -> usize
-    ensures { (result ≡ letter_number letter) × (result ≤ formats) }
+// The format of a letter, being A, B, F, P or U.
+#[tactic(auto, using(crate::proofs::Letters::letter_other), unfolding(crate::specs::Formats::format_at, rules::specs::Table::format_of, rules::specs::Lists::look_up, rules::specs::Table::format_letters))]
+pub fn format_of(letter: u8) -> Option<Format>
+    ensures { format_given result ≡ format_of letter }
 {
     match letter {
-        0xc1 => ALPHA,
-        0xc2 => BINARY,
-        0xc6 => FIXED,
-        0xd7 => PACKED,
-        0xe4 => UNPACKED,
-        _ => FORMATS,
+        0xc1 => Some(Format::Alpha),
+        0xc2 => Some(Format::Binary),
+        0xc6 => Some(Format::Fixed),
+        0xd7 => Some(Format::Packed),
+        0xe4 => Some(Format::Unpacked),
+        _ => None,
     }
 }
 
@@ -44,32 +46,25 @@ const GREATEST: [usize; FORMATS] = [
 ];
 
 // The longest length of a format.
-pub fn longest(format: usize) -> usize
-    requires { format < formats }
+#[tactic(auto, using(crate::proofs::Constants::longest_at))]
+pub fn longest(format: Format) -> usize
     ensures { result ≡ Rules.longest (format_at format) }
 {
-    GREATEST[format]
+    GREATEST[format as usize]
 }
 
 // Whether a format has values of a length.
-pub fn allowed(format: usize, size: usize) -> bool
-    requires { format < formats }
+#[tactic(auto, using(crate::proofs::Constants::allowing))]
+pub fn allowed(format: Format, size: usize) -> bool
     ensures { result ≡ Rules.allowed (format_at format) size }
 {
-    if size < LEAST[format] {
-        return false;
-    }
-    if GREATEST[format] < size {
-        return false;
-    }
-    if format == FIXED {
-        return size != 3;
-    }
-    true
+    LEAST[format as usize] <= size
+        && size <= GREATEST[format as usize]
+        && (format != Format::Fixed || size != 3)
 }
 
 // Which values convert: none, all, those of a word, those of a word that are not below zero.
-#[derive(Clone, Copy)]
+#[derive(Clone, Copy, Debug, PartialEq, Eq)]
 pub enum Kind {
     Never,
     Every,
@@ -77,65 +72,26 @@ pub enum Kind {
     Natural,
 }
 
-const NEVER: Kind = Kind::Never;
-
-const EVERY: Kind = Kind::Every;
-
-const WORD: Kind = Kind::Word;
-
-const NATURAL: Kind = Kind::Natural;
-
 // Row the field's format, column the format in effect.
 const CONVERTS: [[Kind; FORMATS]; FORMATS] = [
-    [EVERY, NEVER, NEVER, NEVER, NEVER],
-    [NEVER, EVERY, NATURAL, NATURAL, NATURAL],
-    [NEVER, NATURAL, EVERY, WORD, WORD],
-    [NEVER, NATURAL, WORD, EVERY, EVERY],
-    [NEVER, NATURAL, WORD, EVERY, EVERY],
+    [Every, Never, Never, Never, Never],
+    [Never, Every, Natural, Natural, Natural],
+    [Never, Natural, Every, Word, Word],
+    [Never, Natural, Word, Every, Every],
+    [Never, Natural, Word, Every, Every],
 ];
 
 // Which values convert from a format to another.
-pub fn conversion(row: usize, column: usize) -> Kind
-    requires { (row < formats) × (column < formats) }
+#[tactic(auto, using(crate::proofs::Constants::converts_at))]
+pub fn conversion(row: Format, column: Format) -> Kind
     ensures { kind_of result ≡ Rules.conversion (format_at row) (format_at column) }
 {
-    CONVERTS[row][column]
+    CONVERTS[row as usize][column as usize]
 }
 
 // Whether any do.
-pub fn converts(row: usize, column: usize) -> bool
-    requires { (row < formats) × (column < formats) }
+pub fn converts(row: Format, column: Format) -> bool
     ensures { result ≡ Rules.converts (format_at row) (format_at column) }
 {
-    let kind = conversion(row, column);
-    match kind {
-        Kind::Never => false,
-        Kind::Every => true,
-        Kind::Word => true,
-        Kind::Natural => true,
-    }
-}
-
-// Whether the kind is Every.
-pub fn is_every(kind: Kind) -> bool
-    ensures { result ≡ is_every (kind_of kind) }
-{
-    match kind {
-        Kind::Never => false,
-        Kind::Every => true,
-        Kind::Word => false,
-        Kind::Natural => false,
-    }
-}
-
-// Whether the kind is Natural.
-pub fn is_natural(kind: Kind) -> bool
-    ensures { result ≡ is_natural (kind_of kind) }
-{
-    match kind {
-        Kind::Never => false,
-        Kind::Every => false,
-        Kind::Word => false,
-        Kind::Natural => true,
-    }
+    conversion(row, column) != Never
 }

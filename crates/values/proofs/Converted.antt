@@ -1,4 +1,5 @@
 -- A value converted: which refusal it meets, when it is done, the words in the conversion ranges, and how long its bytes are.
+use Rattle.std.specs.Prelude.{None, Some}
 use mathlib.Core.Path.{◌≡◌, refl, sym, ◌∙◌, ap}
 use mathlib.Core.Bool.{Bool, true, false, not, ◌&&◌}
 use mathlib.Core.Logic.{◌⊎◌, ⊎_elim}
@@ -7,7 +8,8 @@ use Prim.Native.Nat.{ℕ, zero, suc, ◌+◌, ◌-◌, ◌*◌, ◌/◌, ◌%◌
 use native.Mathlib.Nat.{not-suc-le-zero}
 use native.Mathlib.Omega.{arith}
 use lib.Dec.{eqb, leb, ltb, leb→le}
-use lib.ListN.{length, replicate, length-append, length-replicate}
+use lib.ListN.{length, take, replicate, length-append, length-replicate}
+use lib.Seq.{length-take-le}
 use borrow.Author.Tests.{leb-true, leb-false, lt-leb, le-leb}
 use Rattle.rules.specs.Outcome.{Outcome, done, refused, by, ◌>>=◌, need, is_done}
 use Rattle.rules.specs.Characters.{space}
@@ -18,7 +20,6 @@ use Rattle.rules.specs.Values as Rules
 use Rattle.rules.proofs.Steps.{from_need, done_inj, refused_inj, not_done, and_left, true_T, T_true}
 use Rattle.fixed.specs.Words.{pick, signed_value, word_of, value_of}
 use Rattle.fixed.specs.declared.Signed.{Signed}
-use Rattle.fixed.specs.declared.Word.TheVariants.{Number, Outside}
 use Rattle.rules.proofs.Digits.{length_digits}
 use Rattle.decimals.specs.Decimals.{decimal_format}
 use Rattle.decimals.proofs.Normal.{normal_fits, normal_done, converted_value}
@@ -138,15 +139,15 @@ module _ (f g : Format) (n : ℕ) (bs : Bytes) (e : is_done (meaning f bs) ≡ t
   converted_normal h = converted_by f g n bs e ∙ rw (c, h)
 
 -- The word of a value.
-picked : (b : Bool) (w v : Signed) → pick b (Number w) Outside ≡ Number v → (w ≡ v) × (b ≡ true)
+picked : (b : Bool) (w v : Signed) → pick b (Some w) None ≡ Some v → (w ≡ v) × (b ≡ true)
 picked true w v e = (cc, refl)
 picked false w v e = (cc, cc)
 
-unpicked : (b : Bool) (w : Signed) → pick b (Number w) Outside ≡ Outside → b ≡ false
+unpicked : (b : Bool) (w : Signed) → pick b (Some w) None ≡ None → b ≡ false
 unpicked true w e = cc
 unpicked false w e = refl
 
-pub word_number : (x : Value) (v : Signed) → word_of x ≡ Number v → (x ≡ signed_value v) × (v.magnitude ≤ lowest_word)
+pub word_number : (x : Value) (v : Signed) → word_of x ≡ Some v → (x ≡ signed_value v) × (v.magnitude ≤ lowest_word)
 unfolding word_of
 word_number (text t) v e = absurd (let z : ◌≡◌ {A = ℕ} 0 1 = cc in omega arith)
 word_number (number below n) v e =
@@ -154,7 +155,7 @@ word_number (number below n) v e =
     let l = leb-true n lowest_word p.1 in
     (ap signed_value p.0, rw (← p.0) l)
 
-pub word_outside : (x : Value) (b : Bool) → word_of x ≡ Outside → in_range (range_kind b) x ≡ false
+pub word_outside : (x : Value) (b : Bool) → word_of x ≡ None → in_range (range_kind b) x ≡ false
 unfolding word_of in_range
 word_outside (text t) true e = refl
 word_outside (text t) false e = refl
@@ -265,9 +266,9 @@ carried_size_is f g zero bs a d =
     sym (rw (q, p) (text_size_0 bs (rw (q, p) at d)))
 carried_size_is f g (suc n) bs a d = sym (converted_size f g (suc n) bs d (omega arith))
 
-pub size_0 : (s : Bytes) (n r : ℕ) → n ≡ 0 → length (strip s) ≡ r → r + 1 ≡ converted_length n s
+pub size_0 : (s : Bytes) (n r : ℕ) → n ≡ 0 → r ≤ length s → strip s ≡ take r s → r + 1 ≡ converted_length n s
 unfolding converted_length
-size_0 s n r z e = rw (z, e) (omega arith)
+size_0 s n r z k e = rw (z, e, length-take-le r s k) (omega arith)
 
 pub size_n : (s : Bytes) (n : ℕ) → (n ≡ 0 → ⊥) → n ≡ converted_length n s
 unfolding converted_length

@@ -1,4 +1,6 @@
 -- The first value of a run of bytes, at each way that the code answers.
+use Rattle.std.specs.Prelude.{Err, Ok, Result}
+use Rattle.rules.specs.declared.Refusal.{Refusal}
 use mathlib.Core.Path.{ap, ◌≡◌, refl, sym, ◌∙◌}
 use mathlib.Core.Bool.{◌&&◌}
 use mathlib.Core.Logic.{◌⊎◌, inl, inr}
@@ -19,8 +21,6 @@ use Rattle.rules.specs.declared.Refusal.TheVariants.{BeyondBuffer, BadValue}
 use Rattle.rules.proofs.Steps.{not_done, from_done, from_need, and_right}
 use Rattle.buffer.proofs.Cases.{by_order}
 use Rattle.values.specs.Places.{Located}
-use Rattle.values.specs.declared.FirstValue.{FirstValue}
-use Rattle.values.specs.declared.FirstValue.TheVariants.{Value, Refused}
 
 pub cut_enough : (k n : ℕ) (bs : Bytes) → n ≤ length bs → cut k n bs ≡ done (take n bs, drop n bs)
 unfolding cut
@@ -41,10 +41,10 @@ first_own zero bs z = absurd (z refl)
 first_own (suc n) bs z = refl
 
 module _ (s : Bytes) (at n : ℕ) (z : n ≡ 0 → ⊥) (h : at ≤ length s) where
-  pub own_short : length s - at < n → Located s at (first_value n (drop at s)) (Refused BeyondBuffer)
+  pub own_short : length s - at < n → Located s at (first_value n (drop at s)) (Err BeyondBuffer)
   own_short l = record { answer = sym (first_own n (drop at s) z ∙ cut_short 7 n (drop at s) (rw length-drop l)); place = tt }
 
-  pub own_found : n ≤ length s - at → Located s at (first_value n (drop at s)) (Value at (at + n))
+  pub own_found : n ≤ length s - at → Located s at (first_value n (drop at s)) (Ok (at, (at + n)))
   own_found l = record {
     answer =
         let e : at + n - at ≡ n = omega arith in
@@ -61,27 +61,27 @@ first_counted : (n : ℕ) (bs : Bytes) → first_value 0 (n ∷ bs) ≡ (need (l
 unfolding first_value
 first_counted n bs = refl
 
-pub none_left : (s : Bytes) (at : ℕ) → length s ≤ at → Located s at (first_value 0 (drop at s)) (Refused BeyondBuffer)
+pub none_left : (s : Bytes) (at : ℕ) → length s ≤ at → Located s at (first_value 0 (drop at s)) (Err BeyondBuffer)
 none_left s at h = record { answer = sym (rw (drop_of_length-le s h) first_nil); place = tt }
 
 module _ (s : Bytes) (at n : ℕ) (h : at < length s) (e : n ≡ get_or s at 0) where
   here : first_value 0 (drop at s) ≡ (need (leb 1 n && leb n (suc longest_alpha)) 8 >>= λ _. cut 7 (n - 1) (drop (at + 1) s))
   here = rw (add-one, drop-cons s at 0, e) (first_counted (get_or s at 0) (drop (suc at) s))
 
-  pub bad_zero : n ≡ 0 → Located s at (first_value 0 (drop at s)) (Refused BadValue)
+  pub bad_zero : n ≡ 0 → Located s at (first_value 0 (drop at s)) (Err BadValue)
   bad_zero q = record { answer = sym (here ∙ rw q); place = tt }
 
-  pub bad_long : suc longest_alpha < n → Located s at (first_value 0 (drop at s)) (Refused BadValue)
+  pub bad_long : suc longest_alpha < n → Located s at (first_value 0 (drop at s)) (Err BadValue)
   bad_long q = record { answer = sym (here ∙ rw (le-leb 1 n (omega arith), lt-leb n (suc longest_alpha) q)); place = tt }
 
   module _ (lo : 1 ≤ n) (hi : n ≤ suc longest_alpha) where
     good : first_value 0 (drop at s) ≡ cut 7 (n - 1) (drop (at + 1) s)
     good = here ∙ rw (le-leb 1 n lo, le-leb n (suc longest_alpha) hi)
 
-    pub counted_short : length s - at < n → Located s at (first_value 0 (drop at s)) (Refused BeyondBuffer)
+    pub counted_short : length s - at < n → Located s at (first_value 0 (drop at s)) (Err BeyondBuffer)
     counted_short l = record { answer = sym (good ∙ cut_short 7 (n - 1) (drop (at + 1) s) (rw length-drop (omega arith))); place = tt }
 
-    pub counted_found : n ≤ length s - at → Located s at (first_value 0 (drop at s)) (Value (at + 1) (at + n))
+    pub counted_found : n ≤ length s - at → Located s at (first_value 0 (drop at s)) (Ok ((at + 1), (at + n)))
     counted_found l = record {
       answer =
           let p : at + n - (at + 1) ≡ n - 1 = omega arith in
@@ -91,8 +91,11 @@ module _ (s : Bytes) (at n : ℕ) (h : at < length s) (e : n ≡ get_or s at 0) 
     }
 
 -- A length given as 0.
-pub at_zero : (s : Bytes) (at size : ℕ) (r : FirstValue) → size ≡ 0 → Located s at (first_value 0 (drop at s)) r → Located s at (first_value size (drop at s)) r
+pub at_zero : (s : Bytes) (at size : ℕ) (r : Result (ℕ × ℕ) Refusal) → size ≡ 0 → Located s at (first_value 0 (drop at s)) r → Located s at (first_value size (drop at s)) r
 at_zero s at size r z f = rw z f
+
+-- The answers of the function, each by what it tested.
+pub ruleset by_place = (none_left, bad_zero, bad_long, counted_short, counted_found, own_short, own_found, at_zero)
 
 -- The content of the first value has its length, or at most as many bytes as the longest text after a length byte.
 cut_length : (k n : ℕ) (bs v rest : Bytes) → cut k n bs ≡ done (v, rest) → length v ≡ n
@@ -111,6 +114,6 @@ first_content zero (n ∷ bs) v rest e =
     inl (refl, omega arith)
 first_content (suc size) bs v rest e = inr (sym (cut_length 7 (suc size) bs v rest e))
 
-pub found_content : (s : Bytes) (at size from next : ℕ) → Located s at (first_value size (drop at s)) (Value from next)
+pub found_content : (s : Bytes) (at size from next : ℕ) → Located s at (first_value size (drop at s)) (Ok (from, next))
     → ((size ≡ 0) × (length (take (next - from) (drop from s)) ≤ longest_alpha)) ⊎ (size ≡ length (take (next - from) (drop from s)))
 found_content s at size from next f = first_content size (drop at s) (take (next - from) (drop from s)) (drop next s) (sym f.answer)

@@ -1,46 +1,59 @@
 -- Bytes that are in normal form whatever they are: those of A, which blanks fill up, and those of B and F, whose digits are any bytes.
 use mathlib.Core.Path.{◌≡◌, refl, sym}
 use mathlib.Core.Bool.{true, false, false≢true}
-use Prim.Native.Nat.{ℕ, ◌<◌}
+use Prim.Native.Nat.{ℕ}
 use native.Mathlib.Omega.{arith}
 use borrow.Author.Tests.{lt-ltb, ltb-true}
 use lib.Dec.{ltb}
-use Rattle.rules.specs.Limits.{formats}
 use Rattle.rules.specs.Values.{allowed}
-use Rattle.buffer.proofs.Cases.{by_order}
-use Rattle.value_formats.proofs.Five.{five}
+use Rattle.value_formats.specs.declared.Format.{Format}
+use Rattle.value_formats.specs.declared.Format.TheVariants.{Alpha, Binary, Fixed, Packed, Unpacked}
 use Rattle.values.specs.Formats.{format_at}
 use Rattle.values.specs.Normals.{AnyNormal, any_normal}
-use Rattle.values.proofs.Numbered.{at_alpha}
 use Rattle.values.proofs.Strip.{text_normal}
-use Rattle.values.proofs.Chosen.{low_normal}
+use Rattle.values.proofs.Numbered.{either}
+use Rattle.binaries.proofs.Binary.{binary_normal}
+use Rattle.fixed.proofs.Fixed.{fixed_normal}
 
--- The test by numbers: the length is not 0, and the format comes before P.
-pub none_variable : (k n : ℕ) → k < formats → n ≡ 0 → false ≡ any_normal (format_at k) n
+-- The test: the length is not 0, and the format is A, B or F.
+pub none_variable : (f : Format) (n : ℕ) → n ≡ 0 → false ≡ any_normal (format_at f) n
 unfolding format_at
-none_variable k n h z = rw z (five (λ k. false ≡ any_normal (format_at k) 0) refl refl refl refl refl k h)
+none_variable Alpha n z = rw z refl
+none_variable Binary n z = rw z refl
+none_variable Fixed n z = rw z refl
+none_variable Packed n z = refl
+none_variable Unpacked n z = refl
 
-pub before_packed : (k n : ℕ) → k < formats → (n ≡ 0 → ⊥) → ltb k 3 ≡ any_normal (format_at k) n
+some : (n : ℕ) → (n ≡ 0 → ⊥) → true ≡ ltb 0 n
+some n z = sym (lt-ltb 0 n (omega (arith, z)))
+
+pub any_alpha : (f : Format) (n : ℕ) → f ≡ Alpha → (n ≡ 0 → ⊥) → true ≡ any_normal (format_at f) n
 unfolding format_at
-before_packed k n h z =
-    let some : true ≡ ltb 0 n = sym (lt-ltb 0 n (omega (arith, z))) in
-    five (λ k. ltb k 3 ≡ any_normal (format_at k) n) some some some refl refl k h
+any_alpha f n e z = rw e (some n z)
+
+pub any_binary : (f : Format) (n : ℕ) → f ≡ Binary → (n ≡ 0 → ⊥) → true ≡ any_normal (format_at f) n
+unfolding format_at
+any_binary f n e z = rw e (some n z)
+
+pub any_fixed : (f : Format) (n : ℕ) → f ≡ Fixed → (n ≡ 0 → ⊥) → true ≡ any_normal (format_at f) n
+unfolding format_at
+any_fixed f n e z = rw e (some n z)
+
+pub none_decimal : (f : Format) (n : ℕ) → (f ≡ Alpha → ⊥) → (f ≡ Binary → ⊥) → (f ≡ Fixed → ⊥) → false ≡ any_normal (format_at f) n
+unfolding format_at
+none_decimal Alpha n a b c = absurd (a refl)
+none_decimal Binary n a b c = absurd (b refl)
+none_decimal Fixed n a b c = absurd (c refl)
+none_decimal Packed n a b c = refl
+none_decimal Unpacked n a b c = refl
+
+pub ruleset by_low = (none_variable, any_alpha, any_binary, any_fixed, none_decimal)
 
 -- What passes the test is in normal form.
-any_low : (k n : ℕ) → k < formats → k < 3 → 0 < n → allowed (format_at k) n ≡ true → AnyNormal (format_at k) n
-any_low k n h l p a = (
-  p,
-  λ bs b e. by_order 0 k
-      (λ q. low_normal k n bs h l (λ x. omega arith) a (sym e) b)
-      (λ q. let x : k ≡ 0 = omega arith in rw (at_alpha k x) (text_normal bs n (λ z. omega arith) (sym e))),
-)
-
-pub any_allowed : (k n : ℕ) → k < formats → allowed (format_at k) n ≡ true → any_normal (format_at k) n ≡ true → AnyNormal (format_at k) n
-unfolding format_at
-any_allowed k n h a e = let s = low k h e in any_low k n h s.0 s.1 a
-  where
-    low : (k : ℕ) → k < formats → any_normal (format_at k) n ≡ true → (k < 3) × (0 < n)
-    low =
-        five (λ k. any_normal (format_at k) n ≡ true → (k < 3) × (0 < n))
-        (λ e. (omega arith, ltb-true 0 n e)) (λ e. (omega arith, ltb-true 0 n e)) (λ e. (omega arith, ltb-true 0 n e))
-        (λ e. absurd (false≢true e)) (λ e. absurd (false≢true e))
+pub any_allowed : (f : Format) (n : ℕ) → allowed (format_at f) n ≡ true → any_normal (format_at f) n ≡ true → AnyNormal (format_at f) n
+unfolding allowed format_at
+any_allowed Alpha n a e = let p = ltb-true 0 n e in (p, λ bs b l. text_normal bs n (λ z. omega arith) (sym l))
+any_allowed Binary n a e = let p = ltb-true 0 n e in (p, λ bs b l. binary_normal n p bs l b)
+any_allowed Fixed n a e = (ltb-true 0 n e, λ bs b l. fixed_normal n (either n a) bs l b)
+any_allowed Packed n a e = absurd (false≢true e)
+any_allowed Unpacked n a e = absurd (false≢true e)

@@ -1,26 +1,29 @@
 -- Null of each format, byte by byte, and its length.
 use mathlib.Core.Path.{◌≡◌, refl, sym, ◌∙◌, ap}
 use mathlib.Core.Bool.{true, false≢true}
-use mathlib.Core.List.{List, [], ◌∷◌, ◌++◌, append-nil}
+use mathlib.Core.List.{[], ◌∷◌, ◌++◌, append-nil}
 use Prim.Native.Nat.{ℕ, zero, suc, ◌+◌, ◌-◌, ◌*◌, ◌^◌, ◌≤◌, ◌<◌}
 use native.Mathlib.Nat.{one-le-pow, sub-zero, zero-mul, suc-mul}
 use native.Mathlib.Omega.{arith}
-use lib.Dec.{ltb, eqb, lit<}
-use lib.ListN.{length, get_or, replicate, length-append, length-replicate, replicate-append-replicate}
-use borrow.Author.Tests.{lt-ltb, eqb-true, eqb-false}
+use denote.Enum.Bare.{sameb}
+use lib.Dec.{ltb, lit<}
+use lib.ListN.{length, replicate, length-append, length-replicate, replicate-append-replicate}
+use borrow.Author.Tests.{lt-ltb}
 use Rattle.rules.specs.Outcome.{done}
 use Rattle.rules.specs.Characters.{space}
-use Rattle.rules.specs.Limits.{formats, longest_packed}
+use Rattle.rules.specs.Limits.{longest_packed}
 use Rattle.rules.specs.Lists.{Bytes, bytes_of, digits, join}
-use Rattle.rules.specs.Values.{Format, alpha, binary, fixed, packed, unpacked, allowed, normal, null, null_value, pairs, zoned, sign_written}
+use Rattle.rules.specs.Values.{Format as Meant, alpha, binary, fixed, packed, unpacked, allowed, normal, null, null_value, pairs, zoned, sign_written}
 use Rattle.rules.proofs.Steps.{by_test}
 use Rattle.buffer.specs.Splice.{splice}
-use Rattle.buffer.proofs.Laws.{splice_nil, length_splice, splice_rest}
+use Rattle.buffer.proofs.Laws.{splice_nil, length_splice, splice_rest, splice_push}
 use Rattle.rules.proofs.Done.{done_need}
 use Rattle.rules.proofs.Digits.{digits_zero}
 use Rattle.values.specs.Formats.{format_at}
-use Rattle.value_formats.proofs.Five.{five}
-use Rattle.values.proofs.Numbered.{from_one}
+use Rattle.value_formats.specs.contracts.Format.{the_type}
+use Rattle.value_formats.specs.declared.Format.{Format}
+use Rattle.value_formats.specs.declared.Format.TheVariants.{Alpha, Binary, Fixed, Packed, Unpacked}
+use Rattle.values.proofs.Numbered.{from_one, is_packed, not_packed}
 use Rattle.values.proofs.Strip.{normal_text_0, normal_text}
 
 pow_above : (b n : ℕ) → 0 < b → 0 < b ^ n
@@ -41,7 +44,7 @@ zone_zeros (suc zero) = refl
 zone_zeros (suc (suc n)) = ap (λ l. 240 ∷ l) (zone_zeros (suc n))
 
 -- What null is, and that every length holds it.
-null_from : (f : Format) (n : ℕ) {b : Bytes} → normal f n (null_value f) ≡ done b → (null f n ≡ b) × (normal f n (null_value f) ≡ done (null f n))
+null_from : (f : Meant) (n : ℕ) {b : Bytes} → normal f n (null_value f) ≡ done b → (null f n ≡ b) × (normal f n (null_value f) ≡ done (null f n))
 unfolding null bytes_of
 null_from f n e = (ap bytes_of e, e ∙ ap done (sym (ap bytes_of e)))
 
@@ -75,7 +78,7 @@ normal_null_unpacked n =
     ∙ ap done (rw (digits_zero 10 n) (zone_zeros n))
 
 -- Every allowed length holds null.
-pub null_done : (f : Format) (n : ℕ) → allowed f n ≡ true → normal f n (null_value f) ≡ done (null f n)
+pub null_done : (f : Meant) (n : ℕ) → allowed f n ≡ true → normal f n (null_value f) ≡ done (null f n)
 unfolding allowed
 null_done alpha zero h = (null_from alpha 0 normal_null_0).1
 null_done alpha (suc n) h = (null_from alpha (suc n) (normal_null_alpha (suc n) (λ e. omega arith))).1
@@ -84,74 +87,75 @@ null_done fixed n h = (null_from fixed n (normal_null_fixed n)).1
 null_done packed n h = (null_from packed n (normal_null_packed n (from_one n longest_packed h))).1
 null_done unpacked n h = (null_from unpacked n (normal_null_unpacked n)).1
 
--- Null by the number of its format.
-abbrev pub fillers : List ℕ
-fillers = 0x40 ∷ 0 ∷ 0 ∷ 0 ∷ 0xF0 ∷ []
+-- Null by its format.
+abbrev pub filler : Format → ℕ
+filler Alpha = 0x40
+filler Binary = 0
+filler Fixed = 0
+filler Packed = 0
+filler Unpacked = 0xF0
 
 pub null_packed : (n : ℕ) → 0 < n → null packed n ≡ replicate (n - 1) 0 ++ (15 ∷ [])
 null_packed n h = (null_from packed n (normal_null_packed n h)).0
 
-pub null_filled : (k n : ℕ) → k < formats → (k ≡ 3 → ⊥) → (n ≡ 0 → ⊥) → null (format_at k) n ≡ replicate n (get_or fillers k 0)
+pub null_filled : (f : Format) (n : ℕ) → (f ≡ Packed → ⊥) → (n ≡ 0 → ⊥) → null (format_at f) n ≡ replicate n (filler f)
 unfolding format_at
-null_filled k n h p z =
-    five (λ k. (k ≡ 3 → ⊥) → null (format_at k) n ≡ replicate n (get_or fillers k 0))
-    (λ _. (null_from alpha n (normal_null_alpha n z)).0)
-    (λ _. (null_from binary n (normal_null_binary n)).0)
-    (λ _. (null_from fixed n (normal_null_fixed n)).0)
-    (λ q. absurd (q refl))
-    (λ _. (null_from unpacked n (normal_null_unpacked n)).0)
-    k h p
+null_filled Alpha n p z = (null_from alpha n (normal_null_alpha n z)).0
+null_filled Binary n p z = (null_from binary n (normal_null_binary n)).0
+null_filled Fixed n p z = (null_from fixed n (normal_null_fixed n)).0
+null_filled Packed n p z = absurd (p refl)
+null_filled Unpacked n p z = (null_from unpacked n (normal_null_unpacked n)).0
 
-at_0 : (k : ℕ) → k < formats → allowed (format_at k) 0 ≡ true → null (format_at k) 0 ≡ 1 ∷ []
+at_0 : (f : Format) → allowed (format_at f) 0 ≡ true → null (format_at f) 0 ≡ 1 ∷ []
 unfolding allowed format_at
-at_0 =
-    five (λ k. allowed (format_at k) 0 ≡ true → null (format_at k) 0 ≡ 1 ∷ [])
-    (λ _. (null_from alpha 0 normal_null_0).0)
-    (λ e. absurd (false≢true e)) (λ e. absurd (false≢true e)) (λ e. absurd (false≢true e)) (λ e. absurd (false≢true e))
+at_0 Alpha e = (null_from alpha 0 normal_null_0).0
+at_0 Binary e = absurd (false≢true e)
+at_0 Fixed e = absurd (false≢true e)
+at_0 Packed e = absurd (false≢true e)
+at_0 Unpacked e = absurd (false≢true e)
 
-pub null_0 : (k n : ℕ) → k < formats → n ≡ 0 → allowed (format_at k) n ≡ true → null (format_at k) n ≡ 1 ∷ []
-null_0 k n h z a = rw z (at_0 k h (rw z at a))
-
-packed_size : (k n : ℕ) → k ≡ 3 → (n ≡ 0 → ⊥) → length (null (format_at k) n) ≡ n
-unfolding format_at
-packed_size k n e z =
-    rw (e, null_packed n (omega (arith, z)), length-append, length-replicate) (omega (arith, z))
-
-pub null_size : (k n : ℕ) → k < formats → (n ≡ 0 → ⊥) → length (null (format_at k) n) ≡ n
-null_size k n h z =
-    by_test (eqb k 3)
-    (λ q. packed_size k n (eqb-true k 3 q) z)
-    (λ q. rw (null_filled k n h (eqb-false k 3 q) z) (length-replicate n (get_or fillers k 0)))
+pub null_0 : (f : Format) (n : ℕ) → n ≡ 0 → allowed (format_at f) n ≡ true → null (format_at f) n ≡ 1 ∷ []
+null_0 f n z a = rw z (at_0 f (rw z at a))
 
 pub packed_long : (n : ℕ) → 0 < n → length (null packed n) ≡ n
-unfolding format_at
-packed_long n h = packed_size 3 n refl (λ z. omega arith)
+packed_long n h = rw (null_packed n h, length-append, length-replicate) (omega arith)
 
-pub is_packed : (k : ℕ) → k ≡ 3 → packed ≡ format_at k
+pub packed_at : (f : Format) → f ≡ Packed → format_at f ≡ packed
 unfolding format_at
-is_packed k e = rw e
+packed_at f e = rw e
+
+pub null_size : (f : Format) (n : ℕ) → (n ≡ 0 → ⊥) → length (null (format_at f) n) ≡ n
+null_size f n z = by_test (sameb the_type f Packed)
+    (λ q. rw (packed_at f (is_packed f q)) (packed_long n (omega (arith, z))))
+    (λ q. rw (null_filled f n (not_packed f q) z) (length-replicate n (filler f)))
 
 -- Null is one byte throughout, where it is not P's.
 throughout : (x : Bytes) (m b : ℕ) → x ≡ replicate m b → x ≡ replicate (length x) b
 throughout x m b e = e ∙ ap (λ (j : ℕ). replicate j b) (sym (ap length e ∙ length-replicate m b))
 
-module _ (k n : ℕ) (h : k < formats) where
-  pub null_byte_0 : n ≡ 0 → allowed (format_at k) n ≡ true → null (format_at k) n ≡ replicate (length (null (format_at k) n)) 1
-  null_byte_0 z a = throughout (null (format_at k) n) 1 1 (null_0 k n h z a)
+filler_0 : (f : Format) → (f ≡ Packed → ⊥) → (f ≡ Alpha → ⊥) → (f ≡ Unpacked → ⊥) → filler f ≡ 0
+filler_0 Alpha p a u = absurd (a refl)
+filler_0 Binary p a u = refl
+filler_0 Fixed p a u = refl
+filler_0 Packed p a u = refl
+filler_0 Unpacked p a u = absurd (u refl)
 
-  module _ (p : k ≡ 3 → ⊥) (z : n ≡ 0 → ⊥) where
-    by_filler : (b : ℕ) → get_or fillers k 0 ≡ b → null (format_at k) n ≡ replicate (length (null (format_at k) n)) b
-    by_filler b e = throughout (null (format_at k) n) n b (null_filled k n h p z ∙ ap (replicate n) e)
+module _ (f : Format) (n : ℕ) where
+  pub null_byte_0 : n ≡ 0 → allowed (format_at f) n ≡ true → null (format_at f) n ≡ replicate (length (null (format_at f) n)) 1
+  null_byte_0 z a = throughout (null (format_at f) n) 1 1 (null_0 f n z a)
 
-    pub null_byte_alpha : k ≡ 0 → null (format_at k) n ≡ replicate (length (null (format_at k) n)) 0x40
-    null_byte_alpha e = by_filler 0x40 (ap (λ (j : ℕ). get_or fillers j 0) e)
+  module _ (p : f ≡ Packed → ⊥) (z : n ≡ 0 → ⊥) where
+    by_filler : (b : ℕ) → filler f ≡ b → null (format_at f) n ≡ replicate (length (null (format_at f) n)) b
+    by_filler b e = throughout (null (format_at f) n) n b (null_filled f n p z ∙ ap (replicate n) e)
 
-    pub null_byte_unpacked : k ≡ 4 → null (format_at k) n ≡ replicate (length (null (format_at k) n)) 0xF0
-    null_byte_unpacked e = by_filler 0xF0 (ap (λ (j : ℕ). get_or fillers j 0) e)
+    pub null_byte_alpha : f ≡ Alpha → null (format_at f) n ≡ replicate (length (null (format_at f) n)) 0x40
+    null_byte_alpha e = by_filler 0x40 (ap filler e)
 
-    pub null_byte_other : (k ≡ 0 → ⊥) → (k ≡ 4 → ⊥) → null (format_at k) n ≡ replicate (length (null (format_at k) n)) 0
-    null_byte_other a u = by_filler 0 (five (λ (j : ℕ). (j ≡ 0 → ⊥) → (j ≡ 4 → ⊥) → get_or fillers j 0 ≡ 0)
-        (λ x y. absurd (x refl)) (λ x y. refl) (λ x y. refl) (λ x y. refl) (λ x y. absurd (y refl)) k h a u)
+    pub null_byte_unpacked : f ≡ Unpacked → null (format_at f) n ≡ replicate (length (null (format_at f) n)) 0xF0
+    null_byte_unpacked e = by_filler 0xF0 (ap filler e)
+
+    pub null_byte_other : (f ≡ Alpha → ⊥) → (f ≡ Unpacked → ⊥) → null (format_at f) n ≡ replicate (length (null (format_at f) n)) 0
+    null_byte_other a u = by_filler 0 (filler_0 f p a u)
 
 -- The same bytes several times.
 pub length_copies : (n : ℕ) (x : Bytes) → length (join (replicate n x)) ≡ n * length x
@@ -201,3 +205,6 @@ module _ {x : Bytes} {n i at p : ℕ} {out₀ out : Bytes} (g : Copying x n i at
   pub copied : n ≤ i → out ≡ splice at (join (replicate n x)) out₀
   unfolding join
   copied h = let e : n - i ≡ 0 = omega arith in sym (splice_nil p out) ∙ rw e at g.bytes
+
+-- What the functions of nulls cite.
+pub ruleset by_null = (null_0, null_size, null_byte_0, null_byte_alpha, null_byte_unpacked, null_byte_other, packed_at, is_packed, not_packed, length_copies, one_copy, copies_throughout, packed_long, null_packed, splice_push, length-replicate, copying, copied)

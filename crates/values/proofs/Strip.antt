@@ -143,3 +143,6 @@ text_normal s n z e =
     is_normal_form alpha n s
     (normal_text n (strip s) z (omega (arith, strip_short s))
     ∙ ap done (rw e (strip_pad s) ∙ sym (no_length_byte n s (omega (arith, z)))))
+
+-- What the functions of texts cite: of length 0, of a length of its own, and of the text that is cut out.
+pub ruleset by_length = (fits_0, fits_n, counted_bytes, counted_room, padded_bytes, padded_length, padded_room, cut_size, converted_text, text_normal_0, text_normal)

@@ -1,4 +1,4 @@
--- Formats by number are those of `value_formats`; here are the ranges that the code's conversions ask for.
+-- The formats are those of `value_formats`; here are the ranges that the code's conversions ask for.
 use Rattle.std.specs.Prelude.{Bool, true, false}
 use Rattle.rules.specs.Values.{word, natural}
 use Rattle.rules.specs.Values as Rules

@@ -1,4 +1,6 @@
 // Format A: bytes without trailing blanks.
+#![tactic(auto, using(crate::proofs::Strip::by_length))]
+
 ghost use Rattle.std.specs.Prelude.{◌≡◌, true, ◌⊎◌, ◌∷◌, ◌++◌, suc, ◌+◌, ◌-◌, ◌≤◌, length, take, replicate};
 ghost use Rattle.rules.specs.Characters.{space};
 ghost use Rattle.rules.specs.Outcome.{is_done};
@@ -13,12 +15,10 @@ use characters::SPACE;
 pub fn text_length(s: &[u8]) -> usize
     ensures { (result ≤ length s.now) × (strip s.now ≡ take result s.now) }
 {
-    let mut j = s.len();
-    while 0 < j {
-        if s[j - 1] != SPACE {
-            return j;
+    for j in (0..s.len()).rev() {
+        if s[j] != SPACE {
+            return j + 1;
         }
-        j -= 1;
     }
     0
 }
@@ -94,9 +94,5 @@ pub fn is_normal_text(s: &[u8], n: usize) -> bool
     requires { ((n ≡ 0) × (length s.now ≤ longest_alpha)) ⊎ (n ≡ length s.now) }
     ensures { result ≡ in_normal_form alpha n s.now }
 {
-    if n == 0 {
-        text_length(s) == s.len()
-    } else {
-        true
-    }
+    n != 0 || text_length(s) == s.len()
 }

@@ -1,28 +1,16 @@
-use native.Mathlib.Omega.{arith}
-use mathlib.Core.Path.{refl, sym, ◌∙◌}
-use borrow.Author.Tests.{eqb-true, eqb-false}
-use Rattle.binaries.proofs.Binary.{zero_skips, walk_fits, walk_stops}
+-- `binaries::binary_fits` meets its contract: the number fits where the bytes before the last n are zeros.
+use Rattle.std.proofs.Common.{rules, tests, ◌≡◌, length, take, ◌-◌}
+use mathlib.Core.Path.{sym, ◌∙◌}
+use borrow.Author.Tests.{le-leb}
+use Rattle.std.proofs.lemmas.Iterator.{YieldsList-from_slice, cases_from_all}
+use Rattle.binaries.proofs.Binary.{fits_by_zeros, fits_short}
 use Rattle.binaries.proofs.binary_fits.Goals as goal
 
 pub returns-then-s-n : goal.returns-then-s-n
-returns-then-s-n c =
-    let a = c.args in
-    sym (walk_fits a.s.now a.n 0 refl (λ i. (c.shared_slice_known-1.given i).fits) (omega arith))
+returns-then-s-n c = le-leb _ _ c.if-s-n.true ∙ sym (fits_short c.args.s.now c.args.n (λ i. (c.type_inv.s i).fits) c.if-s-n.true)
 
-pub loop-i-init : goal.loop-i-init
-loop-i-init c = (omega arith, refl)
-
-pub loop-i-preserved : goal.loop-i-preserved
-loop-i-preserved c =
+pub returns-else-s-n : goal.returns-else-s-n
+returns-else-s-n c =
     let s = c.args.s.now in
-    (omega arith, zero_skips s c.loop-i.i (omega arith) (eqb-true _ 0 (sym c.is_zero.ensures ∙ c.if-is_zero.true)) ∙ c.loop-i.invariant.1)
-
-pub returns-else-is_zero : goal.returns-else-is_zero
-returns-else-is_zero c =
-    let a = c.args in
-    sym (walk_stops a.s.now a.n c.loop-i.i c.loop-i.invariant.1 (eqb-false _ 0 (sym c.is_zero.ensures ∙ c.if-is_zero.false)) (omega arith))
-
-pub returns : goal.returns
-returns c =
-    let a = c.args in
-    sym (walk_fits a.s.now a.n c.loop-i.i c.loop-i.invariant.1 (λ i. (c.shared_slice_known-1.given i).fits) (omega arith))
+    fits_by_zeros s c.args.n (λ i. (c.type_inv.s i).fits) c.all.result
+    (cases_from_all _ _ _ (λ x. x ≡ 0) (λ x. x ≡ 0 → ⊥) c.all.ensures.ran (YieldsList-from_slice (take (length s - c.args.n) s) cc) (λ x q k. search (rules, tests)) (λ x q k. search (rules, tests)))

@@ -15,11 +15,11 @@ returns-then-n-len c =
     let n = c.args.n in
     c.put.ensures.1
     ∙ ap (λ b. splice c.args.at b c.args.out.now)
-    (take_all (length s - (length s - n)) (drop (length s - n) s) (rw length-drop (omega arith)) ∙ sym (last_bytes s n (λ i. (c.shared_slice_known-1.given i).fits) c.requires.0 (omega arith)))
+    (take_all (length s - (length s - n)) (drop (length s - n) s) (rw length-drop (omega arith)) ∙ sym (last_bytes s n (λ i. (c.type_inv.s i).fits) c.requires.0 (omega arith)))
 
 pub returns-else-n-len : goal.returns-else-n-len
 returns-else-n-len c =
     let a = c.args in
     let l = length-replicate {A = ℕ} (a.n - length a.s.now) 0 in
     splice_chain a.at (replicate (a.n - length a.s.now) 0) a.s.now a.out.now _ _ _ c.fill.ensures c.put-else-n-len.ensures.1 (omega arith) (omega arith)
-    ∙ ap (λ b. splice a.at b a.out.now) (sym (padded_bytes a.s.now a.n (λ i. (c.shared_slice_known-1.given i).fits) c.requires.0 (omega arith)))
+    ∙ ap (λ b. splice a.at b a.out.now) (sym (padded_bytes a.s.now a.n (λ i. (c.type_inv.s i).fits) c.requires.0 (omega arith)))

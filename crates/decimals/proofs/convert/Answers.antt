@@ -1,5 +1,5 @@
 -- `decimals::convert` meets its contract: the last byte is written, and the digits before it to the bytes before it.
-use mathlib.Core.Path.{refl, ◌∙◌}
+use mathlib.Core.Path.{refl}
 use lib.ListN.{length-set}
 use Rattle.decimals.specs.Decimals.{magnitude_of, is_negative}
 use Rattle.decimals.proofs.Normal.{converted_value, converted_readable, bytes_converted}
@@ -14,9 +14,6 @@ negative-requires c = (converted_value _ _ c.args.n c.args.s.now c.requires.0, c
 
 pub convert_digits-requires : goal.convert_digits-requires
 convert_digits-requires c = (converted_value _ _ c.args.n c.args.s.now c.requires.0, c.requires.1, c.requires.2, simp length-set c.requires.4)
-
-pub shape_of-out : goal.shape_of-out
-shape_of-out c = c.convert_digits.auto.out ∙ simp length-set
 
 pub returns : goal.returns
 returns c =

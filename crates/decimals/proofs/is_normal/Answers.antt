@@ -17,4 +17,4 @@ returns-then-is_value c =
 pub returns-else-is_value : goal.returns-else-is_value
 returns-else-is_value c =
     let a = c.args in
-    sym (no_form _ _ a.s.now (sym c.is_value.ensures ∙ c.if-is_value.false))
+    c.if-is_value.false ∙ sym (no_form _ _ a.s.now (sym c.is_value.ensures ∙ c.if-is_value.false))

@@ -7,6 +7,3 @@ use Rattle.fixed.proofs.put_number.Given as goal
 
 abbrev pub invariant-loop-j : goal.invariant-loop-j
 invariant-loop-j l = Down l.at l.n (digits 256 l.n l.x) l.initial.out l.out l.j × (take l.j (digits 256 l.n l.x) ≡ digits 256 l.j l.rest)
-
-abbrev pub decreases-loop-j : goal.decreases-loop-j
-decreases-loop-j l = l.j

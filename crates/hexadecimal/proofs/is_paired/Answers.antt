@@ -1,13 +1,20 @@
 -- `hexadecimal::is_paired` meets its contract: the tests are the definition's.
-use mathlib.Core.Path.{◌∙◌}
-use Rattle.hexadecimal.proofs.Pairs.{paired_short, paired_odd, paired_even}
+use Rattle.std.proofs.Common.{rules, arith}
+use Rattle.std.proofs.lemmas.Iterator.{YieldsList-from_slice}
+use Rattle.std.proofs.lemmas.Iterator.Search.{all_from_yields_List}
+use Rattle.std.proofs.lemmas.Bool.Decides.{nat_tests}
+use mathlib.Core.Path.{◌≡◌, ◌∙◌}
+use Prim.Native.Nat.{ℕ}
+use Rattle.rules.specs.Lists.{all}
+use lib.Dec.{ltb}
+use Rattle.hexadecimal.specs.Text.{value, is_paired}
+use Rattle.hexadecimal.proofs.Scanning.{all_is}
 use Rattle.hexadecimal.proofs.is_paired.Goals as goal
 
-pub returns-then-w-lt2 : goal.returns-then-w-lt2
-returns-then-w-lt2 c = paired_short c.args.w.now c.if-w-lt2.true
-
 pub returns-then-w-eq0 : goal.returns-then-w-eq0
-returns-then-w-eq0 c = c.has_digits.ensures ∙ paired_even c.args.w.now c.if-w-lt2.false c.if-w-eq0.true
-
-pub returns-else-w-eq0 : goal.returns-else-w-eq0
-returns-else-w-eq0 c = paired_odd c.args.w.now c.if-w-lt2.false c.if-w-eq0.false
+unfolding is_paired
+returns-then-w-eq0 c =
+    let test = λ (c : ℕ). ltb (value c) 16 in
+    let digits : c.all.result ≡ all test c.args.w.now =
+    all_from_yields_List test _ _ _ c.all.ensures.ran (YieldsList-from_slice c.args.w.now cc) (λ x b q k. search rules) ∙ all_is test c.args.w.now in
+    grind (arith, nat_tests, digits)

@@ -1,4 +1,3 @@
-use lib.ListN.{length-set}
 use mathlib.Core.Path.{refl, sym, ◌∙◌}
 use native.Mathlib.Omega.{arith}
 use Rattle.buffer.proofs.Loops.{up_start, up_turn, up_end}
@@ -7,12 +6,6 @@ use Rattle.hexadecimal.proofs.put_digits.Goals as goal
 
 pub loop-i-init : goal.loop-i-init
 loop-i-init c = up_start (length_parted c.args.src.now) c.requires
-
-pub glyph_of-requires : goal.glyph_of-requires
-glyph_of-requires c = omega (arith, c.type_inv.src c.loop-i.i)
-
-pub bounds-out-at-in-loop-i : goal.bounds-out-at-in-loop-i
-bounds-out-at-in-loop-i c = simp length-set (omega arith)
 
 pub loop-i-preserved : goal.loop-i-preserved
 loop-i-preserved c =

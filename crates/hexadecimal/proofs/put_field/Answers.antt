@@ -7,14 +7,10 @@ use Rattle.hexadecimal.proofs.Numbers.{decimal_short}
 use Rattle.hexadecimal.proofs.Ways.{push}
 use Rattle.hexadecimal.proofs.put_field.Goals as goal
 
-pub bounds-out-end : goal.bounds-out-end
-bounds-out-end c = omega (arith, decimal_short c.args.n c.requires.0)
-
-pub overflow_add-result : goal.overflow_add-result
-overflow_add-result c = omega (arith, decimal_short c.args.n c.requires.0)
-
 pub returns : goal.returns
 returns c =
     let n = decimal_word c.args.n in
-    let d = decimal_short c.args.n c.requires.0 in
-    (omega (arith, c.put_number-end.ensures.0, length-append n (c.args.last ∷ [])), push c.args.at n c.args.out.now _ _ c.args.last c.put_number-end.ensures.1 c.put_number-end.ensures.0 (omega (arith, c.put_number-end.ensures.0)), omega (arith, c.put_number-end.ensures.0))
+    let d = decimal_short c.args.n in
+    let l = length-append n (c.args.last ∷ []) in
+    let e = c.put_number-end.ensures in
+    (omega arith, push c.args.at n c.args.out.now _ _ c.args.last e.1 e.0 (omega arith), omega arith)

@@ -1,12 +1,10 @@
 -- `journals::apply_entry` meets its contract: a whole entry's format and record buffer lie in the journal, and `apply` is the step of a history.
-use mathlib.Core.Path.{subst}
 use Prim.Native.Nat.{◌+◌, ◌-◌, ◌≤◌}
 use native.Mathlib.Omega.{arith}
 use lib.ListN.{length}
 use Rattle.journals.specs.Journal.{length_at}
-use Rattle.lyrecanyon.specs.Answers.{Settled}
 use Rattle.journals.proofs.Replaying.{whole_parts}
-use Rattle.journals.proofs.Stepping.{step_done, step_refused}
+use Rattle.journals.proofs.Stepping.{steps}
 use borrow.Author.Rules.{rules}
 use Rattle.journals.proofs.apply_entry.Goals as goal
 use Rattle.journals.proofs.apply_entry.Goals.{Start}
@@ -38,20 +36,10 @@ slice_bounds-apply-end c = search (rules, within (goal.at.slice_bounds-apply-end
 pub slice_bounds-apply-end-2 : goal.slice_bounds-apply-end-2
 slice_bounds-apply-end-2 c = search (rules, within (goal.at.slice_bounds-apply-end-2 c).Start, c.length_at.ensures.0, c.length_at-2.ensures.0)
 
-pub returns-in-Done : goal.returns-in-Done
-returns-in-Done c =
+pub returns : goal.returns
+returns c =
     let a = c.args in
     let buffer = a.at + 4 + c.length_at.result in
     let end = buffer + c.length_at-2.result in
-    step_done a.table.now a.journal.now a.at a.used a.stored.now _ c.requires.1 (buffer - (a.at + 4)) buffer (end - buffer)
-    (omega (arith, c.length_at.ensures.0)) (omega (arith, c.length_at.ensures.0)) (omega (arith, c.length_at-2.ensures.0)) c.in-Done.n
-    (subst (Settled _ a.stored.now c.apply.new.stored) c.in-Done.is c.apply.ensures)
-
-pub returns-in-Refused : goal.returns-in-Refused
-returns-in-Refused c =
-    let a = c.args in
-    let buffer = a.at + 4 + c.length_at.result in
-    let end = buffer + c.length_at-2.result in
-    step_refused a.table.now a.journal.now a.at a.used a.stored.now _ c.requires.1 (buffer - (a.at + 4)) buffer (end - buffer)
-    (omega (arith, c.length_at.ensures.0)) (omega (arith, c.length_at.ensures.0)) (omega (arith, c.length_at-2.ensures.0)) c.in-Refused.field-0 c.requires.2
-    (subst (Settled _ a.stored.now c.apply.new.stored) c.in-Refused.is c.apply.ensures)
+    rw c.unwrap_or.ensures (steps a.table.now a.journal.now a.at a.used a.stored.now _ c.requires.1 (buffer - (a.at + 4)) buffer (end - buffer)
+    (omega (arith, c.length_at.ensures.0)) (omega (arith, c.length_at.ensures.0)) (omega (arith, c.length_at-2.ensures.0)) c.requires.2 c.apply.result c.apply.ensures)

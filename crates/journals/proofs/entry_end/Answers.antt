@@ -9,12 +9,6 @@ returns-then-left-lt-HEAD c =
     let a = c.args in
     sym (cut_end a.journal.now a.at (short_head a.journal.now a.at (omega (arith, c.if-left-lt-HEAD.true, c.requires))))
 
-pub overflow_add-size : goal.overflow_add-size
-overflow_add-size c = omega (arith, c.length_at.ensures.1)
-
-pub overflow_add-size-2 : goal.overflow_add-size-2
-overflow_add-size-2 c = omega (arith, c.length_at.ensures.1, c.length_at-2.ensures.1)
-
 pub returns-then-left-size : goal.returns-then-left-size
 returns-then-left-size c =
     let a = c.args in

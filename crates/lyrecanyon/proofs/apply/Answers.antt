@@ -9,12 +9,12 @@ use Rattle.lyrecanyon.proofs.Updates.{update_lent, settled_as}
 use Rattle.lyrecanyon.proofs.apply.Goals as goal
 
 pub slice_bounds-make-end-2 : goal.slice_bounds-make-end-2
-slice_bounds-make-end-2 c = sym (length-take-le _ c.args.stored.now (omega (arith, c.least-end.ensures)))
+slice_bounds-make-end-2 c = sym (length-take-le _ c.args.stored.now (omega (arith, c.min-end.ensures)))
 
 pub returns : goal.returns
 returns c =
     let a = c.args in
     let b = a.stored.now in
     settled_as _ _ c.lend.result
-    (ap (λ z. update a.table.now z a.format.now a.buffer.now (length b)) (sym (ap (λ n. take n b) c.least-end.ensures ∙ take_least b a.used))
-    ∙ update_lent a.table.now (take c.least-end.result b) a.format.now a.buffer.now (length b)) (c.lend.ensures _ c.make-answer.ensures)
+    (ap (λ z. update a.table.now z a.format.now a.buffer.now (length b)) (sym (ap (λ n. take n b) c.min-end.ensures ∙ take_least b a.used))
+    ∙ update_lent a.table.now (take c.min-end.result b) a.format.now a.buffer.now (length b)) (c.lend.ensures _ c.make-answer.ensures)

@@ -12,7 +12,7 @@ use Rattle.rules.specs.declared.Refusal.TheVariants.{BadTable, NoRoom}
 use Rattle.lyrecanyon.proofs.Settling.{settled_refused, settled_done}
 use Rattle.lyrecanyon.proofs.Empties.{empty_bytes, empty_size, empty_refused, empty_cramped, empty_done}
 use Rattle.lyrecanyon.proofs.empty.Goals as goal
-use Rattle.lyrecanyon.proofs.empty.Goals.{After-empty_length-size, After-record-3-1, Else-not-valid}
+use Rattle.lyrecanyon.proofs.empty.Goals.{After-empty_length-size, Else-not-valid}
 
 -- What is known after the test of the table, and once the record's length is computed.
 is_table : (c : Else-not-valid) → Valid c.args.table.now
@@ -26,13 +26,11 @@ returns-then-not-valid c =
     let a = c.args in
     settled_refused _ a.room.now BadTable (empty_refused a.table.now (length a.room.now) (sym c.valid.ensures ∙ not-true c.valid.result (ap not c.if-not-valid.true)))
 
-pub empty_length-size-requires : goal.empty_length-size-requires
-empty_length-size-requires c = is_table c
-
-pub returns-then-room-size : goal.returns-then-room-size
-returns-then-room-size c =
+pub returns-then-size-gt-LONGEST_NEW_RECORD : goal.returns-then-size-gt-LONGEST_NEW_RECORD
+returns-then-size-gt-LONGEST_NEW_RECORD c =
     let a = c.args in
-    settled_refused _ a.room.now NoRoom (empty_cramped a.table.now (length a.room.now) (is_table (goal.at.returns-then-room-size c).Else-not-valid) (omega (arith, size_is (goal.at.returns-then-room-size c).After-empty_length-size)))
+    let d = goal.at.returns-then-size-gt-LONGEST_NEW_RECORD c in
+    settled_refused _ a.room.now NoRoom (empty_cramped a.table.now (length a.room.now) (is_table d.Else-not-valid) (omega (arith, size_is d.After-empty_length-size, c.then-size-gt-LONGEST_NEW_RECORD.either)))
 
 pub write_empty-requires : goal.write_empty-requires
 write_empty-requires c = (is_table (goal.at.write_empty-requires c).Else-not-valid, omega (arith, c.empty_length-size.ensures))
@@ -41,7 +39,7 @@ pub slice_bounds-put-end : goal.slice_bounds-put-end
 slice_bounds-put-end c = sym (length-take-le _ c.write_empty.new.out (omega arith))
 
 pub put-requires : goal.put-requires
-put-requires c = omega (arith, slice_bounds-put-end (goal.at.put-requires c).After-record-3-1)
+put-requires c = omega (arith, length-take-le c.empty_length-size.result c.write_empty.new.out (omega arith))
 
 pub returns : goal.returns
 unfolding empty_bytes

@@ -1,15 +1,6 @@
 -- `protocol::put_read_answer` meets its contract: the space is stored where the words end, and the length that is needed is written after it.
-use mathlib.Core.Path.{◌∙◌}
-use lib.ListN.{length-set}
 use Rattle.protocol.proofs.AnswerLine.{answers_read}
-use borrow.Author.Rules.{rules}
 use Rattle.protocol.proofs.put_read_answer.Goals as goal
-
-pub put_field-requires : goal.put_field-requires
-put_field-requires c = simp length-set (search rules)
-
-pub shape_of-out : goal.shape_of-out
-shape_of-out c = c.put_field.auto.out ∙ simp length-set (search rules)
 
 pub returns : goal.returns
 returns c =

@@ -1,40 +1,53 @@
 -- `reading::put_element` meets its contract: by what the element means, what is left after it ends and writes as it does with it.
-use mathlib.Core.Path.{refl, sym, subst, ◌∙◌}
+use Rattle.std.specs.Prelude.{Ok, Result}
+use Rattle.rules.specs.declared.Refusal.{Refusal}
+use Rattle.uses.specs.declared.Use.{Use}
+use mathlib.Core.Path.{◌≡◌, refl, ◌∙◌, ap, subst}
 use Rattle.tables.specs.Entries.{entries_of}
 use Rattle.uses.specs.Meant.{GoodUse, GoodMeaning}
 use Rattle.uses.specs.Meanings.{GoodScopes, GoodScopesOf}
-use Rattle.uses.specs.declared.Meant.{Meant}
 use Rattle.uses.proofs.Remembering.{span_known}
-use Rattle.reading.proofs.Putting.{at_fits, not_refused, puts_as, puts_nothing, puts_refused, puts_after, puts_items}
+use Rattle.reading.proofs.Passing.{handed_on}
+use Rattle.reading.proofs.Putting.{at_fits, puts_as, puts_nothing, puts_refused, puts_after, puts_items}
 use Rattle.reading.proofs.put_element.Goals as goal
-use Rattle.reading.proofs.put_element.Goals.{In-As}
+use Rattle.reading.proofs.put_element.Goals.{In_ok-u, In-Ok}
 
-held : (c : In-As) → GoodUse (entries_of c.args.t.now) c.args.f.now c.in-As.u
-held c = subst (GoodMeaning (entries_of c.args.t.now) c.args.f.now) c.in-As.is (c.use_of-m.ensures.held c.args.f.now c.requires.1)
+held : (c : In_ok-u) → GoodUse (entries_of c.args.t.now) c.args.f.now c.in_ok-u.u
+held c = subst (GoodMeaning (entries_of c.args.t.now) c.args.f.now) c.in_ok-u.was (c.use_of-m.ensures.held c.args.f.now c.requires.1)
 
-scoped : (c : In-As) → GoodScopes (entries_of c.args.t.now) c.in-As.u c.use_of-m.result.scopes
+scoped : (c : In_ok-u) → GoodScopes (entries_of c.args.t.now) c.in_ok-u.u c.use_of-m.result.scopes
 scoped c =
-    subst (λ (x : Meant). GoodScopesOf (entries_of c.args.t.now) x c.use_of-m.result.scopes) c.in-As.is (c.use_of-m.ensures.scoped c.args.f.now c.requires.1)
+    subst (λ (x : Result Use Refusal). GoodScopesOf (entries_of c.args.t.now) x c.use_of-m.result.scopes) c.in_ok-u.was (c.use_of-m.ensures.scoped c.args.f.now c.requires.1)
 
-pub returns-then-is_element_refused : goal.returns-then-is_element_refused
-returns-then-is_element_refused c = puts_nothing _ (sym c.is_element_refused.ensures ∙ c.if-is_element_refused.true)
+pub returns-in_err-items : goal.returns-in_err-items
+returns-in_err-items c = puts_as c.in_err-items.was (handed_on c.from_residual.result c.from_residual.ensures.1) (puts_nothing _)
+
+pub returns-in_err-u : goal.returns-in_err-u
+returns-in_err-u c =
+    puts_as c.in_ok-items.was (handed_on c.from_residual-in_err-u.result c.from_residual-in_err-u.ensures.1)
+    (puts_refused c.requires.1 c.use_of-m.ensures _ _ c.in_err-u.was)
 
 pub remember-requires : goal.remember-requires
-remember-requires c = (c.requires.0, span_known (entries_of c.args.t.now) c.args.f.now c.in-As.u (held (goal.at.remember-requires c).In-As), c.requires.2)
+remember-requires c = (c.requires.0, span_known (entries_of c.args.t.now) c.args.f.now c.in_ok-u.u (held (goal.at.remember-requires c).In_ok-u), c.requires.2)
+
+-- The items so far end at a place.
+standing : (c : In-Ok) → c.args.state ≡ Ok (Ok c.in-Ok.p)
+standing c = c.in_ok-items.was ∙ ap Ok c.in-Ok.is
 
 pub put_use-requires : goal.put_use-requires
-put_use-requires c = (c.requires.0, held (goal.at.put_use-requires c).In-As, scoped (goal.at.put_use-requires c).In-As, c.requires.3, (at_fits c.in-At.is c.requires.4.0, c.requires.4.1))
+put_use-requires c = (
+  c.requires.0,
+  held (goal.at.put_use-requires c).In_ok-u,
+  scoped (goal.at.put_use-requires c).In_ok-u,
+  c.requires.3,
+  (at_fits (standing (goal.at.put_use-requires c).In-Ok) c.requires.4.0, c.requires.4.1),
+)
 
-pub returns-in-Refused : goal.returns-in-Refused
-returns-in-Refused c = puts_refused c.requires.1 c.use_of-m.ensures _ _ c.in-Refused.is (sym c.is_element_refused.ensures ∙ c.if-is_element_refused.false)
+pub returns-in-Err : goal.returns-in-Err
+returns-in-Err c = let e = c.in_ok-items.was ∙ ap Ok c.in-Err.is in puts_as e e (puts_after c.requires.1 c.use_of-m.ensures c.in_ok-u.was c.remember.ensures _)
 
-pub returns-in-At : goal.returns-in-At
-returns-in-At c =
-    puts_as c.in-At.is c.after_items.ensures
-    (puts_items c.requires.1 c.use_of-m.ensures c.in-As.is c.remember.ensures _ _ c.put_use.ensures c.requires.3 (at_fits c.in-At.is c.requires.4.0) c.requires.4.1)
-
-pub returns-in-ItemRefused : goal.returns-in-ItemRefused
-returns-in-ItemRefused c = puts_as c.in-ItemRefused.is refl (puts_after c.requires.1 c.use_of-m.ensures c.in-As.is c.remember.ensures _)
-
-pub returns-in-ElementRefused : goal.returns-in-ElementRefused
-returns-in-ElementRefused c = absurd (not_refused _ (sym c.is_element_refused.ensures ∙ c.if-is_element_refused.false) _ c.in-ElementRefused.is)
+pub returns-in-Ok : goal.returns-in-Ok
+returns-in-Ok c =
+    let e = standing (goal.at.returns-in-Ok c).In-Ok in
+    puts_as e refl
+    (puts_items c.requires.1 c.use_of-m.ensures c.in_ok-u.was c.remember.ensures _ _ c.put_use.ensures c.requires.3 (at_fits e c.requires.4.0) c.requires.4.1)

@@ -1,5 +1,4 @@
 -- `taking::take` meets its contract: the uses that are left give what all of them give from the start.
-use Prim.Native.Nat.{◌-◌, ◌≤◌}
 use Rattle.rules.specs.Lists.{Bytes}
 use Rattle.tables.specs.Entries.{entries_of}
 use Rattle.uses.specs.Kept.{GoodUses}
@@ -8,8 +7,4 @@ use Rattle.taking.proofs.take.Given as goal
 
 abbrev pub invariant-loop-n : goal.invariant-loop-n
 invariant-loop-n l =
-    (l.n ≤ l.count)
-    × ((f : Bytes) → GoodUses (entries_of l.t) f l.kept l.count → Gone (entries_of l.t) f l.buffer l.kept l.n l.initial.list l.list l.initial.stage l.stage l.state)
-
-abbrev pub decreases-loop-n : goal.decreases-loop-n
-decreases-loop-n l = l.count - l.n
+    (f : Bytes) → GoodUses (entries_of l.t) f l.kept l.count → Gone (entries_of l.t) f l.buffer l.kept l.n l.initial.list l.list l.initial.stage l.stage l.state

@@ -10,7 +10,6 @@ use Rattle.rules.specs.Record.{Record}
 use Rattle.rules.specs.Update.{Assignment, update_plan}
 use Rattle.tables.specs.Entries.{entries_of, blank}
 use Rattle.tables.specs.Groups.{field_at}
-use Rattle.tables.proofs.Tables.{valid_most}
 use Rattle.records.specs.Places.{IsRecord}
 use Rattle.updating.specs.Laid.{cell_laid}
 use Rattle.updating.specs.New.{Assigns, Between}
@@ -24,44 +23,29 @@ use Rattle.updating.proofs.put_field.Goals.{After-highest_occurrence}
 -- Those are its old bytes, which stand from its part up to the next.
 old : (c : After-highest_occurrence) → c.highest_occurrence.result ≡ 0 → (r : Record) (ws : List Assignment) → IsRecord (entries_of c.args.t.now) c.args.b.now c.args.places.now r
     → Assigns (entries_of c.args.t.now) c.args.kept.now c.args.list.now c.args.stage.now ws
-    → Between (entries_of c.args.t.now) c.args.b.now c.args.i (c.args.i + 1) ((let es = entries_of c.args.t.now in cell_laid (update_plan (parts es) r ws) 1 (field_at es c.args.i)))
+    → Between (entries_of c.args.t.now) c.args.b.now c.args.i (c.args.i + 1) (cell_laid (update_plan (parts (entries_of c.args.t.now)) r ws) 1 (field_at (entries_of c.args.t.now) c.args.i))
 old c z r ws p a =
     let es = entries_of c.args.t.now in
     field_kept c.args.t.now c.requires.0 p a c.args.i c.requires.1 c.requires.2 c.requires.3
     (sym (c.highest_occurrence.ensures.0 es a.format a.count c.args.stage.now ws a.indexed (alone (field_at es c.args.i))
     (alone_fields es c.args.i c.requires.1 c.requires.2) (omega (arith, c.requires.1))) ∙ z)
 
-pub overflow_add-i : goal.overflow_add-i
-overflow_add-i c = omega (arith, c.requires.1, valid_most c.args.t.now c.requires.0)
-
 pub highest_occurrence-requires : goal.highest_occurrence-requires
 highest_occurrence-requires c =
     let (ws, a) = c.requires.4.1 in
     (omega arith, (entries_of c.args.t.now, a.format, a.count, c.args.stage.now, ws, a.indexed, omega (arith, c.requires.1)))
 
-pub overflow_add-i-then-highest_occurrence-eq0 : goal.overflow_add-i-then-highest_occurrence-eq0
-overflow_add-i-then-highest_occurrence-eq0 c = omega (arith, c.requires.1, valid_most c.args.t.now c.requires.0)
-
 pub put_kept-requires : goal.put_kept-requires
-put_kept-requires c = (c.requires.0, omega arith, omega (arith, c.requires.1), c.requires.4.0, ((let es = entries_of c.args.t.now in cell_laid (update_plan (parts es) c.requires.4.0.0 c.requires.4.1.0) 1 (field_at es c.args.i)), old (goal.at.put_kept-requires c).After-highest_occurrence c.if-highest_occurrence-eq0.true c.requires.4.0.0 c.requires.4.1.0 c.requires.4.0.1 c.requires.4.1.1), c.requires.5)
-
-pub shape_of-out-then-highest_occurrence-eq0 : goal.shape_of-out-then-highest_occurrence-eq0
-shape_of-out-then-highest_occurrence-eq0 c = (c.put_kept.ensures ((let es = entries_of c.args.t.now in cell_laid (update_plan (parts es) c.requires.4.0.0 c.requires.4.1.0) 1 (field_at es c.args.i))) (old (goal.at.shape_of-out-then-highest_occurrence-eq0 c).After-highest_occurrence c.if-highest_occurrence-eq0.true c.requires.4.0.0 c.requires.4.1.0 c.requires.4.0.1 c.requires.4.1.1)).same
+put_kept-requires c =
+    let (r, p) = c.requires.4.0 in
+    let (ws, a) = c.requires.4.1 in
+    (c.requires.0, omega arith, omega (arith, c.requires.1), (r, p), (_, old (goal.at.put_kept-requires c).After-highest_occurrence c.if-highest_occurrence-eq0.true r ws p a), c.requires.5)
 
 pub returns-then-highest_occurrence-eq0 : goal.returns-then-highest_occurrence-eq0
-returns-then-highest_occurrence-eq0 c r ws p a = c.put_kept.ensures ((let es = entries_of c.args.t.now in cell_laid (update_plan (parts es) r ws) 1 (field_at es c.args.i))) (old (goal.at.returns-then-highest_occurrence-eq0 c).After-highest_occurrence c.if-highest_occurrence-eq0.true r ws p a)
-
-pub outside_cell-had-requires : goal.outside_cell-had-requires
-outside_cell-had-requires c = (c.requires.0, c.requires.1, c.requires.2, c.requires.3)
-
-pub overflow_add-i-2 : goal.overflow_add-i-2
-overflow_add-i-2 c = omega (arith, c.requires.1, valid_most c.args.t.now c.requires.0)
+returns-then-highest_occurrence-eq0 c r ws p a = c.put_kept.ensures _ (old (goal.at.returns-then-highest_occurrence-eq0 c).After-highest_occurrence c.if-highest_occurrence-eq0.true r ws p a)
 
 pub put_members-requires : goal.put_members-requires
 put_members-requires c = (c.requires.0, omega (arith, c.requires.1), omega arith, omega arith, c.requires.4, (λ r held less. inr (refl, c.outside_cell-had.ensures r held)), c.requires.5)
-
-pub shape_of-out : goal.shape_of-out
-shape_of-out c = (c.put_members.ensures c.requires.4.0.0 c.requires.4.1.0 c.requires.4.0.1 c.requires.4.1.1).same
 
 pub returns : goal.returns
 unfolding field_at

@@ -3,9 +3,6 @@ use native.Mathlib.Omega.{arith}
 use Rattle.assignments.proofs.Linking.{indexed_single, indexed_widened}
 use Rattle.assignments.proofs.chains.index.Goals as goal
 
-pub link_all-requires : goal.link_all-requires
-link_all-requires c = c.requires
-
 pub returns-then-list-gt0 : goal.returns-then-list-gt0
 returns-then-list-gt0 c f stage ws x o = indexed_widened (c.link_all.ensures f stage ws x) o c.put_widths.ensures
 

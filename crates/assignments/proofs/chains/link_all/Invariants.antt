@@ -5,6 +5,3 @@ use Rattle.assignments.proofs.chains.link_all.Given as goal
 
 abbrev pub invariant-loop-n : goal.invariant-loop-n
 invariant-loop-n l = Linking (entries_of l.t) l.kept l.count l.initial.list l.list l.n
-
-abbrev pub decreases-loop-n : goal.decreases-loop-n
-decreases-loop-n l = l.n

@@ -11,14 +11,8 @@ use Rattle.assignments.proofs.finding.cell_start.Goals.{After-span_at-s}
 here : (c : After-span_at-s) → CellSpan c.span_at-s.result c.args.i c.args.o
 here c = cell_span c.requires.4 c.span_at-s.ensures
 
-pub overflow_cast-at : goal.overflow_cast-at
-overflow_cast-at c = omega (arith, c.type_inv.list (note_place c.args.n))
-
 pub overflow_sub-values : goal.overflow_sub-values
 overflow_sub-values c = omega (arith, (here (goal.at.overflow_sub-values c).After-span_at-s).occurrences.0)
-
-pub overflow_add-values : goal.overflow_add-values
-overflow_add-values c = omega (arith, (here (goal.at.overflow_add-values c).After-span_at-s).values.2)
 
 pub overflow_sub-values-2 : goal.overflow_sub-values-2
 overflow_sub-values-2 c = omega (arith, (here (goal.at.overflow_sub-values-2 c).After-span_at-s).values.1)
@@ -26,40 +20,19 @@ overflow_sub-values-2 c = omega (arith, (here (goal.at.overflow_sub-values-2 c).
 pub overflow_mul-values : goal.overflow_mul-values
 overflow_mul-values c = omega (arith, values_few (here (goal.at.overflow_mul-values c).After-span_at-s))
 
-pub overflow_add-s : goal.overflow_add-s
-overflow_add-s c = let h = here (goal.at.overflow_add-s c).After-span_at-s in omega (arith, h.entries.0, h.entries.1, h.entries.2)
-
 pub values_end-requires : goal.values_end-requires
 values_end-requires c = (single_starts c.requires.4, ((field_at c.requires.0 c.args.i).format, starts_end c.requires.4 c.span_at-s.ensures c.if-s.true))
 
 pub returns-then-s : goal.returns-then-s
 returns-then-s c es f count ws b = starts_single b c.span_at-s.ensures c.if-s.true c.values_end.result (c.values_end.ensures (field_at es c.args.i).format)
 
-pub overflow_add-first : goal.overflow_add-first
-overflow_add-first c = let h = here (goal.at.overflow_add-first c).After-span_at-s in omega (arith, h.entries.0, h.entries.1, h.entries.2)
-
-pub offset_bounds-list-s : goal.offset_bounds-list-s
-offset_bounds-list-s c = let h = here (goal.at.offset_bounds-list-s c).After-span_at-s in omega (arith, h.entries.0, h.entries.1, h.entries.2)
-
 pub bounds-list-s : goal.bounds-list-s
 bounds-list-s c =
     let h = here (goal.at.bounds-list-s c).After-span_at-s in
     omega (arith, h.entries.0, h.entries.1, h.entries.2, c.requires.4.indexed.listed.room)
 
-pub overflow_cast-first : goal.overflow_cast-first
-overflow_cast-first c = omega (arith, c.type_inv.list (widths_from + c.span_at-s.result.first))
-
-pub overflow_add-width : goal.overflow_add-width
-overflow_add-width c = let h = here (goal.at.overflow_add-width c).After-span_at-s in omega (arith, h.entries.2)
-
-pub offset_bounds-list-s-2 : goal.offset_bounds-list-s-2
-offset_bounds-list-s-2 c = let h = here (goal.at.offset_bounds-list-s-2 c).After-span_at-s in omega (arith, h.entries.2)
-
 pub bounds-list-s-2 : goal.bounds-list-s-2
 bounds-list-s-2 c = omega (arith, (here (goal.at.bounds-list-s-2 c).After-span_at-s).entries.2, c.requires.4.indexed.listed.room)
-
-pub overflow_cast-width : goal.overflow_cast-width
-overflow_cast-width c = omega (arith, c.type_inv.list (widths_from + c.span_at-s.result.end))
 
 pub overflow_sub-width : goal.overflow_sub-width
 overflow_sub-width c =
@@ -76,20 +49,6 @@ overflow_add-result c =
     let w = c.type_inv.list (widths_from + c.span_at-s.result.end) in
     let a = c.type_inv.list (note_place c.args.n) in
     omega (arith, a, widths_few (here (goal.at.overflow_add-result c).After-span_at-s) (width_noted c.args.list.now c.span_at-s.result.end - width_noted c.args.list.now c.span_at-s.result.first) (omega (arith, w)))
-
-pub overflow_add-result-2 : goal.overflow_add-result-2
-overflow_add-result-2 c = let h = here (goal.at.overflow_add-result-2 c).After-span_at-s in omega (arith, h.entries.1, h.entries.2)
-
-pub offset_bounds-list-i : goal.offset_bounds-list-i
-offset_bounds-list-i c = let h = here (goal.at.offset_bounds-list-i c).After-span_at-s in omega (arith, h.entries.1, h.entries.2)
-
-pub bounds-list-i : goal.bounds-list-i
-bounds-list-i c =
-    let h = here (goal.at.bounds-list-i c).After-span_at-s in
-    omega (arith, h.entries.1, h.entries.2, c.requires.4.indexed.listed.room)
-
-pub overflow_cast-result : goal.overflow_cast-result
-overflow_cast-result c = omega (arith, c.type_inv.list (widths_from + c.args.i))
 
 pub overflow_sub-result : goal.overflow_sub-result
 overflow_sub-result c = omega (arith, (several_noted c.requires.4 c.span_at-s.ensures c.if-s.false).0)

@@ -1,19 +1,10 @@
 use mathlib.Core.Path.{sym, ◌∙◌}
-use Prim.Native.Nat.{◌+◌, ◌-◌}
-use native.Mathlib.Omega.{arith}
-use Rattle.assignments.specs.Notes.{note_place}
 use Rattle.assignments.proofs.Searching.{Walk, walk_room, walk_falls, seek_start, seek_on, seek_found, seek_end}
 use Rattle.assignments.proofs.finding.in_chain.Goals as goal
 use Rattle.assignments.proofs.finding.in_chain.Goals.{At-loop-n}
 
 walk : (l : At-loop-n) → Walk l.args.kept.now l.args.list.now l.args.chain l.requires.0.2 l.loop-n.n
 walk l = (l.loop-n.invariant.1 l.requires.0.0 l.requires.0.1 l.requires.0.2 l.requires.0.3 l.requires.0.4 l.requires.0.5).0
-
-pub bounds-list-chain : goal.bounds-list-chain
-bounds-list-chain c = omega (arith, c.requires.0.5.listed.room, c.requires.1)
-
-pub overflow_cast-n : goal.overflow_cast-n
-overflow_cast-n c = omega (arith, c.type_inv.list c.args.chain)
 
 pub loop-n-init : goal.loop-n-init
 loop-n-init c =
@@ -25,9 +16,6 @@ pub returns-then-names : goal.returns-then-names
 returns-then-names c =
     let a = c.args in
     seek_found a.kept.now a.list.now a.chain a.i a.o c.requires.1 c.loop-n.n c.loop-n.invariant.1 c.loop-n-test.true (sym c.names.ensures ∙ c.if-names.true)
-
-pub overflow_cast-n-in-loop-n : goal.overflow_cast-n-in-loop-n
-overflow_cast-n-in-loop-n c = omega (arith, c.type_inv.list (note_place (c.loop-n.n - 1) + 1))
 
 pub loop-n-smaller : goal.loop-n-smaller
 loop-n-smaller c = walk_falls c.requires.0.5 c.requires.1 (walk (goal.at.loop-n-smaller c).At-loop-n) c.loop-n-test.true

@@ -1,7 +1,7 @@
 -- `decimals::conversion::convert_digits` meets its contract, by the two formats.
 use mathlib.Core.Path.{◌≡◌, ap, ◌∙◌}
 use mathlib.Core.Bool.{Bool, true, false, not, beq}
-use Rattle.rules.proofs.Bools.{beq_true, beq_false}
+use Rattle.rules.proofs.Bools.{beq_false}
 use Rattle.decimals.proofs.Sound.{sound, readable}
 use Rattle.decimals.proofs.conversion.convert_digits.Goals as goal
 
@@ -18,18 +18,3 @@ pub unpack_digits-requires : goal.unpack_digits-requires
 unpack_digits-requires c =
     let v = readable (sound c.args.packed c.args.s.now c.requires.0) c.requires.1 in
     (rw (other c.args.packed c.args.target false c.if-packed-target.false c.if-target.false) at v, c.requires.2, c.requires.3)
-
-pub returns-then-packed-target : goal.returns-then-packed-target
-returns-then-packed-target c =
-    let a = c.args in
-    rw (← beq_true a.packed a.target c.if-packed-target.true) c.copy_digits.ensures
-
-pub returns-then-target : goal.returns-then-target
-returns-then-target c =
-    let a = c.args in
-    rw (c.if-target.true, other a.packed a.target true c.if-packed-target.false c.if-target.true) c.pack_digits.ensures
-
-pub returns-else-target : goal.returns-else-target
-returns-else-target c =
-    let a = c.args in
-    rw (c.if-target.false, other a.packed a.target false c.if-packed-target.false c.if-target.false) c.unpack_digits.ensures

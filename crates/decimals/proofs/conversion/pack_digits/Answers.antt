@@ -13,7 +13,7 @@ loop-i-init c = (rw (unpacked_but_one c.requires.0) (writing_start (omega arith)
 
 pub loop-i-preserved : goal.loop-i-preserved
 unfolding places byte_base
-loop-i-preserved c = (writing_turn c.loop-i.invariant.0 c.loop-i-test.true refl c.last_pair.ensures (rw c.back-j.ensures (first_two_less c.requires.0 c.loop-i.j c.loop-i.invariant.1)), omega arith)
+loop-i-preserved c = (writing_turn c.loop-i.invariant.0 c.loop-i-test.true refl c.last_pair.ensures (rw c.saturating_sub-j.ensures (first_two_less c.requires.0 c.loop-i.j c.loop-i.invariant.1)), omega arith)
 
 pub returns : goal.returns
 returns c = writing_end c.loop-i.invariant.0 c.loop-i-test.false

@@ -10,6 +10,3 @@ use Rattle.decimals.proofs.conversion.pack_digits.Given as goal
 abbrev pub invariant-loop-i : goal.invariant-loop-i
 invariant-loop-i l =
     Writing true (l.n - 1) (magnitude_of false l.s / 10) l.at l.initial.out l.out (first_spelled false l.s l.j) l.i × (l.j ≤ length l.s)
-
-abbrev pub decreases-loop-i : goal.decreases-loop-i
-decreases-loop-i l = l.i

@@ -14,7 +14,7 @@ loop-i-init c = (rw (packed_but_one c.requires.0) (writing_start (omega arith)),
 
 pub loop-i-preserved : goal.loop-i-preserved
 unfolding places byte_base inner_written
-loop-i-preserved c = (writing_turn c.loop-i.invariant.0 c.loop-i-test.true refl (ap (λ d. 0xF0 + d) c.last_half.ensures) (rw c.back-j.ensures (first_less c.requires.0 c.loop-i.j (omega arith))), omega arith)
+loop-i-preserved c = (writing_turn c.loop-i.invariant.0 c.loop-i-test.true refl (ap (λ d. 0xF0 + d) c.last_half.ensures) (rw c.saturating_sub-j.ensures (first_less c.requires.0 c.loop-i.j (omega arith))), omega arith)
 
 pub returns : goal.returns
 returns c = writing_end c.loop-i.invariant.0 c.loop-i-test.false

@@ -10,6 +10,3 @@ use Rattle.decimals.proofs.conversion.unpack_digits.Given as goal
 abbrev pub invariant-loop-i : goal.invariant-loop-i
 invariant-loop-i l =
     Writing false (l.n - 1) (magnitude_of true l.s / 10) l.at l.initial.out l.out (first_spelled true l.s l.j) l.i × (l.j < 2 * length l.s)
-
-abbrev pub decreases-loop-i : goal.decreases-loop-i
-decreases-loop-i l = l.i

@@ -1,15 +1,14 @@
-use borrow.Author.Tests.{eq-eqb, ne_eqb}
-use Rattle.buffer.proofs.Loops.{back_start, back_turn, back_stop, back_end}
+-- `decimals::digits::zeros_before` meets its contract: from the right all bytes answer as from the left.
+use Rattle.std.proofs.Common.{rules, tests, ◌∙◌, eqb, take}
+use Rattle.std.proofs.lemmas.Iterator.Adapters.{YieldsList-from_rev_slice}
+use Rattle.std.proofs.lemmas.Iterator.Search.{all_from_yields_List}
+use Rattle.decimals.proofs.Meanings.{all_reversed}
 use Rattle.decimals.proofs.digits.zeros_before.Goals as goal
 
-pub loop-i-init : goal.loop-i-init
-loop-i-init c = back_start c.requires
-
-pub returns-then-s-i : goal.returns-then-s-i
-returns-then-s-i c = back_stop c.loop-i.invariant c.loop-i-test.true (rw (← c.zero_byte-zeros.ensures) (ne_eqb _ _ c.if-s-i.true))
-
-pub loop-i-preserved : goal.loop-i-preserved
-loop-i-preserved c = back_turn c.loop-i.invariant c.loop-i-test.true (rw (← c.zero_byte-zeros.ensures) (eq-eqb _ _ c.if-s-i.false))
-
 pub returns : goal.returns
-returns c = back_end c.loop-i.invariant c.loop-i-test.false
+returns c =
+    let front = take c.args.n c.args.s.now in
+    let zeros = c.zero_byte-zeros in
+    rw (← zeros.ensures)
+    (all_from_yields_List (λ b. eqb b zeros.result) _ _ _ c.all.ensures.ran (YieldsList-from_rev_slice front cc) (λ x b q k. search (rules, tests))
+    ∙ all_reversed (λ b. eqb b zeros.result) front)

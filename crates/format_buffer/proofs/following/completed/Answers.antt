@@ -1,8 +1,18 @@
 -- `format_buffer::following::completed` meets its contract: a name may have a length and a format, any other element neither.
-use mathlib.Core.Path.{refl}
+use mathlib.Core.Path.{◌≡◌, refl}
 use native.Mathlib.Omega.{arith}
-use Rattle.format_buffer.proofs.StepLaws.{stepped_at, only_settled}
+use Rattle.format_buffer.specs.declared.Named.{Named}
+use Rattle.format_buffer.specs.declared.Element.{Element}
+use Rattle.format_buffer.specs.declared.Element.TheVariants as code
+use Rattle.format_buffer.proofs.StepLaws.{nameless, stepped_at, only_settled}
 use Rattle.format_buffer.proofs.following.completed.Goals as goal
+
+no_name : (e : Element) → ((n : Named) → e ≡ code.Named n → ⊥) → nameless e
+no_name (code.Blanks n) h = record {}
+no_name (code.Text from upto) h = record {}
+no_name (code.Named n) h = h n refl
+no_name (code.Count c) h = record {}
+no_name (code.Series first last) h = record {}
 
 pub length_after-requires : goal.length_after-requires
 length_after-requires c =
@@ -12,22 +22,7 @@ length_after-requires c =
 pub returns-in-Named : goal.returns-in-Named
 returns-in-Named c = rw c.in-Named.is c.length_after.ensures
 
-pub returns-in-Blanks : goal.returns-in-Blanks
-returns-in-Blanks c from h =
+pub returns-in_default : goal.returns-in_default
+returns-in_default c from h =
     let a = c.args in
-    stepped_at (only_settled a.f.now a.end a.e (rw c.in-Blanks.is tt)) refl (omega arith) c.requires.0 c.requires.1
-
-pub returns-in-Text : goal.returns-in-Text
-returns-in-Text c from h =
-    let a = c.args in
-    stepped_at (only_settled a.f.now a.end a.e (rw c.in-Text.is tt)) refl (omega arith) c.requires.0 c.requires.1
-
-pub returns-in-Count : goal.returns-in-Count
-returns-in-Count c from h =
-    let a = c.args in
-    stepped_at (only_settled a.f.now a.end a.e (rw c.in-Count.is tt)) refl (omega arith) c.requires.0 c.requires.1
-
-pub returns-in-Series : goal.returns-in-Series
-returns-in-Series c from h =
-    let a = c.args in
-    stepped_at (only_settled a.f.now a.end a.e (rw c.in-Series.is tt)) refl (omega arith) c.requires.0 c.requires.1
+    stepped_at (only_settled a.f.now a.end a.e (no_name a.e c.in_default.not-Named)) refl (omega arith) c.requires.0 c.requires.1

@@ -31,22 +31,22 @@ returns-then-first-last c =
     let a = c.args in
     piece_nothing a.f.now a.first a.last (omega arith) c.if-first-last.true
 
-pub returns-in_default : goal.returns-in_default
-returns-in_default c = refused_as (goal.at.returns-in_default c).Then-is_digit ∙ rw (numbered_bad c.number_first.ensures c.in_default.is) refl
+pub returns-in_err-n : goal.returns-in_err-n
+returns-in_err-n c = rw c.from_residual.ensures (refused_as (goal.at.returns-in_err-n c).Then-is_digit ∙ rw (numbered_bad c.number_first.ensures c.in_err-n.was) refl)
 
 pub returns-then-p-last : goal.returns-then-p-last
 returns-then-p-last c =
-    let v = numbered_value c.number_first.ensures c.in-Value.is in
+    let v = numbered_value c.number_first.ensures c.in_ok-n.was in
     only_from (refused_as (goal.at.returns-then-p-last c).Then-is_digit ∙ number_read v.0) (number_only _ c.args.f.now _ c.args.last (omega (arith, v.1)) (omega arith))
 
 pub returns-then-n-gt-GREATEST_LENGTH : goal.returns-then-n-gt-GREATEST_LENGTH
 returns-then-n-gt-GREATEST_LENGTH c =
-    let v = numbered_value c.number_first.ensures c.in-Value.is in
+    let v = numbered_value c.number_first.ensures c.in_ok-n.was in
     refused_as (goal.at.returns-then-n-gt-GREATEST_LENGTH c).Then-is_digit ∙ number_read v.0 ∙ number_large _ c.args.f.now _ c.args.last c.if-p-last.false (omega arith)
 
 pub returns-then-is_digit : goal.returns-then-is_digit
 returns-then-is_digit c =
-    let v = numbered_value c.number_first.ensures c.in-Value.is in
+    let v = numbered_value c.number_first.ensures c.in_ok-n.was in
     (refused_as (goal.at.returns-then-is_digit c).Then-is_digit ∙ number_read v.0 ∙ number_length _ c.args.f.now _ c.args.last c.if-p-last.false (omega arith), omega arith)
 
 pub returns-then-is_override : goal.returns-then-is_override

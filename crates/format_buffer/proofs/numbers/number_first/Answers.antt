@@ -1,5 +1,5 @@
 use mathlib.Core.Bool.{not}
-use mathlib.Core.Path.{sym, ◌∙◌, ap}
+use mathlib.Core.Path.{◌≡◌, sym, ◌∙◌, ap}
 use native.Mathlib.Omega.{arith}
 use borrow.Author.Tests.{not-true, not-false}
 use Rattle.format_buffer.proofs.Digits.{read_first, read_turn, read_stop, read_end, read_value, read_nothing, read_none}
@@ -26,13 +26,10 @@ digit_of-n-requires c = sym c.is_digit.ensures ∙ not-false c.is_digit.result (
 pub loop-i-init : goal.loop-i-init
 loop-i-init c = read_first (omega arith) (omega arith) (sym c.is_digit.ensures ∙ not-false c.is_digit.result (ap not c.if-not-is_digit.false)) c.digit_of-n.ensures.0 c.digit_of-n.ensures.1
 
-pub bounds-f-i : goal.bounds-f-i
-bounds-f-i c = omega (arith, c.loop-i.invariant.room)
-
 pub returns-then-not-is_digit-2 : goal.returns-then-not-is_digit-2
 returns-then-not-is_digit-2 c =
     record {
-      answer = read_stop c.loop-i.invariant c.loop-i-test.true (sym c.is_digit-in-loop-i.ensures ∙ not-true c.is_digit-in-loop-i.result (ap not c.if-not-is_digit-2.true));
+      answer = read_stop c.loop-i.invariant (omega arith) (sym c.is_digit-in-loop-i.ensures ∙ not-true c.is_digit-in-loop-i.result (ap not c.if-not-is_digit-2.true));
       place = (omega arith, omega arith, read_value c.loop-i.invariant);
     }
 
@@ -47,8 +44,11 @@ overflow_add-n c = omega (arith, c.digit_of.ensures.1, read_value c.loop-i.invar
 
 pub loop-i-preserved : goal.loop-i-preserved
 loop-i-preserved c =
-    read_turn c.loop-i.invariant c.loop-i-test.true
+    read_turn c.loop-i.invariant (omega arith)
     (sym c.is_digit-in-loop-i.ensures ∙ not-false c.is_digit-in-loop-i.result (ap not c.if-not-is_digit-2.false)) (λ e. omega arith) c.digit_of.ensures.0 c.digit_of.ensures.1
 
 pub returns : goal.returns
-returns c = record { answer = read_end c.loop-i.invariant c.loop-i-test.false; place = (omega arith, omega arith, read_value c.loop-i.invariant) }
+returns c =
+    let e : c.loop-i.i ≡ c.args.upto = omega arith in
+    let w = read_end c.loop-i.invariant (omega arith) in
+    record { answer = rw e at w; place = (omega arith, omega arith, read_value c.loop-i.invariant) }

@@ -1,10 +1,6 @@
 -- `format_buffer::numbers::number_first` meets its contract: at each turn what is left to read spells the number as the whole does.
-use Prim.Native.Nat.{◌-◌}
 use Rattle.format_buffer.proofs.Digits.{Read}
 use Rattle.format_buffer.proofs.numbers.number_first.Given as goal
 
 abbrev pub invariant-loop-i : goal.invariant-loop-i
 invariant-loop-i l = Read l.f l.at l.upto l.n l.i
-
-abbrev pub decreases-loop-i : goal.decreases-loop-i
-decreases-loop-i l = l.upto - l.i

@@ -6,7 +6,4 @@ use Rattle.format_buffer.specs.Part.{part}
 use Rattle.format_buffer.proofs.texts.last_place.Given as goal
 
 abbrev pub invariant-loop-i : goal.invariant-loop-i
-invariant-loop-i l = (l.at ≤ l.i) × (l.i ≤ l.upto) × (strip (part l.f l.at l.i) ≡ strip (part l.f l.at l.upto))
-
-abbrev pub decreases-loop-i : goal.decreases-loop-i
-decreases-loop-i l = l.i
+invariant-loop-i l = (l.at ≤ l.i) × (strip (part l.f l.at l.i) ≡ strip (part l.f l.at l.upto))

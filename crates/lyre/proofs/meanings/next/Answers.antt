@@ -9,5 +9,5 @@ use Rattle.lyre.proofs.meanings.next.Goals as goal
 pub remember-requires : goal.remember-requires
 remember-requires c =
     let es = entries_of c.args.t.now in
-    let s = step_as c.in-At.is c.next.ensures in
-    (c.requires.0, span_known es c.args.f.now c.in-As.u (subst (GoodMeaning es c.args.f.now) c.in-As.is (c.use_of-m.ensures.held c.args.f.now s.place.2)), c.requires.2)
+    let s = step_as c.in_ok-e.ensures.ok_part c.next.ensures in
+    (c.requires.0, span_known es c.args.f.now c.in_ok-u.u (subst (GoodMeaning es c.args.f.now) c.in_ok-u.was (c.use_of-m.ensures.held c.args.f.now s.place.2)), c.requires.2)

@@ -8,18 +8,15 @@ use Rattle.tables.specs.Entries.{entries_of}
 use Rattle.lyrecanyon.specs.Making.{given}
 use Rattle.lyrecanyon.proofs.Makings.{take_least, makes_by}
 use Rattle.lyrecanyon.proofs.making.make_limited.Goals as goal
-use Rattle.lyrecanyon.proofs.making.make_limited.Goals.{After-least-end}
+use Rattle.lyrecanyon.proofs.making.make_limited.Goals.{After-min-end}
 
-cut : (c : After-least-end) → take longest_items c.args.buffer.now ≡ take c.least-end.result c.args.buffer.now
-cut c = sym (ap (λ n. take n c.args.buffer.now) c.least-end.ensures ∙ take_least c.args.buffer.now longest_items)
+cut : (c : After-min-end) → take longest_items c.args.buffer.now ≡ take c.min-end.result c.args.buffer.now
+cut c = sym (ap (λ n. take n c.args.buffer.now) c.min-end.ensures ∙ take_least c.args.buffer.now longest_items)
 
 pub slice_bounds-make_items-end : goal.slice_bounds-make_items-end
-slice_bounds-make_items-end c = sym (length-take-le _ c.args.buffer.now (omega (arith, c.least-end.ensures)))
-
-pub make_items-requires : goal.make_items-requires
-make_items-requires c = (c.requires.0, c.requires.1, c.requires.2, c.requires.3, c.requires.4)
+slice_bounds-make_items-end c = sym (length-take-le _ c.args.buffer.now (omega (arith, c.min-end.ensures)))
 
 pub returns : goal.returns
 returns c f a r held =
     let es = entries_of c.args.table.now in
-    makes_by es r _ c.make_items.result (ap (given es f c.args.kept.now c.args.count) (cut (goal.at.returns c).After-least-end)) (c.make_items.ensures f a r held)
+    makes_by es r _ c.make_items.result (ap (given es f c.args.kept.now c.args.count) (cut (goal.at.returns c).After-min-end)) (c.make_items.ensures f a r held)

@@ -1,26 +1,11 @@
 -- `reading::spans::adjacent_count` meets its contract: in a periodic group that is asked for whole, the occurrences that exist stand together.
 use mathlib.Core.Path.{sym, ◌∙◌, subst}
 use Prim.Native.Nat.{ℕ}
-use native.Mathlib.Omega.{arith}
 use Rattle.tables.specs.Entries.{entries_of}
-use Rattle.tables.proofs.Tables.{valid_most}
 use Rattle.reading.specs.Spans.{Adjacent}
 use Rattle.reading.proofs.SpanItems.{bounds}
-use Rattle.reading.proofs.Adjacents.{group_of, adjacent_none, adjacent_some}
+use Rattle.reading.proofs.Adjacents.{adjacent_none, adjacent_some}
 use Rattle.reading.proofs.spans.adjacent_count.Goals as goal
-
-pub overflow_add-path : goal.overflow_add-path
-overflow_add-path c =
-    let g = group_of c.requires.1 c.requires.2 c.requires.3 c.if-path.true in
-    omega (arith, g.0, valid_most c.args.t.now c.requires.0)
-
-pub group_end-requires : goal.group_end-requires
-group_end-requires c = (c.requires.0, (group_of c.requires.1 c.requires.2 c.requires.3 c.if-path.true).0)
-
-pub group_count-count-requires : goal.group_count-count-requires
-group_count-count-requires c =
-    let g = group_of c.requires.1 c.requires.2 c.requires.3 c.if-path.true in
-    (c.requires.0, g.0, g.1, c.requires.4)
 
 pub occurrences_existing-requires : goal.occurrences_existing-requires
 occurrences_existing-requires c =
@@ -34,11 +19,5 @@ returns-then-s-group_end c =
     c.if-path.true c.if-s-path.true (c.if-s-group_end.true ∙ c.group_end.ensures) in
     subst (λ (n : ℕ). Adjacent (entries_of a.t.now) a.b.now a.places.now a.s a.path n) (sym c.occurrences_existing.ensures) whole
 
-pub returns-else-s-group_end : goal.returns-else-s-group_end
-returns-else-s-group_end c = adjacent_none c.args.b.now c.args.places.now c.requires.1 c.args.path
-
-pub returns-else-s-path : goal.returns-else-s-path
-returns-else-s-path c = adjacent_none c.args.b.now c.args.places.now c.requires.1 c.args.path
-
-pub returns-else-path : goal.returns-else-path
-returns-else-path c = adjacent_none c.args.b.now c.args.places.now c.requires.1 c.args.path
+pub returns : goal.returns
+returns c = adjacent_none c.args.b.now c.args.places.now c.requires.1 c.args.path

@@ -1,43 +1,14 @@
 -- `reading::spans::piece` meets its contract: the span lies in one periodic group, or outside of all.
 use mathlib.Core.Path.{◌≡◌, sym, subst}
 use mathlib.Core.Bool.{false}
-use Prim.Native.Nat.{ℕ, ◌<◌}
+use Prim.Native.Nat.{ℕ}
 use native.Mathlib.Omega.{arith}
-use lib.Seq.{slice}
 use Rattle.tables.specs.Entries.{entries_of}
-use Rattle.tables.specs.Places.{inside_at, Home}
-use Rattle.tables.specs.Groups.{fields_in}
-use Rattle.records.specs.Paths.{Wide}
+use Rattle.tables.specs.Places.{inside_at}
 use Rattle.records.specs.Places.{PieceOf}
-use Rattle.records.proofs.Placed.{home_before}
 use Rattle.reading.proofs.Pieces.{row_single}
 use Rattle.reading.proofs.spans.piece.Goals as goal
 use Rattle.reading.proofs.spans.piece.Goals.{Else-path}
-
-pub piece_inside-requires : goal.piece_inside-requires
-piece_inside-requires c =
-    let a = c.args in
-    let es = entries_of a.t.now in
-    let g = a.path.group in
-    let home = subst (λ (j : ℕ). Home es j g) c.requires.3.entry (c.requires.3.leads.home c.if-path.true) in (
-      c.requires.0,
-      subst (λ (j : ℕ). g < j) (sym c.requires.3.entry) (home_before es a.s.first g c.requires.1.begins home),
-      (
-        omega (arith, c.requires.3.entry, c.requires.1.ordered),
-        c.requires.1.upto,
-        (c.requires.1.one_group c.requires.2 g home).0,
-        c.requires.4,
-        c.requires.3.leads,
-        c.if-path.true,
-        subst (λ (j : ℕ). Wide (fields_in (slice j a.s.end es)) a.width) (sym c.requires.3.entry) (c.requires.3.wide c.if-path.true),
-        c.requires.6,
-      ),
-    )
-
-pub returns-then-path : goal.returns-then-path
-returns-then-path c r held =
-    let a = c.args in
-    subst (λ (j : ℕ). PieceOf (entries_of a.t.now) a.b.now j a.s.end a.o r c.piece_inside.result) c.requires.3.entry (c.piece_inside.ensures r held)
 
 outside : (c : Else-path) → inside_at (entries_of c.args.t.now) c.args.s.first ≡ false
 outside c =

@@ -1,5 +1,4 @@
 -- `reading::spans::put_column` meets its contract: the occurrences that are left fill the buffer as all of them do from the start.
-use Prim.Native.Nat.{◌+◌, ◌-◌, ◌≤◌}
 use Rattle.tables.specs.Entries.{entries_of}
 use Rattle.reading.specs.Spans.{scoped_items}
 use Rattle.reading.proofs.Running.{Running}
@@ -7,8 +6,4 @@ use Rattle.reading.proofs.spans.put_column.Given as goal
 
 abbrev pub invariant-loop-o : goal.invariant-loop-o
 invariant-loop-o l =
-    Running (entries_of l.t) l.b l.places l.end (λ r. scoped_items (entries_of l.t) r l.s l.scope l.s.from) (λ r. scoped_items (entries_of l.t) r l.s l.scope l.o) l.at l.p l.write l.initial.out l.out
-    × (1 ≤ l.o)
-
-abbrev pub decreases-loop-o : goal.decreases-loop-o
-decreases-loop-o l = l.s.upto + 1 - l.o
+    Running (entries_of l.t) l.b l.places l.end (λ r. scoped_items (entries_of l.t) r l.fn.s l.fn.scope l.fn.s.from) (λ r. scoped_items (entries_of l.t) r l.fn.s l.fn.scope l.o) l.at l.p l.write l.initial.out l.out

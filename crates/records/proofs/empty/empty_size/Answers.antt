@@ -1,52 +1,28 @@
 -- `records::empty::empty_size` meets its contract: each branch is one kind of entry.
+use Rattle.std.specs.Prelude.{Some}
 use mathlib.Core.Path.{◌≡◌, sym, ap, ◌∙◌}
 use native.Mathlib.Omega.{arith}
 use lib.ListN.{length, get_or}
-use Rattle.rules.specs.Record.{count_bytes}
-use Rattle.rules.specs.Values.{null}
-use Rattle.tables.specs.Entries.{entries_of, blank, group_number, format_at, format_number}
+use Rattle.tables.specs.Entries.{entries_of, blank, decoded}
 use Rattle.tables.proofs.Tables.{valid_sound}
-use Rattle.records.proofs.EmptyEntries.{entry_small, entry_allowed, null_short, adds_count, adds_nothing, adds_no_more, adds_no_values, adds_null}
+use Rattle.records.specs.Empty.{null_of}
+use Rattle.records.proofs.EmptyEntries.{null_short, null_adds, null_allowed}
 use Rattle.records.proofs.empty.empty_size.Goals as goal
+use Rattle.records.proofs.empty.empty_size.Goals.{In-Some}
 
-pub returns-then-e : goal.returns-then-e
-unfolding count_bytes
-returns-then-e c =
-    let a = c.args in
-    let w = (get_or (entries_of a.t.now) a.i blank).what in
-    (sym (ap length (adds_count a.inside w (ap (λ r. r.format) (sym c.entry_at-e.ensures) ∙ c.if-e-eq-GROUP.true) (ap (λ r. r.periodic) (sym c.entry_at-e.ensures) ∙ c.if-e.true))), omega arith)
-
-pub returns-then-e-eq-GROUP : goal.returns-then-e-eq-GROUP
-returns-then-e-eq-GROUP c =
-    let a = c.args in
-    let w = (get_or (entries_of a.t.now) a.i blank).what in
-    (sym (ap length (adds_nothing a.inside w (ap (λ r. r.format) (sym c.entry_at-e.ensures) ∙ c.if-e-eq-GROUP.true) (ap (λ r. r.periodic) (sym c.entry_at-e.ensures) ∙ c.if-e.false))), omega arith)
-
-pub returns-then-inside : goal.returns-then-inside
-returns-then-inside c =
-    let a = c.args in
-    let w = (get_or (entries_of a.t.now) a.i blank).what in
-    (sym (ap length (adds_no_more a.inside w (λ z. c.if-e-eq-GROUP.false (ap (λ r. r.format) c.entry_at-e.ensures ∙ z)) c.if-inside.true)), omega arith)
-
-pub returns-then-e-2 : goal.returns-then-e-2
-unfolding count_bytes
-returns-then-e-2 c =
-    let a = c.args in
-    let w = (get_or (entries_of a.t.now) a.i blank).what in
-    (sym (ap length (adds_no_values a.inside w (λ z. c.if-e-eq-GROUP.false (ap (λ r. r.format) c.entry_at-e.ensures ∙ z)) c.if-inside.false (ap (λ r. r.multiple) (sym c.entry_at-e.ensures) ∙ c.if-e-2.true))), omega arith)
+-- The entry adds null.
+adds : (c : In-Some) → null_of c.args.inside (decoded (get_or (entries_of c.args.t.now) c.args.i blank)) ≡ Some c.in-Some.format
+adds c = ap (null_of c.args.inside) (sym c.entry_at-e.ensures) ∙ sym c.null_of.ensures ∙ c.in-Some.is
 
 pub null_length-requires : goal.null_length-requires
 null_length-requires c =
-    let a = c.args in
-    let w = (get_or (entries_of a.t.now) a.i blank).what in
-    let h : format_number w ≡ group_number → ⊥ = (λ z. c.if-e-eq-GROUP.false (ap (λ r. r.format) c.entry_at-e.ensures ∙ z)) in
-    rw c.entry_at-e.ensures (entry_small w h, entry_allowed _ w (valid_sound a.t.now c.requires.0 a.i c.requires.1) h)
+    let x = get_or (entries_of c.args.t.now) c.args.i blank in
+    rw (c.from.ensures, c.entry_at-e.ensures) (null_allowed c.args.inside x _ (adds (goal.at.null_length-requires c).In-Some) (valid_sound c.args.t.now c.requires.0 c.args.i c.requires.1))
 
-pub returns : goal.returns
-returns c =
-    let a = c.args in
-    let w = (get_or (entries_of a.t.now) a.i blank).what in
-    let h : format_number w ≡ group_number → ⊥ = (λ z. c.if-e-eq-GROUP.false (ap (λ r. r.format) c.entry_at-e.ensures ∙ z)) in
-    let m = c.null_length.ensures ∙ ap (λ r. length (null (format_at r.format) r.size)) c.entry_at-e.ensures in
-    let l = null_short _ _ (entry_small w h) (entry_allowed _ w (valid_sound a.t.now c.requires.0 a.i c.requires.1) h) in
-    (m ∙ sym (ap length (adds_null a.inside w h c.if-inside.false (ap (λ r. r.multiple) (sym c.entry_at-e.ensures) ∙ c.if-e-2.false))), omega (arith, m))
+pub returns-in-Some : goal.returns-in-Some
+returns-in-Some c =
+    let x = get_or (entries_of c.args.t.now) c.args.i blank in
+    let h = adds (goal.at.returns-in-Some c).In-Some in
+    let m = rw (c.from.ensures, c.entry_at-e.ensures) at c.null_length.ensures in
+    let l = null_short _ _ (null_allowed c.args.inside x _ h (valid_sound c.args.t.now c.requires.0 c.args.i c.requires.1)) in
+    (m ∙ sym (ap length (null_adds c.args.inside x _ h)), omega (arith, m, l))

@@ -9,14 +9,14 @@ use Rattle.records.proofs.paths.path_to.Goals as goal
 pub path_in-requires : goal.path_in-requires
 path_in-requires c =
     let es = entries_of c.args.t.now in
-    let home = subst (Homes es c.args.i) c.in-At.is c.periodic_group-home.ensures in
+    let home = subst (Homes es c.args.i) c.in-Some.is c.periodic_group.ensures in
     (c.requires.0, c.requires.1, home_before es c.args.i _ c.requires.2 home, home)
 
-pub returns-in-At : goal.returns-in-At
-returns-in-At c = c.path_in.ensures
+pub returns-in-Some : goal.returns-in-Some
+returns-in-Some c = c.path_in.ensures
 
-pub returns-in-Nothing : goal.returns-in-Nothing
-returns-in-Nothing c =
+pub returns-in-None : goal.returns-in-None
+returns-in-None c =
     let a = c.args in
-    let out = subst (Homes (entries_of a.t.now) a.i) c.in-Nothing.is c.periodic_group-home.ensures in
+    let out = subst (Homes (entries_of a.t.now) a.i) c.in-None.is c.periodic_group.ensures in
     (refl, record { home = λ z. absurd (never refl z); outside = λ z. out; fixed = λ z. absurd (never refl z) })

@@ -1,11 +1,7 @@
 -- `records::paths::width_of` meets its contract: the widths are added up, with those still to come.
-use Prim.Native.Nat.{◌-◌}
 use Rattle.tables.specs.Entries.{entries_of}
 use Rattle.records.proofs.Widths.{Adding}
 use Rattle.records.proofs.paths.width_of.Given as goal
 
 abbrev pub invariant-loop-i : goal.invariant-loop-i
 invariant-loop-i l = Adding (entries_of l.t) l.first l.end l.i l.w
-
-abbrev pub decreases-loop-i : goal.decreases-loop-i
-decreases-loop-i l = l.end - l.i

@@ -1,4 +1,5 @@
 -- `records::places::place_in` meets its contract: the width of the fields before the entry is known, or they are walked over.
+use Rattle.std.specs.Prelude.{Some}
 use mathlib.Core.Path.{sym, subst}
 use Prim.Native.Nat.{◌+◌}
 use native.Mathlib.Omega.{arith}
@@ -8,7 +9,6 @@ use Rattle.rules.specs.Record.{each, stored_cell}
 use Rattle.tables.specs.Entries.{entries_of}
 use Rattle.tables.specs.Groups.{fields_in}
 use Rattle.records.specs.Walk.{rest_of, Walked}
-use Rattle.records.specs.declared.Reach.TheVariants.{At}
 use Rattle.records.proofs.Skips.{fields_skipped}
 use Rattle.records.proofs.places.place_in.Goals as goal
 
@@ -24,7 +24,7 @@ returns-then-path c =
     let a = c.args in
     let wide = c.requires.3.fixed c.if-path.true in
     let fs = fields_in (slice (a.path.group + 1) a.path.entry (entries_of a.t.now)) in
-    subst (λ w. Walked a.b.now (rest_of (each stored_cell fs (drop a.row a.b.now))) (At (a.row + w))) (sym wide.width)
+    subst (λ w. Walked a.b.now (rest_of (each stored_cell fs (drop a.row a.b.now))) (Some (a.row + w))) (sym wide.width)
     (fields_skipped fs wide.plains a.b.now a.row c.requires.4 c.requires.5)
 
 pub returns : goal.returns

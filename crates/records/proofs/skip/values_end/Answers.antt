@@ -1,4 +1,3 @@
-use mathlib.Core.Path.{refl}
 use native.Mathlib.Omega.{arith}
 use Rattle.rules.specs.Record.{stored_value}
 use Rattle.records.proofs.Turns.{repeating, repeat_on, repeat_there, repeated}
@@ -26,9 +25,6 @@ bounds-b-p c =
     let l = c.loop-i.invariant c.requires.1.0 c.requires.1.1 in
     (value_skipped c.requires.1.0 c.args.size c.if-size-gt0.false c.args.b.now c.loop-i.p l.place (repeat_there l c.loop-i-test.true c.requires.1.1)).0
 
-pub overflow_cast-p : goal.overflow_cast-p
-overflow_cast-p c = omega (arith, c.shared_slice_known-1.given c.loop-i.p)
-
 pub overflow_add-p : goal.overflow_add-p
 overflow_add-p c =
     let l = c.loop-i.invariant c.requires.1.0 c.requires.1.1 in
@@ -38,7 +34,7 @@ pub loop-i-preserved : goal.loop-i-preserved
 loop-i-preserved c f e =
     let a = c.args in
     let l = c.loop-i.invariant f e in
-    repeat_on l c.loop-i-test.true (value_skipped f a.size c.if-size-gt0.false a.b.now c.loop-i.p l.place (repeat_there l c.loop-i-test.true e)).1 refl
+    repeat_on l c.loop-i-test.true (value_skipped f a.size c.if-size-gt0.false a.b.now c.loop-i.p l.place (repeat_there l c.loop-i-test.true e)).1 (cc c.from-p.ensures)
 
 pub returns : goal.returns
 returns c f e = repeated (c.loop-i.invariant f e) c.loop-i-test.false

@@ -1,5 +1,4 @@
 -- `records::skip::values_end` meets its contract: values are as long as their standard length, or as their length bytes say.
-use Prim.Native.Nat.{◌-◌}
 use lib.ListN.{drop}
 use Rattle.rules.specs.Values.{Format}
 use Rattle.rules.specs.Record.{times, stored_value}
@@ -9,7 +8,4 @@ use Rattle.records.proofs.skip.values_end.Given as goal
 
 abbrev pub invariant-loop-i : goal.invariant-loop-i
 invariant-loop-i l =
-    (f : Format) → Ends (rest_of (times l.n (stored_value f l.size) (drop l.at l.b))) → Repeating (stored_value f l.size) l.b (rest_of (times l.n (stored_value f l.size) (drop l.at l.b))) l.n l.i l.p
-
-abbrev pub decreases-loop-i : goal.decreases-loop-i
-decreases-loop-i l = l.n - l.i
+    (f : Format) → Ends (rest_of (times l.n (stored_value f l.size) (drop l.at l.b))) → Repeating (stored_value f l.size) l.b (rest_of (times l.n (stored_value f l.size) (drop l.at l.b))) l.n l._i l.p

@@ -1,27 +1,29 @@
 -- `records::walk::value_end` meets its contract: a value is stored where its content, as first found, is in normal form.
-use mathlib.Core.Path.{sym, ◌∙◌}
+use Rattle.std.specs.Prelude.{Ok}
+use mathlib.Core.Path.{◌≡◌, sym, ◌∙◌}
 use Rattle.tables.specs.Entries.{format_at}
 use Rattle.values.proofs.Cuts.{first_content}
-use Rattle.records.proofs.Normals.{first_at, first_none, value_missing, value_normal, value_other}
+use Rattle.records.proofs.Normals.{first_at, ok_is, value_walked, value_stopped}
 use Rattle.records.proofs.walk.value_end.Goals as goal
+use Rattle.records.proofs.walk.value_end.Goals.{In_ok-from}
+
+-- Where the value's content lies.
+found : (c : In_ok-from) → c.first_value.result ≡ Ok (c.in_ok-from.from, c.in_ok-from.next)
+found c = ok_is c.first_value.result (sym c.ok.ensures.value ∙ c.in_ok-from.was)
 
 pub slice_bounds-is_normal-count : goal.slice_bounds-is_normal-count
-slice_bounds-is_normal-count c = (first_at c.first_value-first.ensures c.in-Value.is).1
+slice_bounds-is_normal-count c = (first_at c.first_value.ensures (found c)).1
 
 pub is_normal-requires : goal.is_normal-requires
 is_normal-requires c =
-    let w = first_at c.first_value-first.ensures c.in-Value.is in
-    (c.requires.1, c.requires.2, first_content c.args.size _ _ _ w.0)
+    let w = first_at c.first_value.ensures (found (goal.at.is_normal-requires c).In_ok-from) in
+    (c.requires.1, first_content c.args.size _ _ _ w.0)
 
-pub returns-in-Refused : goal.returns-in-Refused
-returns-in-Refused c = record { answer = sym (value_missing (format_at c.args.format) c.args.size _ (first_none c.first_value-first.ensures c.in-Refused.is)); place = tt }
+pub returns-in_err-from : goal.returns-in_err-from
+returns-in_err-from c =
+    rw c.from_residual.ensures (value_stopped (format_at c.args.format) c.args.size c.first_value.result c.first_value.ensures (sym c.ok.ensures.value ∙ c.in_err-from.was))
 
-pub returns-then-is_normal : goal.returns-then-is_normal
-returns-then-is_normal c =
-    let w = first_at c.first_value-first.ensures c.in-Value.is in
-    record { answer = sym (value_normal (format_at c.args.format) c.args.size _ w.0 (sym c.is_normal.ensures ∙ c.if-is_normal.true)); place = w.2 }
-
-pub returns-else-is_normal : goal.returns-else-is_normal
-returns-else-is_normal c =
-    let w = first_at c.first_value-first.ensures c.in-Value.is in
-    record { answer = sym (value_other (format_at c.args.format) c.args.size _ w.0 (sym c.is_normal.ensures ∙ c.if-is_normal.false)); place = tt }
+pub returns : goal.returns
+returns c =
+    rw c.then_some.ensures
+    (value_walked (format_at c.args.format) c.args.size c.first_value.ensures (found (goal.at.returns c).In_ok-from) c.is_normal.result c.is_normal.ensures)

@@ -1,14 +1,10 @@
 -- `tables::groups::group_end` meets its contract: what is left of the run ends where the whole does.
 use mathlib.Core.Path.{◌≡◌}
-use Prim.Native.Nat.{◌+◌, ◌≤◌, ◌-◌}
-use lib.ListN.{length, drop}
+use Prim.Native.Nat.{◌+◌}
+use lib.ListN.{drop}
 use Rattle.tables.specs.Entries.{entries_of}
 use Rattle.tables.specs.Groups.{run_below, group_end}
 use Rattle.tables.proofs.groups.group_end.Given as goal
 
 abbrev pub invariant-loop-j : goal.invariant-loop-j
-invariant-loop-j l =
-    (l.n ≡ length (entries_of l.t)) × (l.j ≤ l.n) × (l.j + run_below l.level (drop l.j (entries_of l.t)) ≡ group_end (entries_of l.t) l.i)
-
-abbrev pub decreases-loop-j : goal.decreases-loop-j
-decreases-loop-j l = l.n - l.j
+invariant-loop-j l = l.j + run_below l.level (drop l.j (entries_of l.t)) ≡ group_end (entries_of l.t) l.i

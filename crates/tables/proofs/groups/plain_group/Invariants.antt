@@ -1,7 +1,7 @@
 -- `tables::groups::plain_group` meets its contract: what is left of the group's fields answers as the whole does.
 use mathlib.Core.Path.{◌≡◌}
-use Prim.Native.Nat.{◌+◌, ◌≤◌, ◌-◌}
-use lib.ListN.{length, get_or, drop}
+use Prim.Native.Nat.{◌+◌}
+use lib.ListN.{get_or, drop}
 use Rattle.rules.specs.Lists.{all}
 use Rattle.rules.specs.Table.{fields_below}
 use Rattle.rules.specs.Use.{plain}
@@ -10,9 +10,4 @@ use Rattle.tables.proofs.groups.plain_group.Given as goal
 
 abbrev pub invariant-loop-j : goal.invariant-loop-j
 invariant-loop-j l =
-    (l.n ≡ length (entries_of l.t))
-    × (l.j ≤ l.n)
-    × (all plain (fields_below l.level (drop l.j (entries_of l.t))) ≡ all plain (fields_below (get_or (entries_of l.t) l.i blank).level (drop (l.i + 1) (entries_of l.t))))
-
-abbrev pub decreases-loop-j : goal.decreases-loop-j
-decreases-loop-j l = l.n - l.j
+    all plain (fields_below l.level (drop l.j (entries_of l.t))) ≡ all plain (fields_below (get_or (entries_of l.t) l.i blank).level (drop (l.i + 1) (entries_of l.t)))

@@ -3,8 +3,8 @@ use Rattle.tables.specs.Entries.{entries_of}
 use Rattle.tables.proofs.Climbs.{Climb}
 use Rattle.tables.proofs.lookup.periodic_group.Given as goal
 
-abbrev pub invariant-loop-i : goal.invariant-loop-i
-invariant-loop-i l = Climb (entries_of l.t) l.i l.j
+abbrev pub invariant-loop-j : goal.invariant-loop-j
+invariant-loop-j l = Climb (entries_of l.t) l.i l.j
 
-abbrev pub decreases-loop-i : goal.decreases-loop-i
-decreases-loop-i l = l.j
+abbrev pub decreases-loop-j : goal.decreases-loop-j
+decreases-loop-j l = l.j

@@ -1,7 +1,6 @@
 -- `tables::validity::levels_right` meets its contract: what is left of the levels answers as the whole does.
 use mathlib.Core.Path.{◌≡◌}
 use mathlib.Core.Bool.{false}
-use Prim.Native.Nat.{◌≤◌, ◌-◌}
 use lib.ListN.{drop}
 use Rattle.rules.specs.Table.{levels, group}
 use Rattle.tables.specs.Validity.{read_entries}
@@ -9,8 +8,4 @@ use Rattle.tables.proofs.Levels.{mark}
 use Rattle.tables.proofs.validity.levels_right.Given as goal
 
 abbrev pub invariant-loop-i : goal.invariant-loop-i
-invariant-loop-i l =
-    (l.i ≤ l.n) × (levels (mark l.after_group) l.before (drop l.i (read_entries l.n l.t)) ≡ levels (group false) 0 (read_entries l.n l.t))
-
-abbrev pub decreases-loop-i : goal.decreases-loop-i
-decreases-loop-i l = l.n - l.i
+invariant-loop-i l = levels (mark l.after_group) l.before (drop l.i (read_entries l.n l.t)) ≡ levels (group false) 0 (read_entries l.n l.t)

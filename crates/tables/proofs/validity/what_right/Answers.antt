@@ -1,17 +1,20 @@
--- `tables::validity::what_right` meets its contract: a group by `group_right`, a field by its length and its option.
-use mathlib.Core.Path.{sym, ◌∙◌}
-use Rattle.value_formats.proofs.Letters.{letter_format}
-use Rattle.tables.proofs.EntryBytes.{what_field}
+-- `tables::validity::what_right` meets its contract: a letter that has a format is a field's.
+use mathlib.Core.Path.{◌≡◌, refl, sym, ◌∙◌}
+use mathlib.Core.Bool.{◌&&◌}
+use lib.Dec.{leb}
+use Rattle.rules.specs.Outcome.{is_done}
+use Rattle.rules.specs.Table.{what_of}
+use Rattle.tables.proofs.EntryBytes.{what_given}
 use Rattle.tables.proofs.validity.what_right.Goals as goal
+use Rattle.tables.proofs.validity.what_right.Goals.{After-allowed}
+
+field : (c : After-allowed) → is_done (what_of c.args.level c.args.letter c.args.size c.args.option) ≡ (c.allowed.result && leb c.args.option 1)
+field c =
+    let a = c.args in
+    rw (c.allowed.ensures, c.from.ensures) (what_given a.level a.letter a.size a.option c.format_of.result c.in-Some.format c.in-Some.is c.format_of.ensures)
 
 pub returns-then-allowed : goal.returns-then-allowed
-returns-then-allowed c =
-    sym
-    (what_field _ _ _ _ _ (letter_format _ (λ e. c.if-format-eq-FORMATS.false (c.format_number-format.ensures.0 ∙ e)))
-    ∙ rw (← c.format_number-format.ensures.0, ← c.allowed.ensures, c.if-allowed.true))
+returns-then-allowed c = sym (field (goal.at.returns-then-allowed c).After-allowed ∙ rw c.if-allowed.true refl)
 
-pub returns : goal.returns
-returns c =
-    sym
-    (what_field _ _ _ _ _ (letter_format _ (λ e. c.if-format-eq-FORMATS.false (c.format_number-format.ensures.0 ∙ e)))
-    ∙ rw (← c.format_number-format.ensures.0, ← c.allowed.ensures, c.if-allowed.false))
+pub returns-else-allowed : goal.returns-else-allowed
+returns-else-allowed c = sym (field (goal.at.returns-else-allowed c).After-allowed ∙ rw c.if-allowed.false refl)

@@ -4,7 +4,6 @@ use Prim.Native.Nat.{◌<◌}
 use native.Mathlib.Omega.{arith}
 use lib.ListN.{length}
 use Rattle.tables.specs.Entries.{entries_of}
-use Rattle.uses.proofs.Spreading.{ordered_within}
 use Rattle.taking.proofs.Turns.{nothing_taken}
 use Rattle.taking.proofs.Entries.{between_group, between_field}
 use Rattle.taking.proofs.spans.take_entry.Goals as goal
@@ -13,22 +12,14 @@ use Rattle.taking.proofs.spans.take_entry.Goals.{After-group_at}
 known : (c : After-group_at) → c.args.i < length (entries_of c.args.t.now)
 known c = omega (arith, c.requires.1.upto, c.requires.3)
 
-pub returns-then-group_at : goal.returns-then-group_at
-returns-then-group_at c =
-    let a = c.args in
-    nothing_taken (entries_of a.t.now) a.buffer.now _ a.s a.list.now a.stage.now
-    (between_group (entries_of a.t.now) a.u a.o a.i (known (goal.at.returns-then-group_at c).After-group_at) (sym c.group_at.ensures ∙ c.if-group_at.true))
-
-pub given_at-requires : goal.given_at-requires
-given_at-requires c = (c.requires.0, c.requires.1, c.requires.2, c.requires.3, sym c.group_at.ensures ∙ c.if-group_at.false)
-
-pub take_values-requires : goal.take_values-requires
-take_values-requires c =
-    let b = ordered_within _ c.requires.1.values in
-    (c.requires.4, c.requires.5, b.0, b.2, (entries_of c.args.t.now, c.given_at.ensures.2, c.requires.6))
-
 pub returns : goal.returns
 returns c =
     let a = c.args in
     rw (between_field (entries_of a.t.now) a.u a.o a.i (known (goal.at.returns c).After-group_at) (sym c.group_at.ensures ∙ c.if-group_at.false) c.given_at.result c.given_at.ensures.3 c.given_at.ensures.1)
     (c.take_values.ensures (entries_of a.t.now) c.given_at.ensures.2 c.requires.6.0)
+
+pub returns-then-group_at : goal.returns-then-group_at
+returns-then-group_at c =
+    let a = c.args in
+    nothing_taken (entries_of a.t.now) a.buffer.now _ a.s a.list.now a.stage.now
+    (between_group (entries_of a.t.now) a.u a.o a.i (known (goal.at.returns-then-group_at c).After-group_at) (sym c.group_at.ensures ∙ c.if-group_at.true))

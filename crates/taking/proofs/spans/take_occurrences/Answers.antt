@@ -1,56 +1,32 @@
-use mathlib.Core.Path.{◌≡◌}
-use mathlib.Core.List.{◌++◌}
 use Prim.Native.Nat.{◌+◌}
 use native.Mathlib.Omega.{arith}
-use Rattle.rules.specs.Use.{value_items, just}
+use Rattle.std.proofs.lemmas.Result.{err_from_is_err_and}
 use Rattle.rules.proofs.Ranges.{from_to, first_occurrence, no_occurrence}
 use Rattle.tables.specs.Entries.{entries_of}
 use Rattle.uses.specs.Meant.{asked_of}
-use Rattle.uses.proofs.Spreading.{ordered_within}
-use Rattle.taking.proofs.Turns.{turn_start, turn_ready, turn_on, turn_off, turn_end}
-use borrow.Author.Rules.{rules}
+use Rattle.taking.proofs.Turns.{TakenOn, turn_on, turn_off, turn_end}
 use Rattle.taking.proofs.spans.take_occurrences.Invariants.{left}
 use Rattle.taking.proofs.spans.take_occurrences.Goals as goal
-use Rattle.taking.proofs.spans.take_occurrences.Goals.{After-take_fields}
+use Rattle.taking.proofs.spans.take_occurrences.Goals.{In_ok-state}
 
--- The items that are left, the first occurrence's before the others.
-next_items : (c : After-take_fields) → let a = c.args in let es = entries_of a.t.now in left es a.u c.loop-o.o ≡ value_items (asked_of es a.u) (just c.loop-o.o) (from_to a.u.value_from a.u.value_upto) a.u.bare ++ left es a.u (c.loop-o.o + 1)
-next_items c =
+pub returns-in_err-state : goal.returns-in_err-state
+returns-in_err-state c =
     let a = c.args in
-    first_occurrence (asked_of (entries_of a.t.now) a.u) (from_to a.u.value_from a.u.value_upto) a.u.bare c.loop-o.o a.u.upto c.loop-o-test.true
+    let p = err_from_is_err_and c.from_residual.result c.from_residual.ensures.1 in
+    rw (p.1, p.2)
+    (turn_off c.loop-o.invariant _ _ _ _ (first_occurrence (asked_of (entries_of a.t.now) a.u) (from_to a.u.value_from a.u.value_upto) a.u.bare c.loop-o.o a.u.upto (omega arith)) c.in_err-state.was c.take_fields.ensures)
 
-pub loop-o-init : goal.loop-o-init
-loop-o-init c =
+-- The occurrence was taken.
+on : (c : In_ok-state) → let a = c.args in let es = entries_of a.t.now in
+    TakenOn es a.buffer.now (left es a.u a.u.from) (left es a.u (c.loop-o.o + 1)) a.s c.in_ok-state.state a.list.now c.take_fields.new.list a.stage.now c.take_fields.new.stage
+on c =
     let a = c.args in
-    (search rules, turn_start (entries_of a.t.now) a.buffer.now _ a.s a.list.now a.stage.now)
-
-pub take_fields-requires : goal.take_fields-requires
-take_fields-requires c =
-    let b = ordered_within _ c.requires.1.occurrences in
-    (c.requires.0, c.requires.1, omega (arith, c.loop-o.invariant.0, b.0), omega (arith, c.loop-o-test.true, b.2), turn_ready c.loop-o.invariant.1 c.requires.2)
-
-pub returns-in-Refused : goal.returns-in-Refused
-returns-in-Refused c = turn_off c.loop-o.invariant.1 _ _ _ _ (next_items (goal.at.returns-in-Refused c).After-take_fields) c.in-Refused.is c.take_fields.ensures
-
-pub shape_of-list-in-Refused : goal.shape_of-list-in-Refused
-shape_of-list-in-Refused c = (returns-in-Refused c).same_list
-
-pub shape_of-stage-in-Refused : goal.shape_of-stage-in-Refused
-shape_of-stage-in-Refused c = (returns-in-Refused c).same_stage
-
-pub overflow_add-o : goal.overflow_add-o
-overflow_add-o c = omega (arith, c.loop-o-test.true, (ordered_within _ c.requires.1.occurrences).2)
+    turn_on c.loop-o.invariant _ _ _ _ (first_occurrence (asked_of (entries_of a.t.now) a.u) (from_to a.u.value_from a.u.value_upto) a.u.bare c.loop-o.o a.u.upto (omega arith)) c.in_ok-state.was c.take_fields.ensures
 
 pub loop-o-preserved : goal.loop-o-preserved
-loop-o-preserved c = (search rules, turn_on c.loop-o.invariant.1 _ _ _ _ (next_items (goal.at.loop-o-preserved c).After-take_fields) c.in-At.is c.take_fields.ensures)
+loop-o-preserved c = on (goal.at.loop-o-preserved c).In_ok-state
 
-pub shape_of-list : goal.shape_of-list
-shape_of-list c = c.loop-o.invariant.1.same_list
-
-pub shape_of-stage : goal.shape_of-stage
-shape_of-stage c = c.loop-o.invariant.1.same_stage
-
-pub returns : goal.returns
-returns c =
+pub returns-in_ok-state : goal.returns-in_ok-state
+returns-in_ok-state c =
     let a = c.args in
-    turn_end c.loop-o.invariant.1 (no_occurrence (asked_of (entries_of a.t.now) a.u) (from_to a.u.value_from a.u.value_upto) a.u.bare c.loop-o.o a.u.upto (omega (arith, c.loop-o-test.false)))
+    turn_end (on (goal.at.returns-in_ok-state c).In_ok-state) (no_occurrence (asked_of (entries_of a.t.now) a.u) (from_to a.u.value_from a.u.value_upto) a.u.bare (c.loop-o.o + 1) a.u.upto (omega arith))

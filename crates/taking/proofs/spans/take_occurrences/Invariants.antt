@@ -1,6 +1,6 @@
 -- `taking::spans::take_occurrences` meets its contract: the occurrences that are left give what all of them give from the start.
 use mathlib.Core.List.{List}
-use Prim.Native.Nat.{ℕ, suc, ◌-◌, ◌≤◌}
+use Prim.Native.Nat.{ℕ}
 use Rattle.rules.specs.Table.{Entry}
 use Rattle.rules.specs.Use.{Item, value_items}
 use Rattle.rules.proofs.Ranges.{from_to}
@@ -16,7 +16,4 @@ left es u o = value_items (asked_of es u) (from_to o u.upto) (from_to u.value_fr
 
 abbrev pub invariant-loop-o : goal.invariant-loop-o
 invariant-loop-o l =
-    (l.u.from ≤ l.o) × TakenOn (entries_of l.t) l.buffer (left (entries_of l.t) l.u l.u.from) (left (entries_of l.t) l.u l.o) l.initial.state l.state l.initial.list l.list l.initial.stage l.stage
-
-abbrev pub decreases-loop-o : goal.decreases-loop-o
-decreases-loop-o l = suc l.u.upto - l.o
+    TakenOn (entries_of l.t) l.buffer (left (entries_of l.t) l.u l.u.from) (left (entries_of l.t) l.u l.o) l.initial.state l.state l.initial.list l.list l.initial.stage l.stage

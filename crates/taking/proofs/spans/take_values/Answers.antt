@@ -1,58 +1,48 @@
-use mathlib.Core.List.{[], ◌∷◌}
+use mathlib.Core.List.{List, [], ◌∷◌}
 use Prim.Native.Nat.{◌+◌}
 use native.Mathlib.Omega.{arith}
+use Rattle.std.proofs.lemmas.Result.{err_from_is_err_and}
+use Rattle.rules.specs.Table.{Entry}
 use Rattle.rules.specs.Use.{value_items, just}
 use Rattle.rules.proofs.Ranges.{from_to, item_at, first_value_item, no_value}
-use Rattle.taking.specs.Taking.{asked_given}
-use Rattle.taking.proofs.Turns.{turn_start, turn_ready, turn_roomy, turn_on, turn_off, turn_end}
-use borrow.Author.Rules.{rules}
+use Rattle.taking.specs.Taking.{RoomEnough, Gives, asked_given}
+use Rattle.taking.proofs.Turns.{TakenOn, turn_roomy, turn_on, turn_off, turn_end}
 use Rattle.taking.proofs.spans.take_values.Goals as goal
+use Rattle.taking.proofs.spans.take_values.Goals.{In_ok-state}
 
-pub loop-k-init : goal.loop-k-init
-loop-k-init c =
+pub returns-in_err-state : goal.returns-in_err-state
+returns-in_err-state c es gives room =
     let a = c.args in
-    (search rules, λ es gives room. turn_start es a.buffer.now _ a.s a.list.now a.stage.now)
-
-pub take_value-requires : goal.take_value-requires
-take_value-requires c = (c.requires.0, c.requires.1, omega arith, omega arith, (c.requires.4.0, c.requires.4.1, turn_ready (c.loop-k.invariant.1 c.requires.4.0 c.requires.4.1 c.requires.4.2.0) c.requires.4.2))
-
-pub returns-in-Refused : goal.returns-in-Refused
-returns-in-Refused c es gives room =
-    let a = c.args in
-    let d = c.loop-k.invariant.1 es gives room in
-    turn_off d (item_at a.g.bare (asked_given es a.g) a.o c.loop-k.k ∷ [])
+    let d = c.loop-k.invariant es gives room in
+    let p = err_from_is_err_and c.from_residual.result c.from_residual.ensures.1 in
+    rw (p.1, p.2)
+    (turn_off d (item_at a.g.bare (asked_given es a.g) a.o c.loop-k.k ∷ [])
     (value_items (asked_given es a.g ∷ []) (just a.o) (from_to (c.loop-k.k + 1) a.last) a.g.bare) _ _
-    (first_value_item (asked_given es a.g) a.o a.g.bare c.loop-k.k a.last c.loop-k-test.true)
-    c.in-Refused.is
+    (first_value_item (asked_given es a.g) a.o a.g.bare c.loop-k.k a.last (omega arith))
+    c.in_err-state.was
+    (c.take_value.ensures es gives (turn_roomy d room)))
+
+-- The value was taken.
+on : (c : In_ok-state) (es : List Entry) → let a = c.args in Gives es a.g → RoomEnough a.list.now a.stage.now
+    → TakenOn es a.buffer.now (value_items (asked_given es a.g ∷ []) (just a.o) (from_to a.first a.last) a.g.bare)
+    (value_items (asked_given es a.g ∷ []) (just a.o) (from_to (c.loop-k.k + 1) a.last) a.g.bare) a.s c.in_ok-state.state a.list.now c.take_value.new.list a.stage.now c.take_value.new.stage
+on c es gives room =
+    let a = c.args in
+    let d = c.loop-k.invariant es gives room in
+    turn_on d (item_at a.g.bare (asked_given es a.g) a.o c.loop-k.k ∷ []) _ _ _
+    (first_value_item (asked_given es a.g) a.o a.g.bare c.loop-k.k a.last (omega arith))
+    c.in_ok-state.was
     (c.take_value.ensures es gives (turn_roomy d room))
 
--- Both keep their lengths, as what was taken says.
-pub shape_of-list-in-Refused : goal.shape_of-list-in-Refused
-shape_of-list-in-Refused c = (returns-in-Refused c c.requires.4.0 c.requires.4.1 c.requires.4.2.0).same_list
-
-pub shape_of-stage-in-Refused : goal.shape_of-stage-in-Refused
-shape_of-stage-in-Refused c = (returns-in-Refused c c.requires.4.0 c.requires.4.1 c.requires.4.2.0).same_stage
-
 pub loop-k-preserved : goal.loop-k-preserved
-loop-k-preserved c =
-    let a = c.args in (
-      search rules,
-      λ es gives room.
-          let d = c.loop-k.invariant.1 es gives room in
-          turn_on d (item_at a.g.bare (asked_given es a.g) a.o c.loop-k.k ∷ [])
-          (value_items (asked_given es a.g ∷ []) (just a.o) (from_to (c.loop-k.k + 1) a.last) a.g.bare) _ _
-          (first_value_item (asked_given es a.g) a.o a.g.bare c.loop-k.k a.last c.loop-k-test.true)
-          c.in-At.is
-          (c.take_value.ensures es gives (turn_roomy d room)),
-    )
+loop-k-preserved c = on (goal.at.loop-k-preserved c).In_ok-state
 
-pub shape_of-list : goal.shape_of-list
-shape_of-list c = (c.loop-k.invariant.1 c.requires.4.0 c.requires.4.1 c.requires.4.2.0).same_list
-
-pub shape_of-stage : goal.shape_of-stage
-shape_of-stage c = (c.loop-k.invariant.1 c.requires.4.0 c.requires.4.1 c.requires.4.2.0).same_stage
+pub returns-in_ok-state : goal.returns-in_ok-state
+returns-in_ok-state c es gives room =
+    let a = c.args in
+    turn_end (on (goal.at.returns-in_ok-state c).In_ok-state es gives room) (no_value (asked_given es a.g) a.o a.g.bare (c.loop-k.k + 1) a.last (omega arith))
 
 pub returns : goal.returns
 returns c es gives room =
     let a = c.args in
-    turn_end (c.loop-k.invariant.1 es gives room) (no_value (asked_given es a.g) a.o a.g.bare c.loop-k.k a.last (omega (arith, c.loop-k-test.false)))
+    turn_end (c.loop-k.invariant es gives room) (no_value (asked_given es a.g) a.o a.g.bare c.loop-k.k a.last (omega arith))

@@ -1,6 +1,5 @@
 -- `taking::spans::take_values` meets its contract: the values that are left give what all of them give from the start.
 use mathlib.Core.List.{List, [], ◌∷◌}
-use Prim.Native.Nat.{suc, ◌-◌, ◌≤◌}
 use Rattle.rules.specs.Table.{Entry}
 use Rattle.rules.specs.Use.{value_items, just}
 use Rattle.rules.proofs.Ranges.{from_to}
@@ -10,10 +9,6 @@ use Rattle.taking.proofs.spans.take_values.Given as goal
 
 abbrev pub invariant-loop-k : goal.invariant-loop-k
 invariant-loop-k l =
-    (l.first ≤ l.k)
-    × ((es : List Entry) → Gives es l.g → RoomEnough l.initial.list l.initial.stage
+    (es : List Entry) → Gives es l.g → RoomEnough l.initial.list l.initial.stage
     → TakenOn es l.buffer (value_items (asked_given es l.g ∷ []) (just l.o) (from_to l.first l.last) l.g.bare)
-    (value_items (asked_given es l.g ∷ []) (just l.o) (from_to l.k l.last) l.g.bare) l.initial.state l.state l.initial.list l.list l.initial.stage l.stage)
-
-abbrev pub decreases-loop-k : goal.decreases-loop-k
-decreases-loop-k l = suc l.last - l.k
+    (value_items (asked_given es l.g ∷ []) (just l.o) (from_to l.k l.last) l.g.bare) l.initial.state l.state l.initial.list l.list l.initial.stage l.stage

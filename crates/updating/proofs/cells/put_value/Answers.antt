@@ -11,8 +11,8 @@ use Rattle.updating.proofs.cells.put_value.Goals as goal
 pub put_stored-requires : goal.put_stored-requires
 put_stored-requires c =
     let a = c.args in
-    let (v, e, w) = stands_there a.stage.now (format_at a.format) a.size c.requires.2.0 a.staged c.requires.2.1 c.if-staged-gt0.true in
-    ((format_at a.format, v, w), c.requires.4)
+    let (v, e, w) = stands_there a.stage.now (format_at a.format) a.size c.requires.1.0 a.staged c.requires.1.1 c.if-staged-gt0.true in
+    ((format_at a.format, v, w), c.requires.3)
 
 pub returns-then-staged-gt0 : goal.returns-then-staged-gt0
 returns-then-staged-gt0 c o v t w =

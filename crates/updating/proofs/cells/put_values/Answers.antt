@@ -1,28 +1,24 @@
 use mathlib.Core.Path.{sym, subst}
 use mathlib.Core.List.{List}
 use mathlib.Core.Option.{Option}
-use Prim.Native.Nat.{ℕ, zero, suc, ◌+◌, ◌-◌, ◌≤◌}
+use Rattle.std.proofs.lemmas.Result.{err_from_is_err_and}
+use Prim.Native.Nat.{ℕ, suc, ◌-◌}
 use native.Mathlib.Omega.{arith}
-use lib.ListN.{length, drop, get_or}
+use lib.ListN.{drop, get_or}
 use Rattle.rules.specs.Lists.{Bytes}
-use Rattle.rules.specs.Values.{Format, null}
+use Rattle.rules.specs.Values.{null}
 use Rattle.value_formats.specs.Formats.{format_at}
 use Rattle.updating.specs.New.{NotesBy, Stands, Old, Was, Were}
 use Rattle.updating.proofs.OldValues.{was_ends}
 use Rattle.updating.proofs.NewValues.{putting_start, stands_next, missing_next, were_after, were_none, putting_on, putting_off, putting_end}
 use Rattle.updating.proofs.cells.put_values.Goals as goal
-use Rattle.updating.proofs.cells.put_values.Goals.{After-staged-1, At-loop-k, Joined-exists-2, else-exists, else-exists-2, then-exists, then-exists-2}
+use Rattle.updating.proofs.cells.put_values.Goals.{After-from-staged, Joined-exists-2, else-exists, else-exists-2, then-exists, then-exists-2}
 
--- What is noted is at most one above the end of the stage.
-stands_below : (stage : Bytes) (f : Format) (n : ℕ) (o : Option Bytes) (m : ℕ) → Stands stage f n o m → m ≤ length stage + 1
-stands_below stage f n o zero t = omega arith
-stands_below stage f n o (suc p) (v, e, w) = omega (arith, w.0)
+stands : (c : After-from-staged) (given : ℕ → Option Bytes) → NotesBy c.args.stage.now (format_at c.args.format) c.args.size given c.args.by.now
+    → Stands c.args.stage.now (format_at c.args.format) c.args.size (given c.loop-k.k) c.from-staged.result
+stands c given x = rw c.from-staged.ensures (x c.loop-k.k (omega (arith, c.loop-k-test.true, c.requires.1)))
 
-stands : (c : After-staged-1) (given : ℕ → Option Bytes) → (NotesBy c.args.stage.now (format_at c.args.format) c.args.size given c.args.by.now)
-    → Stands c.args.stage.now (format_at c.args.format) c.args.size (given c.loop-k.k) (get_or c.args.by.now c.loop-k.k 0)
-stands c given x = x c.loop-k.k (omega (arith, c.loop-k-test.true, c.requires.2))
-
-was : (c : After-staged-1) (given : ℕ → Option Bytes) (vs : List Bytes) (x : (NotesBy c.args.stage.now (format_at c.args.format) c.args.size given c.args.by.now)) (y : (Old c.args.b.now (format_at c.args.format) c.args.size vs c.args.old))
+was : (c : After-from-staged) (given : ℕ → Option Bytes) (vs : List Bytes) (x : (NotesBy c.args.stage.now (format_at c.args.format) c.args.size given c.args.by.now)) (y : (Old c.args.b.now (format_at c.args.format) c.args.size vs c.args.old))
     → Was c.args.b.now (format_at c.args.format) c.args.size (get_or vs (c.loop-k.invariant given vs x y).put (null (format_at c.args.format) c.args.size)) c.if-exists.cell
 was c given vs x y =
     let a = c.args in
@@ -37,38 +33,33 @@ was c given vs x y =
 pub loop-k-init : goal.loop-k-init
 loop-k-init c given vs x y =
     let a = c.args in
-    putting_start given (format_at a.format) a.size vs a.b.now a.old y a.n a.end a.at a.out.now c.requires.5.0 c.requires.5.1
-
-pub overflow_cast-staged : goal.overflow_cast-staged
-overflow_cast-staged c =
-    let a = c.args in
-    omega (arith, stands_below a.stage.now (format_at a.format) a.size (c.requires.3.0 c.loop-k.k) (get_or a.by.now c.loop-k.k 0) (stands c c.requires.3.0 c.requires.3.1))
+    putting_start given (format_at a.format) a.size vs a.b.now a.old y a.n a.end a.at a.out.now c.requires.4.0 c.requires.4.1
 
 pub put_value-requires : goal.put_value-requires
 put_value-requires c =
-    let g = c.loop-k.invariant c.requires.3.0 c.requires.4.0 c.requires.3.1 c.requires.4.1 in
-    (c.requires.0, c.requires.1, (_, stands (goal.at.put_value-requires c).After-staged-1 c.requires.3.0 c.requires.3.1), (_, was (goal.at.put_value-requires c).After-staged-1 c.requires.3.0 c.requires.4.0 c.requires.3.1 c.requires.4.1), (g.fits, g.room))
+    let d = (goal.at.put_value-requires c).After-from-staged in
+    let (given, x) = c.requires.2 in
+    let (vs, y) = c.requires.3 in
+    let g = c.loop-k.invariant given vs x y in
+    (c.requires.0, (_, stands d given x), (_, was d given vs x y), (g.fits, g.room))
 
-pub shape_of-out-in-Refused : goal.shape_of-out-in-Refused
-shape_of-out-in-Refused c =
-    let g = (c.loop-k.invariant c.requires.3.0 c.requires.4.0 c.requires.3.1 c.requires.4.1).continues.same in
-    omega arith
-
-pub returns-in-Refused : goal.returns-in-Refused
-returns-in-Refused c given vs x y =
+pub returns-in_err-p : goal.returns-in_err-p
+returns-in_err-p c given vs x y =
     let a = c.args in
-    putting_off given (format_at a.format) a.size vs (c.loop-k.invariant given vs x y) c.loop-k-test.true
-    (c.put_value.ensures _ _ (stands (goal.at.returns-in-Refused c).After-staged-1 given x) (was (goal.at.returns-in-Refused c).After-staged-1 given vs x y)) _ c.in-Refused.is
+    let d = (goal.at.returns-in_err-p c).After-from-staged in
+    let p = err_from_is_err_and c.from_residual.result c.from_residual.ensures.1 in
+    rw (p.1, p.2) (putting_off given (format_at a.format) a.size vs (c.loop-k.invariant given vs x y) c.loop-k-test.true (c.put_value.ensures _ _ (stands d given x) (was d given vs x y)) _ c.in_err-p.was)
 
 pub values_end-q-requires : goal.values_end-q-requires
 values_end-q-requires c =
     let a = c.args in
     let f = format_at a.format in
-    let g = c.loop-k.invariant c.requires.3.0 c.requires.4.0 c.requires.3.1 c.requires.4.1 in
-    let w = stands_next c.requires.3.0 f a.size c.requires.4.0 g c.requires.4.1 c.if-exists-2.true in
-    (g.were.0, (f, was_ends a.b.now f a.size (get_or c.requires.4.0 g.put (null f a.size)) c.loop-k.q w))
+    let (given, x) = c.requires.2 in
+    let (vs, y) = c.requires.3 in
+    let g = c.loop-k.invariant given vs x y in
+    (g.were.0, (f, was_ends a.b.now f a.size (get_or vs g.put (null f a.size)) c.loop-k.q (stands_next given f a.size vs g y c.if-exists-2.true)))
 
--- The old values that are left.
+-- The old values that are left, by the branch that was taken.
 were : (c : Joined-exists-2) (given : ℕ → Option Bytes) (vs : List Bytes) (x : (NotesBy c.args.stage.now (format_at c.args.format) c.args.size given c.args.by.now)) (y : (Old c.args.b.now (format_at c.args.format) c.args.size vs c.args.old))
     → Were c.args.b.now (format_at c.args.format) c.args.size c.if-exists-2.q
     (c.args.old.count - suc (c.loop-k.invariant given vs x y).put) (drop (suc (c.loop-k.invariant given vs x y).put) vs)
@@ -84,14 +75,15 @@ were c given vs x y =
 
 pub loop-k-preserved : goal.loop-k-preserved
 loop-k-preserved c given vs x y =
-    let a = c.args in
-    putting_on given (format_at a.format) a.size vs (c.loop-k.invariant given vs x y) c.loop-k-test.true
-    (c.put_value.ensures _ _ (stands (goal.at.loop-k-preserved c).After-staged-1 given x) (was (goal.at.loop-k-preserved c).After-staged-1 given vs x y)) _ c.in-At.is _ (were c given vs x y)
-
-pub shape_of-out : goal.shape_of-out
-shape_of-out c = (c.loop-k.invariant c.requires.3.0 c.requires.4.0 c.requires.3.1 c.requires.4.1).continues.same
+    let d = (goal.at.loop-k-preserved c).After-from-staged in
+    putting_on given (format_at c.args.format) c.args.size vs (c.loop-k.invariant given vs x y) c.loop-k-test.true (c.put_value.ensures _ _ (stands d given x) (was d given vs x y)) _ c.in_ok-p.was _ (were (goal.at.loop-k-preserved c).Joined-exists-2 given vs x y)
 
 pub returns : goal.returns
-returns c given vs x y =
-    let a = c.args in
-    putting_end given (format_at a.format) a.size vs (c.loop-k.invariant given vs x y) c.loop-k-test.false
+returns c given vs x y = putting_end given (format_at c.args.format) c.args.size vs (c.loop-k.invariant given vs x y) c.loop-k-test.false
+
+pub returns-after-exists-2 : goal.returns-after-exists-2
+returns-after-exists-2 c given vs x y =
+    let d = (goal.at.returns-after-exists-2 c).After-from-staged in
+    putting_end given (format_at c.args.format) c.args.size vs
+    (putting_on given (format_at c.args.format) c.args.size vs (c.loop-k.invariant given vs x y) c.loop-k-test.true (c.put_value.ensures _ _ (stands d given x) (was d given vs x y)) _ c.in_ok-p.was _ (were (goal.at.returns-after-exists-2 c).Joined-exists-2 given vs x y))
+    (omega arith)

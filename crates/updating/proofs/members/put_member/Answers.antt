@@ -15,11 +15,6 @@ use Rattle.updating.proofs.members.put_member.Goals as goal
 pub returns-then-group_at : goal.returns-then-group_at
 returns-then-group_at c r ws h a = nothing_put _ _ _ true _ (adds_no_member _ _ _ _ (sym c.group_at.ensures ∙ c.if-group_at.true))
 
-pub put_cell-requires : goal.put_cell-requires
-put_cell-requires c =
-    let f = sym c.group_at.ensures ∙ c.if-group_at.false in
-    (c.requires.0, c.requires.1, f, (c.requires.2, c.requires.3, ((c.requires.4.0.0, c.requires.4.0.1 f), c.requires.4.1), c.requires.5))
-
 pub returns : goal.returns
 unfolding field_at
 returns c r ws h a =

@@ -1,16 +1,15 @@
-use mathlib.Core.Path.{◌≡◌, sym, subst}
-use mathlib.Core.List.{◌++◌}
-use Prim.Native.Nat.{◌+◌, ◌-◌, ◌<◌}
+use Rattle.std.proofs.lemmas.Result.{err_from_is_err_and}
+use mathlib.Core.Path.{sym, subst}
+use Prim.Native.Nat.{◌+◌, ◌<◌}
 use native.Mathlib.Omega.{arith}
-use lib.ListN.{length, get_or}
-use Rattle.rules.specs.Record.{Record, Plan}
-use Rattle.tables.specs.Entries.{entries_of, blank}
-use Rattle.tables.proofs.Tables.{valid_most}
+use lib.ListN.{length}
+use Rattle.rules.specs.Record.{Record}
+use Rattle.tables.specs.Entries.{entries_of}
 use Rattle.records.specs.Places.{IsRecord}
-use Rattle.updating.specs.Laid.{member_laid}
-use Rattle.updating.specs.Member.{CelledMember, CellsFrom, members_laid}
-use Rattle.updating.proofs.Laying.{lay_start, lay_on, lay_off, lay_end, lay_same}
-use Rattle.updating.proofs.Membering.{members_turn, members_none, cells_here, cells_member, cells_next}
+use Rattle.updating.specs.Member.{CelledMember, CellsFrom}
+use Rattle.updating.proofs.Laying.{lay_start, lay_on, lay_off, lay_end}
+use Rattle.updating.proofs.Left.{member_added, members_left, member_first}
+use Rattle.updating.proofs.Membering.{members_none, cells_here, cells_member, cells_next}
 use Rattle.updating.proofs.members.put_members.Goals as goal
 use Rattle.updating.proofs.members.put_members.Goals.{In-loop-i, Joined-i-last, else-i-last, then-i-last}
 
@@ -22,40 +21,31 @@ cell : (c : In-loop-i) (r : Record) → IsRecord (entries_of c.args.t.now) c.arg
     → CelledMember (entries_of c.args.t.now) c.args.b.now c.loop-i.i c.args.o r c.loop-i.cell
 cell c r held = cells_here c.args.t.now c.requires.0 c.loop-i.cell (less c) (c.loop-i.invariant.0 r held c.loop-i-test.true)
 
-first : (c : In-loop-i) (w : Plan) (r : Record)
-    → members_laid w c.args.o (entries_of c.args.t.now) c.loop-i.i (c.args.last - c.loop-i.i) ≡ (let e = get_or (entries_of c.args.t.now) c.loop-i.i blank in
-    member_laid w c.args.o e.name e.what) ++ (members_laid w c.args.o (entries_of c.args.t.now) (c.loop-i.i + 1) (c.args.last - (c.loop-i.i + 1)))
-first c w r = members_turn w c.args.o (entries_of c.args.t.now) c.loop-i.i c.args.last c.loop-i-test.true
-
 pub loop-i-init : goal.loop-i-init
 loop-i-init c =
     let a = c.args in
-    (c.requires.5, lay_start (λ w r. members_laid w a.o (entries_of a.t.now) a.first (a.last - a.first)) c.requires.4 c.requires.6.0 c.requires.6.1)
+    (c.requires.5, lay_start (members_left (entries_of a.t.now) a.o a.last a.first) c.requires.4 c.requires.6.0 c.requires.6.1)
 
 pub put_member-requires : goal.put_member-requires
-put_member-requires c = (c.requires.0, less (goal.at.put_member-requires c).In-loop-i, c.requires.2, c.requires.3, ((c.requires.4.0.0, cell (goal.at.put_member-requires c).In-loop-i c.requires.4.0.0 c.requires.4.0.1), c.requires.4.1), (c.loop-i.invariant.1.fits, c.loop-i.invariant.1.room))
+put_member-requires c =
+    let d = (goal.at.put_member-requires c).In-loop-i in
+    let (r, held) = c.requires.4.0 in
+    (c.requires.0, less d, c.requires.2, c.requires.3, ((r, cell d r held), c.requires.4.1), (c.loop-i.invariant.1.fits, c.loop-i.invariant.1.room))
 
-pub shape_of-out-in-Refused : goal.shape_of-out-in-Refused
-shape_of-out-in-Refused c = omega (arith, lay_same c.loop-i.invariant.1, (c.put_member.ensures c.requires.4.0.0 c.requires.4.1.0 (cell (goal.at.shape_of-out-in-Refused c).In-loop-i c.requires.4.0.0 c.requires.4.0.1) c.requires.4.1.1).same)
-
-pub returns-in-Refused : goal.returns-in-Refused
-returns-in-Refused c =
-    lay_off c.loop-i.invariant.1 (λ (w : Plan) (r : Record). let e = get_or (entries_of c.args.t.now) c.loop-i.i blank in
-    member_laid w c.args.o e.name e.what) ((λ (w : Plan) (r : Record). members_laid w c.args.o (entries_of c.args.t.now) (c.loop-i.i + 1) (c.args.last - (c.loop-i.i + 1)))) (first (goal.at.returns-in-Refused c).In-loop-i) (λ r ws p a. c.put_member.ensures r ws (cell (goal.at.returns-in-Refused c).In-loop-i r p) a) _ c.in-Refused.is
-
-pub overflow_add-i : goal.overflow_add-i
-overflow_add-i c = omega (arith, less (goal.at.overflow_add-i c).In-loop-i, valid_most c.args.t.now c.requires.0)
+pub returns-in_err-p : goal.returns-in_err-p
+returns-in_err-p c =
+    let d = (goal.at.returns-in_err-p c).In-loop-i in
+    let es = entries_of c.args.t.now in
+    let o = c.args.o in
+    let i = c.loop-i.i in
+    let p = err_from_is_err_and c.from_residual.result c.from_residual.ensures.1 in
+    rw (p.1, p.2) (lay_off c.loop-i.invariant.1 (member_added es o i) (members_left es o c.args.last (i + 1)) (member_first es o c.args.last i c.loop-i-test.true) (λ r ws p a. c.put_member.ensures r ws (cell d r p) a) _ c.in_err-p.was)
 
 pub next_cell-cell-requires : goal.next_cell-cell-requires
 next_cell-cell-requires c =
-    let m = cells_member c.args.t.now c.requires.0 c.loop-i.cell c.if-i-last.true (c.loop-i.invariant.0 c.requires.4.0.0 c.requires.4.0.1 c.loop-i-test.true) in
-    (c.requires.0, less (goal.at.next_cell-cell-requires c).In-loop-i, (c.args.places.now, m.0, c.args.o, c.requires.4.0.0, m.2))
-
-pub overflow_add-i-in-loop-i : goal.overflow_add-i-in-loop-i
-overflow_add-i-in-loop-i c = omega (arith, less (goal.at.overflow_add-i-in-loop-i c).In-loop-i, valid_most c.args.t.now c.requires.0)
-
-pub loop-i-smaller : goal.loop-i-smaller
-loop-i-smaller c = omega (arith, c.loop-i-test.true)
+    let (r, held) = c.requires.4.0 in
+    let m = cells_member c.args.t.now c.requires.0 c.loop-i.cell c.if-i-last.true (c.loop-i.invariant.0 r held c.loop-i-test.true) in
+    (c.requires.0, less (goal.at.next_cell-cell-requires c).In-loop-i, (c.args.places.now, m.0, c.args.o, r, m.2))
 
 -- The cells of the entries that are left.
 left : (c : Joined-i-last) (r : Record)
@@ -73,14 +63,12 @@ left c r held more =
     ]
 
 pub loop-i-preserved : goal.loop-i-preserved
-loop-i-preserved c = (
-  left c,
-  lay_on c.loop-i.invariant.1 (λ (w : Plan) (r : Record). let e = get_or (entries_of c.args.t.now) c.loop-i.i blank in
-      member_laid w c.args.o e.name e.what) ((λ (w : Plan) (r : Record). members_laid w c.args.o (entries_of c.args.t.now) (c.loop-i.i + 1) (c.args.last - (c.loop-i.i + 1)))) (first (goal.at.loop-i-preserved c).In-loop-i) (λ r ws p a. c.put_member.ensures r ws (cell (goal.at.loop-i-preserved c).In-loop-i r p) a) _ c.in-At.is,
-)
-
-pub shape_of-out : goal.shape_of-out
-shape_of-out c = lay_same c.loop-i.invariant.1
+loop-i-preserved c =
+    let d = (goal.at.loop-i-preserved c).In-loop-i in
+    let es = entries_of c.args.t.now in
+    let o = c.args.o in
+    let i = c.loop-i.i in
+    (left c, lay_on c.loop-i.invariant.1 (member_added es o i) (members_left es o c.args.last (i + 1)) (member_first es o c.args.last i c.loop-i-test.true) (λ r ws p a. c.put_member.ensures r ws (cell d r p) a) _ c.in_ok-p.was)
 
 pub returns : goal.returns
 returns c = lay_end c.loop-i.invariant.1 (λ w r. members_none w c.args.o (entries_of c.args.t.now) c.loop-i.i c.args.last (omega (arith, c.loop-i-test.false)))

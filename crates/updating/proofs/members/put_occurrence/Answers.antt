@@ -7,7 +7,6 @@ use lib.ListN.{length}
 use Rattle.rules.specs.Table.{parts}
 use Rattle.rules.specs.Update.{update_plan}
 use Rattle.tables.specs.Entries.{entries_of}
-use Rattle.tables.proofs.Tables.{valid_most}
 use Rattle.tables.proofs.Known.{periodic_level}
 use Rattle.tables.proofs.Nesting.{end_start}
 use Rattle.records.proofs.Ends.{group_within}
@@ -22,9 +21,6 @@ within c =
     let h = group_within (entries_of c.args.t.now) c.args.g c.requires.1 in
     (omega (arith, c.requires.3.0, h.0), omega (arith, c.requires.3.0, h.1))
 
-pub overflow_add-g : goal.overflow_add-g
-overflow_add-g c = omega (arith, c.requires.1, valid_most c.args.t.now c.requires.0)
-
 pub put_members-requires : goal.put_members-requires
 put_members-requires c = (
   c.requires.0,
@@ -35,9 +31,6 @@ put_members-requires c = (
   (λ r held less. inl (c.args.g, c.requires.3.0, record { held = held; periodic = c.requires.2; after = omega arith; within = omega (arith, c.requires.3.0, less); some = c.requires.3.1; entered = c.first_cell-had.ensures r held })),
   c.requires.3.4,
 )
-
-pub shape_of-out : goal.shape_of-out
-shape_of-out c = (c.put_members.ensures c.requires.3.3.0.0 c.requires.3.3.1.0 c.requires.3.3.0.1 c.requires.3.3.1.1).same
 
 pub returns : goal.returns
 returns c r ws p a =

@@ -1,6 +1,5 @@
 -- `uses::twice::met_before` meets its contract: the uses that are left answer as all do.
 use mathlib.Core.Path.{◌≡◌}
-use Prim.Native.Nat.{◌≤◌}
 use Rattle.rules.specs.Lists.{Bytes}
 use Rattle.tables.specs.Entries.{entries_of}
 use Rattle.uses.specs.Meant.{use_meant}
@@ -11,8 +10,4 @@ use Rattle.uses.proofs.twice.met_before.Given as goal
 
 abbrev pub invariant-loop-i : goal.invariant-loop-i
 invariant-loop-i l =
-    (l.i ≤ l.count)
-    × ((f : Bytes) → met_by (uses_kept (entries_of l.t) f l.kept l.i) (use_meant (entries_of l.t) f (Values l.s)) ≡ met_by (uses_kept (entries_of l.t) f l.kept l.count) (use_meant (entries_of l.t) f (Values l.s)))
-
-abbrev pub decreases-loop-i : goal.decreases-loop-i
-decreases-loop-i l = l.i
+    (f : Bytes) → met_by (uses_kept (entries_of l.t) f l.kept l.i) (use_meant (entries_of l.t) f (Values l.s)) ≡ met_by (uses_kept (entries_of l.t) f l.kept l.count) (use_meant (entries_of l.t) f (Values l.s))

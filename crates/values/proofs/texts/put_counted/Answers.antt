@@ -4,15 +4,10 @@ use native.Mathlib.Numerals.{add-one}
 use native.Mathlib.Omega.{arith}
 use mathlib.Core.List.{[], ◌∷◌}
 use mathlib.Core.Path.{refl, ap, ◌∙◌}
-use lib.ListN.{length, length-set}
+use lib.ListN.{length}
 use Rattle.buffer.specs.Splice.{splice}
 use Rattle.buffer.proofs.Laws.{set_splice, splice_chain}
 use Rattle.values.proofs.texts.put_counted.Goals as goal
-
-pub shape_of-out : goal.shape_of-out
-shape_of-out c =
-    let a = c.args in
-    omega (arith, length-set a.out.now a.at (length a.t.now + 1))
 
 pub returns : goal.returns
 returns c =
