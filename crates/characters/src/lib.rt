@@ -44,11 +44,12 @@ fn is_letter(b: u8) -> bool
     matches!(b, 0xC1..=0xC9 | 0xD1..=0xD9 | 0xE2..=0xE9)
 }
 
+// A digit is asked for first: that is one comparison, and a letter three.
 #[tactic(auto, unfolding(rules::specs::Table::is_name, rules::specs::Characters::letter, rules::specs::Characters::digit))]
 pub fn is_name(a: u8, b: u8) -> bool
     ensures { result ≡ is_name a b }
 {
-    is_letter(a) && (is_letter(b) || is_digit(b) && a != LETTER_E)
+    is_letter(a) && (is_digit(b) && a != LETTER_E || is_letter(b))
 }
 
 // Whether a byte is one of the formats that may follow a name: A, B, F, G, P, U or W.

@@ -1,6 +1,7 @@
 // What may follow an element: another element; after a name also a length, a format, or both in that order.
 // `end` is the place of the comma or period after the element.
-ghost use Rattle.std.specs.Prelude.{◌≡◌, true, None, ◌≤◌, ◌<◌, length, drop};
+ghost use Rattle.std.specs.Prelude.{◌≡◌, true, None, ◌≤◌, ◌<◌, length, drop, get_or};
+ghost use Rattle.rules.specs.Characters.{period};
 ghost use Rattle.rules.specs.Limits.{greatest_length};
 ghost use Rattle.rules.specs.Format.{piece};
 ghost use Rattle.format_buffer.specs.Elements.{element_of, sound, Small};
@@ -93,6 +94,20 @@ fn format_after(f: &[u8], end: usize, n: Named, size: u16) -> Option<(Element, u
     }
 }
 
+// The length or the format that follows the name, if one does. It stands by itself, so that a name with nothing after it is told fast.
+#[inline(never)]
+fn trailers_after(f: &[u8], end: usize, n: Named) -> Option<(Element, usize)>
+    requires { (end < length f.now) × Small n × (n.length ≡ None) × (n.letter ≡ None) × (get_or f.now end 0 ≡ period → ⊥) }
+    ensures { SteppedUpto f.now end (then_completed f.now end (element_of f.now (Element.Named n))) result }
+{
+    let b = bounds_at(f, end + 1);
+    match trailer_at(f, b.first, b.last)? {
+        Trailer::Length(size) => format_after(f, b.end, n, size),
+        Trailer::Format(c) => Some((Element::Named(n.with_format(c)), b.end)),
+        Trailer::Neither => Some((Element::Named(n), end)),
+    }
+}
+
 // A length or a format may follow the name.
 fn length_after(f: &[u8], end: usize, n: Named) -> Option<(Element, usize)>
     requires { (end < length f.now) × Small n × (n.length ≡ None) × (n.letter ≡ None) }
@@ -104,12 +119,7 @@ fn length_after(f: &[u8], end: usize, n: Named) -> Option<(Element, usize)>
     if begins_longer(f, end + 1) {
         return Some((Element::Named(n), end));
     }
-    let b = bounds_at(f, end + 1);
-    match trailer_at(f, b.first, b.last)? {
-        Trailer::Length(size) => format_after(f, b.end, n, size),
-        Trailer::Format(c) => Some((Element::Named(n.with_format(c)), b.end)),
-        Trailer::Neither => Some((Element::Named(n), end)),
-    }
+    trailers_after(f, end, n)
 }
 
 // Completes an element with the length and format that follow it, if any; anything else there is bad syntax.

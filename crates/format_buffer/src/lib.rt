@@ -67,11 +67,16 @@ impl Named {
         }
     }
 
+    // The indexes are copied field by field: copied whole they would stay in memory on the way of every element.
     pub fn with_values(self, x: Indexing) -> Self
         ensures { result ≡ with_values self x }
     {
         Self {
-            values: Some(x),
+            values: Some(Indexing {
+                from: x.from,
+                upto: x.upto,
+                scope: x.scope,
+            }),
             ..self
         }
     }

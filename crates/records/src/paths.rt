@@ -29,8 +29,11 @@ fn width_at(t: &[u8], i: usize) -> Option<usize>
     if tables::group_at(t, i) {
         return Some(0);
     }
+    if tables::multiple_at(t, i) {
+        return None;
+    }
     let size = tables::size_at(t, i);
-    if tables::multiple_at(t, i) || size == 0 {
+    if size == 0 {
         return None;
     }
     Some(size)

@@ -14,7 +14,8 @@ use crate::{Taking, value};
 use rules::Refusal;
 use uses::Span;
 
-// The values of a field in occurrence o, from value `first` to value `last`.
+// The values of a field in occurrence o, from value `first` to value `last`. The state is made anew from its fields, so that the gap at its
+// end is not copied with each value.
 fn take_values(
     buffer: &[u8],
     g: Given,
@@ -30,7 +31,12 @@ fn take_values(
 {
     let mut state = s;
     for k in first..=last {
-        state = value::take_value(buffer, g, o, k, list, stage, state)?;
+        let next = value::take_value(buffer, g, o, k, list, stage, state)?;
+        state = Taking {
+            at: next.at,
+            staged: next.staged,
+            full: next.full,
+        };
     }
     Ok(state)
 }

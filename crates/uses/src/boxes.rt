@@ -88,7 +88,6 @@ fn mark_span(boxes: &mut Boxes, s: Span)
 }
 
 // The boxes with the use with the number n in them too.
-#[tactic(auto, using(crate::proofs::Numbers::span_small, crate::proofs::Marking::span_positive))]
 pub fn mark(kept: &[Index], n: usize, boxes: &mut Boxes)
     requires { (numbers_kept * n + numbers_kept ≤ length kept.now) × (length boxes.old ≡ most_entries) × ((es : List Entry) × (length es ≤ most_entries) × GoodSpanOf es (use_at kept.now n)) }
     ensures { BoxesMore kept.now n boxes.old boxes.new }

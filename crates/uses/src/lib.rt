@@ -28,7 +28,8 @@ pub const INDEXES: usize = NEAR + 1;
 const AFTER_N: Index = 1000;
 
 // The fields of the entries from first up to end, in the occurrences from-upto, and in each the values value_from-value_upto. Where
-// standard holds, each is at its own format and length; else first is the one field, at the format and the size in effect.
+// standard holds, each is at its own format and length; else first is the one field, at the format and the size in effect. The fields of
+// one byte stand together, since the gap that a struct has after one is copied with it.
 #[derive(Clone, Copy)]
 pub struct Span {
     pub first: usize,
@@ -37,9 +38,9 @@ pub struct Span {
     pub upto: usize,
     pub value_from: usize,
     pub value_upto: usize,
+    pub size: usize,
     pub standard: bool,
     pub format: Format,
-    pub size: usize,
     pub bare: bool,
 }
 

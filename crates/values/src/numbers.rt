@@ -35,16 +35,18 @@ pub fn to_word(s: &[u8], format: Format) -> Option<Signed>
     }
 }
 
-// Whether v fits n bytes of a format.
+// Whether v fits n bytes of a format. Here and below two comparisons are made, since a `match` becomes a table of jumps.
 pub fn fits_word(v: Signed, format: Format, n: usize) -> bool
     requires { (format ≡ Format.Alpha → ⊥) × (allowed (format_at format) n ≡ true) }
     ensures { result ≡ is_done (normal (format_at format) n (signed_value v)) }
 {
-    match format {
-        Format::Binary => binaries::binary_fits_word(v, n),
-        Format::Fixed => fixed::fixed_fits(v, n),
-        _ => decimals::fits_word(v, format == Format::Packed, n),
+    if format == Format::Binary {
+        return binaries::binary_fits_word(v, n);
     }
+    if format == Format::Fixed {
+        return fixed::fixed_fits(v, n);
+    }
+    decimals::fits_word(v, format == Format::Packed, n)
 }
 
 // Writes v in n bytes of a format, which it fits.
@@ -52,9 +54,11 @@ pub fn write_word(v: Signed, format: Format, n: usize, out: &mut [u8], at: usize
     requires { (format ≡ Format.Alpha → ⊥) × (allowed (format_at format) n ≡ true) × (is_done (normal (format_at format) n (signed_value v)) ≡ true) × (at + n ≤ length out.old) }
     ensures { out.new ≡ splice at (bytes_of (normal (format_at format) n (signed_value v))) out.old }
 {
-    match format {
-        Format::Binary => binaries::write_binary_word(v, n, out, at),
-        Format::Fixed => fixed::write_fixed(v, n, out, at),
-        _ => decimals::write_word(v, format == Format::Packed, n, out, at),
+    if format == Format::Binary {
+        binaries::write_binary_word(v, n, out, at);
+    } else if format == Format::Fixed {
+        fixed::write_fixed(v, n, out, at);
+    } else {
+        decimals::write_word(v, format == Format::Packed, n, out, at);
     }
 }
