@@ -154,20 +154,20 @@ const UPDATES: [Update; 9] = [
     },
 ];
 
-// A call as it is shown and its answer, whose bytes stand in front of a slice.
+// A call as it is shown, in at most 32 bytes, and its answer, whose bytes stand in front of a slice: one line, written at once.
 fn show<W: Write>(to: &mut W, shown: &[u8], answer: Answer, written: &[u8]) -> io::Result<()>
     requires { (length written.now ≤ 32) × (answer_length answer ≤ length written.now) }
 {
-    to.write_all(shown)?;
     let used = lyrecanyon::length_used(answer);
-    // Two digits for each of 32 bytes, and 24 more.
-    let mut out = [0; 88];
+    // What is shown, two digits for each of 32 bytes, and 24 more.
+    let mut out = [0; 120];
+    let at = buffer::put(&shown[..shown.len().min(32)], &mut out, 0);
     let end = protocol::put_read_answer(
         lyrecanyon::number(answer),
         &written[..used],
         usize::from(lyrecanyon::length_needed(answer)),
         &mut out,
-        0,
+        at,
     );
     lines::write(to, &out, end)
 }
