@@ -72,7 +72,9 @@ pub extern "C" fn lyrecanyon_apply(
     ensures { Applied (Rules.update table.now (take used.old stored.old) format.now buffer.now (length stored.old)) stored.old stored.new used.old used.new result }
 {
     let answer = apply(table, stored, *used, format, buffer);
-    *used = answer.unwrap_or(*used);
+    if let Ok(n) = answer {
+        *used = n;
+    }
     lyrecanyon::number(answer)
 }
 

@@ -80,11 +80,16 @@ fn put_element(
 {
     let items = state?;
     let m = uses::use_of(t, last, e);
-    let u = m.meant?;
-    uses::remember(t, last, u, m.scopes.values);
-    match items {
-        Ok(p) => Ok(put_use(t, b, places, f, u, m.scopes, out, p, end, write)),
-        Err(_) => state,
+    // Written out, and not `m.meant?`, so that an edit can take a refused element for an item.
+    match m.meant {
+        Err(x) => Err(x),
+        Ok(u) => {
+            uses::remember(t, last, u, m.scopes.values);
+            match items {
+                Ok(p) => Ok(put_use(t, b, places, f, u, m.scopes, out, p, end, write)),
+                Err(_) => state,
+            }
+        }
     }
 }
 

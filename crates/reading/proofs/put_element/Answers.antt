@@ -10,44 +10,42 @@ use Rattle.uses.proofs.Remembering.{span_known}
 use Rattle.reading.proofs.Passing.{handed_on}
 use Rattle.reading.proofs.Putting.{at_fits, puts_as, puts_nothing, puts_refused, puts_after, puts_items}
 use Rattle.reading.proofs.put_element.Goals as goal
-use Rattle.reading.proofs.put_element.Goals.{In_ok-u, In-Ok}
+use Rattle.reading.proofs.put_element.Goals.{In-Ok, In-Ok-items}
 
-held : (c : In_ok-u) → GoodUse (entries_of c.args.t.now) c.args.f.now c.in_ok-u.u
-held c = subst (GoodMeaning (entries_of c.args.t.now) c.args.f.now) c.in_ok-u.was (c.use_of-m.ensures.held c.args.f.now c.requires.1)
+held : (c : In-Ok) → GoodUse (entries_of c.args.t.now) c.args.f.now c.in-Ok.u
+held c = subst (GoodMeaning (entries_of c.args.t.now) c.args.f.now) c.in-Ok.is (c.use_of-m.ensures.held c.args.f.now c.requires.1)
 
-scoped : (c : In_ok-u) → GoodScopes (entries_of c.args.t.now) c.in_ok-u.u c.use_of-m.result.scopes
+scoped : (c : In-Ok) → GoodScopes (entries_of c.args.t.now) c.in-Ok.u c.use_of-m.result.scopes
 scoped c =
-    subst (λ (x : Result Use Refusal). GoodScopesOf (entries_of c.args.t.now) x c.use_of-m.result.scopes) c.in_ok-u.was (c.use_of-m.ensures.scoped c.args.f.now c.requires.1)
+    subst (λ (x : Result Use Refusal). GoodScopesOf (entries_of c.args.t.now) x c.use_of-m.result.scopes) c.in-Ok.is (c.use_of-m.ensures.scoped c.args.f.now c.requires.1)
 
 pub returns-in_err-items : goal.returns-in_err-items
 returns-in_err-items c = puts_as c.in_err-items.was (handed_on c.from_residual.result c.from_residual.ensures.1) (puts_nothing _)
 
-pub returns-in_err-u : goal.returns-in_err-u
-returns-in_err-u c =
-    puts_as c.in_ok-items.was (handed_on c.from_residual-in_err-u.result c.from_residual-in_err-u.ensures.1)
-    (puts_refused c.requires.1 c.use_of-m.ensures _ _ c.in_err-u.was)
+pub returns-in-Err : goal.returns-in-Err
+returns-in-Err c = puts_as c.in_ok-items.was refl (puts_refused c.requires.1 c.use_of-m.ensures _ _ c.in-Err.is)
 
 pub remember-requires : goal.remember-requires
-remember-requires c = (c.requires.0, span_known (entries_of c.args.t.now) c.args.f.now c.in_ok-u.u (held (goal.at.remember-requires c).In_ok-u), c.requires.2)
+remember-requires c = (c.requires.0, span_known (entries_of c.args.t.now) c.args.f.now c.in-Ok.u (held (goal.at.remember-requires c).In-Ok), c.requires.2)
 
 -- The items so far end at a place.
-standing : (c : In-Ok) → c.args.state ≡ Ok (Ok c.in-Ok.p)
-standing c = c.in_ok-items.was ∙ ap Ok c.in-Ok.is
+standing : (c : In-Ok-items) → c.args.state ≡ Ok (Ok c.in-Ok-items.p)
+standing c = c.in_ok-items.was ∙ ap Ok c.in-Ok-items.is
 
 pub put_use-requires : goal.put_use-requires
 put_use-requires c = (
   c.requires.0,
-  held (goal.at.put_use-requires c).In_ok-u,
-  scoped (goal.at.put_use-requires c).In_ok-u,
+  held (goal.at.put_use-requires c).In-Ok,
+  scoped (goal.at.put_use-requires c).In-Ok,
   c.requires.3,
-  (at_fits (standing (goal.at.put_use-requires c).In-Ok) c.requires.4.0, c.requires.4.1),
+  (at_fits (standing (goal.at.put_use-requires c).In-Ok-items) c.requires.4.0, c.requires.4.1),
 )
 
-pub returns-in-Err : goal.returns-in-Err
-returns-in-Err c = let e = c.in_ok-items.was ∙ ap Ok c.in-Err.is in puts_as e e (puts_after c.requires.1 c.use_of-m.ensures c.in_ok-u.was c.remember.ensures _)
+pub returns-in-Err-items : goal.returns-in-Err-items
+returns-in-Err-items c = let e = c.in_ok-items.was ∙ ap Ok c.in-Err-items.is in puts_as e e (puts_after c.requires.1 c.use_of-m.ensures c.in-Ok.is c.remember.ensures _)
 
-pub returns-in-Ok : goal.returns-in-Ok
-returns-in-Ok c =
-    let e = standing (goal.at.returns-in-Ok c).In-Ok in
+pub returns-in-Ok-items : goal.returns-in-Ok-items
+returns-in-Ok-items c =
+    let e = standing (goal.at.returns-in-Ok-items c).In-Ok-items in
     puts_as e refl
-    (puts_items c.requires.1 c.use_of-m.ensures c.in_ok-u.was c.remember.ensures _ _ c.put_use.ensures c.requires.3 (at_fits e c.requires.4.0) c.requires.4.1)
+    (puts_items c.requires.1 c.use_of-m.ensures c.in-Ok.is c.remember.ensures _ _ c.put_use.ensures c.requires.3 (at_fits e c.requires.4.0) c.requires.4.1)
