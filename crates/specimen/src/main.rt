@@ -154,7 +154,8 @@ const UPDATES: [Update; 9] = [
     },
 ];
 
-// A call as it is shown, in at most 32 bytes, and its answer, whose bytes stand in front of a slice: one line, written at once.
+// A call as it is shown, in at most 32 bytes (more would be cut off), and its answer, whose bytes stand in front of a slice: one line,
+// written at once.
 fn show<W: Write>(to: &mut W, shown: &[u8], answer: Answer, written: &[u8]) -> io::Result<()>
     requires { (length written.now ≤ 32) × (answer_length answer ≤ length written.now) }
 {
